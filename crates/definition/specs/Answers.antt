@@ -1,0 +1,66 @@
+-- Document 01, "When a call says no" and "When an answer is an enum, a definition gives this paper's number and values for each
+-- enum case": what each value of the public enums says in the paper's terms. All other modules speak in these terms.
+use mathlib.Core.List.{List, [], _∷_}
+use Prim.Native.Nat.{ℕ}
+use Rattle.definition.specs.declared.Refusal.{Refusal}
+use Rattle.definition.specs.declared.Refusal.the-variants.{SideUnknown, GreysShort, PyramidShort, SheetShort, SheetUnsound, BlockUnknown, TextMalformed, OutputShort, InputLong}
+use Rattle.definition.specs.declared.LoadStatus.{LoadStatus}
+use Rattle.definition.specs.declared.LoadStatus.the-variants as Load
+use Rattle.definition.specs.declared.AdvanceStatus.{AdvanceStatus}
+use Rattle.definition.specs.declared.AdvanceStatus.the-variants as Advance
+use Rattle.definition.specs.declared.TallyAnswer.{TallyAnswer}
+use Rattle.definition.specs.declared.TallyAnswer.the-variants as Tally
+use Rattle.definition.specs.declared.LevelsStatus.{LevelsStatus}
+use Rattle.definition.specs.declared.LevelsStatus.the-variants as Levels
+use Rattle.definition.specs.declared.MapTextAnswer.{MapTextAnswer}
+use Rattle.definition.specs.declared.MapTextAnswer.the-variants as MapText
+use Rattle.definition.specs.declared.DrillListAnswer.{DrillListAnswer}
+use Rattle.definition.specs.declared.DrillListAnswer.the-variants as DrillList
+
+-- What a call says: the values that it returns; or "finished", or "more"; or the number of a refusal.
+pub data Said : Type 0 where
+  returned : List ℕ → Said
+  finished : Said
+  more : Said
+  refused : ℕ → Said
+
+-- the column "Returned" of the table
+unfoldable pub numberOf : Refusal → ℕ
+numberOf SideUnknown = 1
+numberOf GreysShort = 2
+numberOf PyramidShort = 3
+numberOf SheetShort = 4
+numberOf SheetUnsound = 5
+numberOf BlockUnknown = 6
+numberOf TextMalformed = 7
+numberOf OutputShort = 8
+numberOf InputLong = 9
+
+-- Load returns its record and, beside it, nothing or a number
+unfoldable pub loadSays : LoadStatus → Said
+loadSays Load.Loaded = returned []
+loadSays (Load.Refused why) = refused (numberOf why)
+
+-- "the number in place of finished or more"
+unfoldable pub advanceSays : AdvanceStatus → Said
+advanceSays Advance.Finished = finished
+advanceSays Advance.More = more
+advanceSays (Advance.Refused why) = refused (numberOf why)
+
+-- "The other calls return the number alone."
+unfoldable pub tallySays : TallyAnswer → Said
+tallySays (Tally.Dots n) = returned (n ∷ [])
+tallySays (Tally.Refused why) = refused (numberOf why)
+
+-- Levels returns its nine sums beside this
+unfoldable pub levelsSays : LevelsStatus → Said
+levelsSays Levels.Summed = returned []
+levelsSays (Levels.Refused why) = refused (numberOf why)
+
+unfoldable pub mapTextSays : MapTextAnswer → Said
+mapTextSays (MapText.Side n) = returned (n ∷ [])
+mapTextSays (MapText.Refused why) = refused (numberOf why)
+
+unfoldable pub drillListSays : DrillListAnswer → Said
+drillListSays (DrillList.Length n) = returned (n ∷ [])
+drillListSays (DrillList.Refused why) = refused (numberOf why)

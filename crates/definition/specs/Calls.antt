@@ -1,0 +1,102 @@
+-- Document 01, "For a list of Advance calls" and "Demand 3 starts from an accepted Load": calls on the same buffers, one after the
+-- other, and the model fed with them. "a record of another side on the same buffers, or a write to them from outside between two calls, is
+-- outside the demand".
+use mathlib.Core.Bool.{Bool, true, false}
+use mathlib.Core.List.{List, [], _∷_, _++_, map}
+use Prim.Native.Nat.{ℕ, zero, suc, _+_, _-_, _^_}
+use lib.ListN.{take, drop}
+use lib.IntN.{ℤ}
+use Rattle.definition.specs.Answers.{Said, returned, finished, more, refused}
+use Rattle.definition.specs.Diffusion.{Kernel}
+use Rattle.definition.specs.Model.{Halftone, topOf, steps}
+use Rattle.definition.specs.Refusals.{pyramidShort, sheetShort, lowest}
+use Rattle.definition.specs.Load.{loadOf}
+use Rattle.definition.specs.Advance.{Reply, AdvanceOutcome, saidAt, advanceOf}
+use Rattle.definition.specs.declared.Progress.{Progress}
+
+-- An Advance call: "their budgets and the lengths of the buffers lent", from the first place on (the whole buffer, if it is shorter).
+pub record Call : Type 0 where
+  pub budget : ℕ
+  pub pyramidLent : ℕ
+  pub serialsLent : ℕ
+  pub orderLent : ℕ
+
+-- What the caller holds between two calls: the record last returned, and the buffers, whole.
+pub record Held : Type 0 where
+  pub progress : Progress
+  pub pyramid : List ℤ
+  pub serials : List ℕ
+  pub order : List ℕ
+
+-- after Load
+unfoldable pub heldAfterLoad : ℕ → List ℕ → List ℤ → List ℕ → List ℕ → Held
+heldAfterLoad side greys pyramid serials order =
+    let out = loadOf side greys pyramid serials order in
+    record { progress = out .progress; pyramid = out .pyramid; serials = out .serials; order = out .order }
+
+-- "Each Advance is lent the same buffers from their first place on, whole or a shorter part, and given the record that the call before it
+-- returned": what was lent comes back in front of what wasn't
+unfoldable pub callOf : Kernel → Held → Call → AdvanceOutcome
+callOf kernel held call =
+    let out = advanceOf kernel (held .progress) (call .budget)
+    (take (call .pyramidLent) (held .pyramid)) (take (call .serialsLent) (held .serials)) (take (call .orderLent) (held .order)) in
+    record {
+      reply = out .reply;
+      pyramid = out .pyramid ++ drop (call .pyramidLent) (held .pyramid);
+      serials = out .serials ++ drop (call .serialsLent) (held .serials);
+      order = out .order ++ drop (call .orderLent) (held .order);
+    }
+
+unfoldable pub heldAfter : AdvanceOutcome → Held
+heldAfter out = record { progress = out .reply .progress; pyramid = out .pyramid; serials = out .serials; order = out .order }
+
+-- a list of calls: the outcome of each, what the caller holds after all of them, and what they answered
+unfoldable pub outcomesOf : Kernel → Held → List Call → List AdvanceOutcome
+outcomesOf kernel held [] = []
+outcomesOf kernel held (call ∷ calls) = let out = callOf kernel held call in out ∷ outcomesOf kernel (heldAfter out) calls
+
+unfoldable pub heldAfterCalls : Kernel → Held → List Call → Held
+heldAfterCalls kernel held [] = held
+heldAfterCalls kernel held (call ∷ calls) = heldAfterCalls kernel (heldAfter (callOf kernel held call)) calls
+
+unfoldable pub repliesOf : Kernel → Held → List Call → List Reply
+repliesOf kernel held calls = map (λ out. out .reply) (outcomesOf kernel held calls)
+
+-- The model: "A call with a buffer lent too short makes no step and answers 0 holes made and the number, 3 or 4, that the table below gives."
+unfoldable pub modelRefusal : ℕ → Call → ℕ
+modelRefusal r call = lowest (pyramidShort r (call .pyramidLent) ∷ sheetShort r (call .serialsLent) ∷ sheetShort r (call .orderLent) ∷ [])
+
+-- "Every other call makes as many steps as its budget"
+unfoldable pub modelCall : Kernel → ℕ → Halftone → Call → Halftone
+modelCall kernel r s call = elim (modelRefusal r call) [ zero ↦ steps kernel r (call .budget) s | suc n ↦ s ]
+
+-- "and answers how far h rose, and finished if the top is then below 32,640, else more". The record is (N, h).
+unfoldable pub modelReply : Kernel → ℕ → Halftone → Call → Reply
+modelReply kernel r s call =
+    let after = modelCall kernel r s call in
+    record {
+      progress = record { side = 2 ^ r; dots = after .dots };
+      made = after .dots - s .dots;
+      said = elim (modelRefusal r call) [ zero ↦ saidAt (topOf (after .pyramid)) | suc n ↦ refused (suc n) ];
+    }
+
+unfoldable pub modelAfterCalls : Kernel → ℕ → Halftone → List Call → Halftone
+modelAfterCalls kernel r s [] = s
+modelAfterCalls kernel r s (call ∷ calls) = modelAfterCalls kernel r (modelCall kernel r s call) calls
+
+unfoldable pub modelReplies : Kernel → ℕ → Halftone → List Call → List Reply
+modelReplies kernel r s [] = []
+modelReplies kernel r s (call ∷ calls) = modelReply kernel r s call ∷ modelReplies kernel r (modelCall kernel r s call) calls
+
+-- whether a call was refused, by what it said
+unfoldable pub isRefusal : Said → Bool
+isRefusal (returned values) = false
+isRefusal finished = false
+isRefusal more = false
+isRefusal (refused n) = true
+
+-- the sum of the budgets of the calls not refused
+unfoldable pub granted : List Call → List Reply → ℕ
+granted [] replies = 0
+granted (call ∷ calls) [] = 0
+granted (call ∷ calls) (reply ∷ replies) = elim (isRefusal (reply .said)) [ true ↦ 0 | false ↦ call .budget ] + granted calls replies

@@ -1,0 +1,30 @@
+-- Document 01, "The program plate": what it prints for an input.
+use mathlib.Core.Bool.{true, false}
+use mathlib.Core.List.{List, [], _∷_, _++_}
+use Prim.Native.Nat.{ℕ}
+use lib.Dec.{ltb}
+use lib.ListN.{length}
+use Rattle.definition.specs.Diffusion.{Kernel, plain}
+use Rattle.definition.specs.Model.{Halftone, topOf, modelStart, steps}
+use Rattle.definition.specs.Refusals.{powerOf}
+use Rattle.definition.specs.Advance.{dotsDue}
+use Rattle.definition.specs.Text.{line}
+use Rattle.definition.specs.MapText.{accepted, rejected, readMap}
+use Rattle.definition.specs.DrillList.{drillText}
+
+-- "or the line refused,n with n the refusal"
+unfoldable pub refusedText : ℕ → List ℕ
+refusedText n = 114 ∷ 101 ∷ 102 ∷ 117 ∷ 115 ∷ 101 ∷ 100 ∷ 44 ∷ line (n ∷ [])
+
+-- "runs to finished": all holes that are due
+unfoldable pub finishedOf : Kernel → ℕ → List ℕ → Halftone
+finishedOf kernel r greys = let fresh = modelStart r greys in steps kernel r (dotsDue (topOf (fresh .pyramid))) fresh
+
+-- "input longer than 4,099 bytes: program only, before all else". "reads a map text on standard input, runs to finished and prints the
+-- drill list"; "The program's greys buffer has 1,024 places".
+unfoldable pub plateOf : List ℕ → List ℕ
+plateOf input =
+    elim (ltb 4099 (length input)) [
+      | true ↦ refusedText 9
+      | false ↦ elim (readMap input 1024) [ accepted side greys ↦ let r = powerOf side in drillText r (finishedOf plain r greys) | rejected n ↦ refusedText n ]
+    ]

@@ -1,0 +1,188 @@
+-- Document 01, "Plates to check by hand": P1 to P12 as one table, and further plates, whose figures the reference wrote, as another.
+-- One proof computes all of it on the definitions. Rows that make holes ask the calls and the model.
+use mathlib.Core.Path.{_≡_, refl}
+use mathlib.Core.Bool.{Bool, true, false, cond, _&&_}
+use mathlib.Core.List.{List, [], _∷_, _++_, map}
+use Prim.Native.Nat.{ℕ, zero, suc, _+_, _*_, _/_, _^_}
+use lib.Dec.{eqb}
+use lib.ListN.{getD, set, replicate}
+use lib.IntN.{ℤ, pos, negsuc, negℤ, _+ℤ_}
+use Rattle.definition.specs.Lists.{sumTo, sumZTo, allTo, tabulateFrom, repeated, eqZ}
+use Rattle.definition.specs.Answers.{Said, returned, finished, more, refused}
+use Rattle.definition.specs.Pyramid.{start, needed, cellCount, placeIn, rowAt, columnAt, levelOf, inLevel, entry, four, coarser, pyramidOver}
+use Rattle.definition.specs.Blocks.{blockSum, blockSumZ, greyAt, burnt, burntAt, greySum, greyTotal, dotsIn, allDots}
+use Rattle.definition.specs.Descent.{candidate, firstOfEquals, better, largest, descend}
+use Rattle.definition.specs.Diffusion.{plain, within, onMap, weightAt, share, diffuse}
+use Rattle.definition.specs.Model.{Halftone, topOf, modelStart, missing, placeDot, step, steps}
+use Rattle.definition.specs.Sound.{burntNear, everyEntry, fewDots, numbered, counted, unused, summed, bounded, owing, isSound}
+use Rattle.definition.specs.Refusals.{Row, powerUpTo, powerOf, lowest}
+use Rattle.definition.specs.Load.{loadRefusal, loaded, loadOf}
+use Rattle.definition.specs.Advance.{Reply, dotsDue, saidAt, sheetIn, advanceRefusal, advanced, advanceOf}
+use Rattle.definition.specs.Survey.{tallyRefusal, tallyOf, errorAt, squared, levelSum, levelsRefusal, levelsOf}
+use Rattle.definition.specs.Text.{digitsUpTo, decimal, line, lineEnds, isDigit, digitsThen, fieldOf}
+use Rattle.definition.specs.MapText.{rowsText, mapText, valuesOf, readGreys, mapTextRefusal, readMap, mapTextOf}
+use Rattle.definition.specs.DrillList.{DrillListOutcome, dotLines, drillText, drillListRefusal, drillListOf}
+use Rattle.definition.specs.Plate.{refusedText, finishedOf, plateOf}
+use Rattle.definition.specs.Calls.{Call, Held, heldAfterLoad, callOf, heldAfter, outcomesOf, heldAfterCalls, repliesOf, modelRefusal, modelCall, modelReply, modelAfterCalls, modelReplies}
+use Rattle.definition.specs.Expected.{greys4, order4, serials4, pyramid4, levels4, greys8, order8, serials8, pyramid8, levels8}
+
+-- ---- equal lists; what was said, as a list
+unfoldable pub same : List ℕ → List ℕ → Bool
+same [] [] = true
+same [] (y ∷ ys) = false
+same (x ∷ xs) [] = false
+same (x ∷ xs) (y ∷ ys) = eqb x y && same xs ys
+
+unfoldable pub sameZ : List ℤ → List ℤ → Bool
+sameZ [] [] = true
+sameZ [] (y ∷ ys) = false
+sameZ (x ∷ xs) [] = false
+sameZ (x ∷ xs) (y ∷ ys) = eqZ x y && sameZ xs ys
+
+unfoldable pub saidAs : Said → List ℕ
+saidAs (returned values) = 0 ∷ values
+saidAs finished = 1 ∷ []
+saidAs more = 2 ∷ []
+saidAs (refused n) = 3 ∷ n ∷ []
+
+-- the number of a refusal
+unfoldable pub refuses : Said → ℕ → Bool
+refuses said n = same (saidAs said) (3 ∷ n ∷ [])
+
+abbrev pub minus : ℕ → ℤ
+minus n = negℤ (pos n)
+
+-- ---- a run: a map loaded into buffers one place longer than needed, with 9s in them, then calls with these budgets, all lent whole
+unfoldable pub loadedMap : ℕ → List ℕ → Held
+loadedMap r greys = heldAfterLoad (2 ^ r) greys (replicate (suc (needed r)) (pos 9)) (replicate (suc (cellCount r)) 9) (replicate (suc (cellCount r)) 9)
+
+unfoldable pub callsOf : ℕ → List ℕ → List Call
+callsOf r budgets = map (λ budget. record { budget = budget; pyramidLent = suc (needed r); serialsLent = suc (cellCount r); orderLent = suc (cellCount r) }) budgets
+
+unfoldable pub after : ℕ → List ℕ → List ℕ → Held
+after r greys budgets = heldAfterCalls plain (loadedMap r greys) (callsOf r budgets)
+
+unfoldable pub modelAfter : ℕ → List ℕ → List ℕ → Halftone
+modelAfter r greys budgets = modelAfterCalls plain r (modelStart r greys) (callsOf r budgets)
+
+-- the calls make and say this, each in turn, and so does the model
+unfoldable pub replied : List (ℕ × Said) → List Reply → Bool
+replied [] [] = true
+replied [] (reply ∷ replies) = false
+replied (e ∷ es) [] = false
+replied (e ∷ es) (reply ∷ replies) = eqb (e .0) (reply .made) && same (saidAs (e .1)) (saidAs (reply .said)) && replied es replies
+
+unfoldable pub answers : ℕ → List ℕ → List ℕ → List (ℕ × Said) → Bool
+answers r greys budgets expected =
+    replied expected (repliesOf plain (loadedMap r greys) (callsOf r budgets))
+    && replied expected (modelReplies plain r (modelStart r greys) (callsOf r budgets))
+
+-- they leave this pyramid, these serials, this order, with the 9s behind them, and so does the model
+unfoldable pub leaves : ℕ → List ℕ → List ℕ → List ℤ → List ℕ → List ℕ → Bool
+leaves r greys budgets pyramid serials order =
+    let held = after r greys budgets in
+    let model = modelAfter r greys budgets in
+    sameZ (held .pyramid) (pyramid ++ pos 9 ∷ []) && sameZ (model .pyramid) pyramid
+    && same (held .serials) (serials ++ 9 ∷ []) && same (model .serials) serials
+    && same (held .order) (order ++ 9 ∷ []) && same (model .order) order
+
+-- the shares of d around a cell, in their order, without the places of weight 0
+unfoldable pub sharesFrom : ℕ → ℕ → ℕ → ℕ → ℕ → ℕ → List ℕ
+sharesFrom r row column d n zero = []
+sharesFrom r row column d n (suc left) =
+    let rest = sharesFrom r row column d (suc n) left in
+    cond (eqb (weightAt plain r row column n) 0) rest (share 9 (weightAt plain r row column) d n ∷ rest)
+
+unfoldable pub shares : ℕ → ℕ → ℕ → ℕ → List ℕ
+shares r row column d = sharesFrom r row column d 0 9
+
+-- a map of side 2 with the sum of greys G comes to n holes, and so does the price list's floor((2G + 255) / 510)
+unfoldable pub total : List ℕ → ℕ → ℕ → Bool
+total greys G n = eqb (greyTotal 1 greys) G && answers 1 greys (9 ∷ []) ((n, finished) ∷ []) && eqb ((2 * G + 255) / 510) n
+
+-- ---- the maps of the plates, side 2
+unfoldable pub p1 : List ℕ
+p1 = 0 ∷ 0 ∷ 0 ∷ 0 ∷ []
+
+unfoldable pub p2 : List ℕ
+p2 = 255 ∷ 255 ∷ 255 ∷ 255 ∷ []
+
+unfoldable pub p3 : List ℕ
+p3 = 128 ∷ 128 ∷ 128 ∷ 128 ∷ []
+
+unfoldable pub p6 : List ℕ
+p6 = 128 ∷ 0 ∷ 0 ∷ 0 ∷ []
+
+unfoldable pub plates : List Row
+plates =
+    -- P1: side 2, greys 0: no hole, finished
+    (1, answers 1 p1 (9 ∷ []) ((0, finished) ∷ []))
+    -- P2: side 2, greys 255: (0,0), (0,1), (1,0), (1,1), all debts 0
+    ∷ (2, answers 1 p2 (9 ∷ []) ((4, finished) ∷ []))
+    ∷ (2, leaves 1 p2 (9 ∷ []) (pos 0 ∷ pos 0 ∷ pos 0 ∷ pos 0 ∷ pos 0 ∷ []) (1 ∷ 2 ∷ 3 ∷ 4 ∷ []) (0 ∷ 1 ∷ 2 ∷ 3 ∷ []))
+    -- P3: side 2, greys 128: debts after one hole 0, 19,764, 19,763, 26,265; after the second −7,803, 4,158, 4,157, 0, top 512, finished
+    ∷ (3, leaves 1 p3 (1 ∷ []) (pos 65792 ∷ pos 0 ∷ pos 19764 ∷ pos 19763 ∷ pos 26265 ∷ []) (1 ∷ 0 ∷ 0 ∷ 0 ∷ []) (0 ∷ 0 ∷ 0 ∷ 0 ∷ []))
+    ∷ (3, leaves 1 p3 (9 ∷ []) (pos 512 ∷ minus 7803 ∷ pos 4158 ∷ pos 4157 ∷ pos 0 ∷ []) (1 ∷ 0 ∷ 0 ∷ 2 ∷ []) (0 ∷ 3 ∷ 0 ∷ 0 ∷ []))
+    ∷ (3, answers 1 p3 (9 ∷ []) ((2, finished) ∷ []))
+    -- P4: P3 with budget 0, 1, 1 makes 0, 1, 1, saying more, more, finished
+    ∷ (4, answers 1 p3 (0 ∷ 1 ∷ 1 ∷ []) ((0, more) ∷ (1, more) ∷ (1, finished) ∷ []))
+    -- P5: side 2, greys 127, 0, 0, 0: no hole
+    ∷ (5, answers 1 (127 ∷ 0 ∷ 0 ∷ 0 ∷ []) (9 ∷ []) ((0, finished) ∷ []))
+    -- P6: 128, 0, 0, 0: one hole; debts 0, −13,004, −13,005, −6,503
+    ∷ (6, answers 1 p6 (9 ∷ []) ((1, finished) ∷ []))
+    ∷ (6, leaves 1 p6 (9 ∷ []) (minus 32512 ∷ pos 0 ∷ minus 13004 ∷ minus 13005 ∷ minus 6503 ∷ []) (1 ∷ 0 ∷ 0 ∷ 0 ∷ []) (0 ∷ 0 ∷ 0 ∷ 0 ∷ []))
+    -- P7: shares of 13 inside: 1, 2, 1, 2, 2, 1, 2, 2
+    ∷ (7, same (shares 2 1 1 13) (1 ∷ 2 ∷ 1 ∷ 2 ∷ 2 ∷ 1 ∷ 2 ∷ 2 ∷ []))
+    -- P8: shares of 7 on the top side: 1, 2, 1, 2, 1
+    ∷ (8, same (shares 2 0 1 7) (1 ∷ 2 ∷ 1 ∷ 2 ∷ 1 ∷ []))
+    -- P9: shares of 4 in the top left corner: 1, 2, 1
+    ∷ (9, same (shares 2 0 0 4) (1 ∷ 2 ∷ 1 ∷ []))
+    -- P10: G = 382 gives 1 hole, 383 gives 2
+    ∷ (10, total (255 ∷ 127 ∷ 0 ∷ 0 ∷ []) 382 1 && total (255 ∷ 128 ∷ 0 ∷ 0 ∷ []) 383 2)
+    -- P11: Levels of P3 finished: 4, 65,026
+    ∷ (11, same (levelsOf 2 p3 (after 1 p3 (9 ∷ []) .serials) .sums) (4 ∷ 65026 ∷ 0 ∷ 0 ∷ 0 ∷ 0 ∷ 0 ∷ 0 ∷ 0 ∷ []))
+    -- P12: P3's fresh sheet with 1 added to the top: 5
+    ∷ (12, refuses (advanceOf plain (record { side = 2; dots = 0 }) 9 (set (loadedMap 1 p3 .pyramid) 0 (pos 131073)) (loadedMap 1 p3 .serials) (loadedMap 1 p3 .order) .reply .said) 5)
+    ∷ []
+
+-- "2", "128,128", "128,128", and "2,2", "1,0,0", "2,1,1", each line with its end
+unfoldable pub textP3 : List ℕ
+textP3 = 50 ∷ 10 ∷ 49 ∷ 50 ∷ 56 ∷ 44 ∷ 49 ∷ 50 ∷ 56 ∷ 10 ∷ 49 ∷ 50 ∷ 56 ∷ 44 ∷ 49 ∷ 50 ∷ 56 ∷ 10 ∷ []
+
+unfoldable pub listP3 : List ℕ
+listP3 = 50 ∷ 44 ∷ 50 ∷ 10 ∷ 49 ∷ 44 ∷ 48 ∷ 44 ∷ 48 ∷ 10 ∷ 50 ∷ 44 ∷ 49 ∷ 44 ∷ 49 ∷ 10 ∷ []
+
+-- Drill List of P3 finished, into a buffer of n places with 7s in them
+unfoldable pub listed : ℕ → DrillListOutcome
+listed n = let held = after 1 p3 (9 ∷ []) in drillListOf (held .progress) (held .pyramid) (held .serials) (held .order) (replicate n 7)
+
+unfoldable pub furtherPlates : List Row
+furtherPlates =
+    -- the map of side 4 run to its end in one call, and in several; its Levels; the same of side 8
+    (13, leaves 2 greys4 (99 ∷ []) pyramid4 serials4 order4 && leaves 2 greys4 (1 ∷ 0 ∷ 3 ∷ 99 ∷ []) pyramid4 serials4 order4)
+    ∷ (14, same (levelsOf 4 greys4 serials4 .sums) levels4)
+    ∷ (15, leaves 3 greys8 (99 ∷ []) pyramid8 serials8 order8)
+    ∷ (16, same (levelsOf 8 greys8 serials8 .sums) levels8)
+    -- the program's example, whose input is the one text of its map; Drill List leaves the byte past its list
+    ∷ (17, same (plateOf textP3) listP3 && same (mapText 2 p3) textP3)
+    ∷ (18, same (saidAs (listed 17 .said)) (0 ∷ 16 ∷ []) && same (listed 17 .output) (listP3 ++ 7 ∷ []))
+    -- refusals, the lowest number first: Load, Tally (a hole counted before), Levels, Drill List, Map Text, the program
+    ∷ (19, refuses (loadOf 3 [] [] [] [] .said) 1 && refuses (loadOf 2 (0 ∷ []) [] [] [] .said) 2 && refuses (loadOf 2 p1 [] [] [] .said) 3)
+    ∷ (20, refuses (loadOf 2 p1 (replicate 5 (pos 0)) p1 [] .said) 4 && refuses (loadOf 512 p1 [] [] [] .said) 1)
+    ∷ (21, same (saidAs (tallyOf 2 (0 ∷ 7 ∷ 0 ∷ 0 ∷ []) 1 0 1)) (0 ∷ 1 ∷ []) && same (saidAs (tallyOf 2 (0 ∷ 7 ∷ 0 ∷ 0 ∷ []) 1 1 0)) (0 ∷ 0 ∷ []))
+    ∷ (22, refuses (tallyOf 0 [] 0 0 0) 1 && refuses (tallyOf 2 (0 ∷ []) 2 0 0) 4 && refuses (tallyOf 2 p1 2 0 0) 6 && refuses (tallyOf 2 p1 0 0 1) 6)
+    ∷ (23, refuses (levelsOf 2 (0 ∷ []) [] .said) 2 && refuses (levelsOf 2 p1 [] .said) 4 && refuses (listed 15 .said) 8)
+    ∷ (24, refuses (mapTextOf (48 ∷ 50 ∷ 10 ∷ []) [] .said) 7 && refuses (mapTextOf (51 ∷ 10 ∷ []) [] .said) 1 && refuses (mapTextOf textP3 (0 ∷ 0 ∷ 0 ∷ []) .said) 2)
+    ∷ (25, refuses (mapTextOf (textP3 ++ 10 ∷ []) p1 .said) 7 && same (mapTextOf textP3 (replicate 5 6) .greys) (p3 ++ 6 ∷ []))
+    -- "64 alone on its line gives 2"
+    ∷ (26, same (plateOf (54 ∷ 52 ∷ 10 ∷ [])) (refusedText 2) && same (plateOf (replicate 4100 48)) (refusedText 9))
+    ∷ []
+
+-- the number of the first row that doesn't hold; 0 if they all do
+unfoldable pub firstFailing : List Row → ℕ
+firstFailing [] = 0
+firstFailing (row ∷ rows) = elim (row .1) [ true ↦ firstFailing rows | false ↦ row .0 ]
+
+pub plates-hold : firstFailing (plates ++ furtherPlates) ≡ 0
+unfolding sumTo sumZTo allTo tabulateFrom repeated eqZ start placeIn rowAt columnAt levelOf inLevel entry four coarser pyramidOver blockSum blockSumZ greyAt burnt burntAt greySum greyTotal dotsIn allDots candidate firstOfEquals better largest descend plain within onMap weightAt share diffuse topOf modelStart missing placeDot step steps burntNear everyEntry fewDots numbered counted unused summed bounded owing isSound powerUpTo powerOf lowest loadRefusal loaded loadOf dotsDue saidAt sheetIn advanceRefusal advanced advanceOf tallyRefusal tallyOf errorAt squared levelSum levelsRefusal levelsOf digitsUpTo decimal line lineEnds isDigit digitsThen fieldOf rowsText mapText valuesOf readGreys mapTextRefusal readMap mapTextOf dotLines drillText drillListRefusal drillListOf refusedText finishedOf plateOf heldAfterLoad callOf heldAfter outcomesOf heldAfterCalls repliesOf modelRefusal modelCall modelReply modelAfterCalls modelReplies greys4 order4 serials4 pyramid4 levels4 greys8 order8 serials8 pyramid8 levels8 same sameZ saidAs refuses loadedMap callsOf after modelAfter replied answers leaves sharesFrom shares total p1 p2 p3 p6 textP3 listP3 listed plates furtherPlates firstFailing
+plates-hold = refl

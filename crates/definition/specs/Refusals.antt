@@ -1,0 +1,51 @@
+-- Document 01, "When a call says no": the table's rows. Each call lists its own, with the lengths that it is lent.
+use mathlib.Core.Bool.{Bool, cond, not, _||_}
+use mathlib.Core.List.{List, [], _∷_}
+use Prim.Native.Nat.{ℕ, zero, suc, _^_}
+use lib.Dec.{ltb, leb, eqb}
+use Rattle.definition.specs.Pyramid.{needed, cellCount}
+
+-- "N, its side, is one of 2, 4, 8, 16, 32, 64, 128, 256, and r is the power: N = 2^r": r, sought from k down; 0 if there is none
+unfoldable pub powerUpTo : ℕ → ℕ → ℕ
+powerUpTo zero side = 0
+powerUpTo (suc k) side = cond (eqb side (2 ^ suc k)) (suc k) (powerUpTo k side)
+
+unfoldable pub powerOf : ℕ → ℕ
+powerOf side = powerUpTo 8 side
+
+-- a row: "Returned", and whether "Condition" holds
+abbrev pub Row : Type 0
+Row = ℕ × Bool
+
+-- "side isn't one of the eight"; r is the side's power
+abbrev pub sideUnknown : ℕ → Row
+sideUnknown r = (1, eqb r 0)
+
+-- "greys buffer shorter than N²"
+abbrev pub greysShort : ℕ → ℕ → Row
+greysShort r lent = (2, ltb lent (cellCount r))
+
+-- "pyramid shorter than needed"
+abbrev pub pyramidShort : ℕ → ℕ → Row
+pyramidShort r lent = (3, ltb lent (needed r))
+
+-- "serial sheet, or order list where lent, shorter than N²": a row for each that is lent
+abbrev pub sheetShort : ℕ → ℕ → Row
+sheetShort r lent = (4, ltb lent (cellCount r))
+
+-- "sheet not sound"
+abbrev pub sheetUnsound : Bool → Row
+sheetUnsound sound = (5, not sound)
+
+-- "k above r, or a or b not below 2^k"
+abbrev pub blockUnknown : ℕ → ℕ → ℕ → ℕ → Row
+blockUnknown r k a b = (6, ltb r k || leb (2 ^ k) a || leb (2 ^ k) b)
+
+-- "output shorter than the list"
+abbrev pub outputShort : ℕ → ℕ → Row
+outputShort list lent = (8, ltb lent list)
+
+-- "The lowest number that applies is returned": the first that does, of rows by rising number; 0 if none does
+unfoldable pub lowest : List Row → ℕ
+lowest [] = 0
+lowest (row ∷ rows) = cond (row .1) (row .0) (lowest rows)

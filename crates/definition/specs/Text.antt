@@ -1,0 +1,56 @@
+-- Document 01's texts: numbers and lines, written and read. A text is a list of bytes.
+use mathlib.Core.Bool.{Bool, true, false, not, _&&_}
+use mathlib.Core.List.{List, [], _∷_, _++_}
+use Prim.Native.Nat.{ℕ, zero, suc, _+_, _*_, _-_, _/_, _%_}
+use lib.Dec.{leb, ltb, eqb}
+use lib.ListN.{replicate}
+
+abbrev pub comma : ℕ
+comma = 44
+
+-- "Each line ends in byte 10."
+abbrev pub newline : ℕ
+newline = 10
+
+-- "Numbers are decimal digits without a leading zero, 0 itself being 0": at most `most` digits of n
+unfoldable pub digitsUpTo : ℕ → ℕ → List ℕ
+digitsUpTo zero n = []
+digitsUpTo (suc most) n = elim (ltb n 10) [ true ↦ (48 + n) ∷ [] | false ↦ digitsUpTo most (n / 10) ++ (48 + n % 10) ∷ [] ]
+
+-- all of them: n + 1 are enough
+unfoldable pub decimal : ℕ → List ℕ
+decimal n = digitsUpTo (suc n) n
+
+-- numbers "parted by commas", ended by byte 10
+unfoldable pub line : List ℕ → List ℕ
+line [] = newline ∷ []
+line (v ∷ []) = decimal v ++ newline ∷ []
+line (v ∷ w ∷ rest) = decimal v ++ comma ∷ line (w ∷ rest)
+
+-- the bytes behind the numbers of such a line of n
+unfoldable pub lineEnds : ℕ → List ℕ
+lineEnds n = replicate (n - 1) comma ++ newline ∷ []
+
+-- What a text begins with: a number and its end, and what is left behind them; or neither.
+pub data Field : Type 0 where
+  field : ℕ → List ℕ → Field
+  malformed : Field
+
+unfoldable pub isDigit : ℕ → Bool
+isDigit b = leb 48 b && leb b 57
+
+-- digits with the value v have been read: further ones, then the byte `end`. "No space, no quoting": no other byte. A leading zero takes
+-- no digit more; a number above `most` is none.
+unfoldable pub digitsThen : ℕ → ℕ → ℕ → List ℕ → Field
+digitsThen most end v [] = malformed
+digitsThen most end v (b ∷ rest) =
+    let next = 10 * v + (b - 48) in
+    elim (eqb b end) [
+      | true ↦ field v rest
+      | false ↦ elim (isDigit b && not (eqb v 0) && leb next most) [ true ↦ digitsThen most end next rest | false ↦ malformed ]
+    ]
+
+-- a number of at most `most`, then the byte `end`
+unfoldable pub fieldOf : ℕ → ℕ → List ℕ → Field
+fieldOf most end [] = malformed
+fieldOf most end (b ∷ rest) = elim (isDigit b) [ true ↦ digitsThen most end (b - 48) rest | false ↦ malformed ]

@@ -1,0 +1,76 @@
+// The values that the public calls are given and answer. What they mean is in specs/: Answers.antt gives document 01's
+// number and values for each case of each enum.
+
+// Document 01's record: the side of the map, and the holes made so far.
+pub struct Progress {
+    pub side: u32,
+    pub dots: u32,
+}
+
+// Why a call says no: document 01's table, row by row.
+pub enum Refusal {
+    SideUnknown,
+    GreysShort,
+    PyramidShort,
+    SheetShort,
+    SheetUnsound,
+    BlockUnknown,
+    TextMalformed,
+    OutputShort,
+    InputLong,
+}
+
+// Whether Load filled the buffers.
+pub enum LoadStatus {
+    Loaded,
+    Refused(Refusal),
+}
+
+pub struct LoadAnswer {
+    pub progress: Progress,
+    pub status: LoadStatus,
+}
+
+// What Advance says in the end.
+pub enum AdvanceStatus {
+    Finished,
+    More,
+    Refused(Refusal),
+}
+
+// The new record, the holes made in this call, and what it says.
+pub struct AdvanceAnswer {
+    pub progress: Progress,
+    pub made: u32,
+    pub status: AdvanceStatus,
+}
+
+// Tally: the holes of the square.
+pub enum TallyAnswer {
+    Dots(u32),
+    Refused(Refusal),
+}
+
+// Whether Levels summed.
+pub enum LevelsStatus {
+    Summed,
+    Refused(Refusal),
+}
+
+// Levels: nine sums, all 0 where it refuses. (An enum holds no array, so the array stands beside it.)
+pub struct LevelsAnswer {
+    pub sums: [u64; 9],
+    pub status: LevelsStatus,
+}
+
+// Map Text: the side that was read.
+pub enum MapTextAnswer {
+    Side(u32),
+    Refused(Refusal),
+}
+
+// Drill List: the length of the list.
+pub enum DrillListAnswer {
+    Length(usize),
+    Refused(Refusal),
+}

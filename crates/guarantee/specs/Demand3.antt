@@ -1,0 +1,75 @@
+-- Document 01's demand 3: "a single claim about the list of calls, and not one for each call". The statement, with the price list's own
+-- figures; its proof comes with the laws.
+use mathlib.Core.Path.{_≡_}
+use mathlib.Core.Logic.{_≢_, _↔_}
+use mathlib.Core.Bool.{false}
+use mathlib.Core.List.{List, [], _∷_}
+use Prim.Native.Nat.{ℕ, _+_, _*_, _/_, _^_, _≤_, _<_, min}
+use lib.ListN.{getD, take, drop}
+use lib.IntN.{ℤ, pos, _+ℤ_}
+use Rattle.definition.specs.Answers.{returned, finished}
+use Rattle.definition.specs.Pyramid.{oneDot, needed, cellCount}
+use Rattle.definition.specs.Blocks.{blockSide, greySum, greyTotal, dotsIn, allDots}
+use Rattle.definition.specs.Diffusion.{Kernel}
+use Rattle.definition.specs.Model.{Halftone, topOf, modelStart, steps}
+use Rattle.definition.specs.Refusals.{powerOf}
+use Rattle.definition.specs.Load.{loadOf}
+use Rattle.definition.specs.Advance.{Reply, AdvanceOutcome}
+use Rattle.definition.specs.Calls.{Call, Held, heldAfterLoad, outcomesOf, heldAfterCalls, repliesOf, modelAfterCalls, modelReplies, isRefusal, granted}
+
+-- P holds of each element
+abbrev pub Each : {A : Type 0} → (A → Type 0) → List A → Type 0
+Each P [] = Unit {0}
+Each P (x ∷ xs) = P x × Each P xs
+
+-- "Demand 3 starts from an accepted Load": of greys, each of which "is a byte"
+pub record Accepted (side : ℕ) (greys : List ℕ) (pyramid : List ℤ) (serials order : List ℕ) : Type 0 where
+  pub bytes : Each (λ grey. grey ≤ 255) greys
+  pub said : loadOf side greys pyramid serials order .said ≡ returned []
+
+-- the holes of the finished map, from G, "the sum of all greys"
+abbrev pub totalOf : ℕ → ℕ
+totalOf G = (2 * G + 255) / 510
+
+-- One call of the list: if it isn't refused, it says "finished" exactly when all holes then number the total.
+abbrev pub Ends : ℕ → ℕ → AdvanceOutcome → Type 0
+Ends r total out = isRefusal (out .reply .said) ≡ false → (out .reply .said ≡ finished) ↔ (allDots r (out .serials) ≡ total)
+
+-- What holds after a list of calls: of the buffers as Load was lent them, of what the caller then holds, of the outcomes and replies of
+-- the calls, and of the model's state and replies. N = 2^r is the side, G the sum of the greys.
+pub record Holds (kernel : Kernel) (r G : ℕ) (greys : List ℕ) (lentPyramid : List ℤ) (lentSerials lentOrder : List ℕ) (calls : List Call)
+    (held : Held) (outcomes : List AdvanceOutcome) (replies : List Reply) (model : Halftone) (modelled : List Reply) : Type 0 where
+  -- "After every list of calls the three buffers, each over its needed length, and the record (N, h) equal the model's"
+  pub pyramid : take (needed r) (held .pyramid) ≡ model .pyramid
+  pub serials : take (cellCount r) (held .serials) ≡ model .serials
+  pub order : take (cellCount r) (held .order) ≡ model .order
+  pub progress : held .progress ≡ record { side = 2 ^ r; dots = model .dots }
+  -- "and each call, refused or not, has answered as the model does"
+  pub answered : replies ≡ modelled
+  -- "the part past the needed length is neither read nor written"
+  pub pyramid-rest : drop (needed r) (held .pyramid) ≡ drop (needed r) lentPyramid
+  pub serials-rest : drop (cellCount r) (held .serials) ≡ drop (cellCount r) lentSerials
+  pub order-rest : drop (cellCount r) (held .order) ≡ drop (cellCount r) lentOrder
+  -- the holes and their order are the first ones that the model makes for that map
+  pub first-dots : model ≡ steps kernel r (held .progress .dots) (modelStart r greys)
+  -- "all holes are those of the whole map", "as Tally counts them"; they number the smaller of the total and the sum of the budgets of
+  -- the calls not refused
+  pub all-dots : allDots r (held .serials) ≡ held .progress .dots
+  pub number : held .progress .dots ≡ min (totalOf G) (granted calls replies)
+  -- "That no cell is burnt twice means that the first h places of the order list are all different."
+  pub once : (i j : ℕ) → i < j → j < held .progress .dots → getD (held .order) i 0 ≢ getD (held .order) j 0
+  -- the most holes that an aligned square of side s can hold
+  pub cap : (k a b : ℕ) → k ≤ r → a < 2 ^ k → b < 2 ^ k → 765 * dotsIn r (held .serials) k a b < 3 * greySum r greys k a b + 765 + 1020 * blockSide r k
+  -- the debt still stored at the top
+  pub debt : pos (oneDot * held .progress .dots) +ℤ topOf (held .pyramid) ≡ pos (256 * G)
+  pub ends : Each (Ends r (totalOf G)) outcomes
+
+-- Demand 3 of one list of calls on the buffers that Load was lent.
+abbrev pub Demand3 : Kernel → ℕ → List ℕ → List ℤ → List ℕ → List ℕ → List Call → Type 0
+Demand3 kernel side greys pyramid serials order calls =
+    let r = powerOf side in
+    let fresh = heldAfterLoad side greys pyramid serials order in
+    let model = modelStart r greys in
+    Holds kernel r (greyTotal r greys) greys pyramid serials order calls
+    (heldAfterCalls kernel fresh calls) (outcomesOf kernel fresh calls) (repliesOf kernel fresh calls)
+    (modelAfterCalls kernel r model calls) (modelReplies kernel r model calls)

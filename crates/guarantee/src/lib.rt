@@ -1,0 +1,1 @@
+// No code: what is promised of every list of calls is in specs/.

@@ -1,0 +1,71 @@
+//! What the calls answer, and the record that goes from call to call.
+
+/// "The record, passed by value, holds the side and the number of holes made." (A dot is document 01's hole.)
+#[derive(Debug, Clone, Copy, PartialEq, Eq)]
+pub struct Progress {
+    pub side: u32,
+    pub dots: u32,
+}
+
+/// The table of "When a call says no", one case for each row.
+#[derive(Debug, Clone, Copy, PartialEq, Eq)]
+pub enum Refusal {
+    /// "side isn't one of the eight"
+    BadSide,
+    /// "greys buffer shorter than N²"
+    ShortGreys,
+    /// "pyramid shorter than needed"
+    ShortPyramid,
+    /// "serial sheet, or order list where lent, shorter than N²"
+    ShortSheet,
+    /// "sheet not sound"
+    NotSound,
+    /// "k above r, or a or b not below 2^k"
+    BadBlock,
+    /// "text doesn't fit the grammar"
+    BadText,
+    /// "output shorter than the list"
+    ShortOutput,
+    /// "input longer than 4,099 bytes"
+    LongInput,
+}
+
+impl Refusal {
+    /// The column "Returned" of the same table.
+    pub fn number(self) -> u32 {
+        match self {
+            Refusal::BadSide => 1,
+            Refusal::ShortGreys => 2,
+            Refusal::ShortPyramid => 3,
+            Refusal::ShortSheet => 4,
+            Refusal::NotSound => 5,
+            Refusal::BadBlock => 6,
+            Refusal::BadText => 7,
+            Refusal::ShortOutput => 8,
+            Refusal::LongInput => 9,
+        }
+    }
+}
+
+/// "Load [...] returns the record (N, 0)"; "a refused Load returns the record (0, 0) and the number."
+#[derive(Debug, Clone, Copy, PartialEq, Eq)]
+pub struct LoadAnswer {
+    pub progress: Progress,
+    pub status: Result<(), Refusal>,
+}
+
+/// "'finished' exactly if the top is then below 32,640, else 'more'."
+#[derive(Debug, Clone, Copy, PartialEq, Eq)]
+pub enum Ended {
+    Finished,
+    More,
+}
+
+/// "It returns the new record, the holes made in this call, and 'finished' [...] else 'more'." "A refused Advance
+/// returns the record it was given, 0 holes made, and the number in place of 'finished' or 'more'."
+#[derive(Debug, Clone, Copy, PartialEq, Eq)]
+pub struct AdvanceAnswer {
+    pub progress: Progress,
+    pub made: u32,
+    pub status: Result<Ended, Refusal>,
+}

@@ -1,0 +1,95 @@
+//! Load and Advance.
+
+use crate::answers::{AdvanceAnswer, Ended, LoadAnswer, Progress, Refusal};
+use crate::diffusion::{descend, dots_due, place};
+use crate::pyramid::renew_all;
+use crate::shape::{cell_count, level_start, power, pyramid_length, HALF_DOT};
+use crate::sound::sound;
+
+/// "pyramid shorter than needed" and "serial sheet, or order list where lent, shorter than N²", for one of the
+/// eight sides.
+pub(crate) fn check_lengths(side: u32, pyramid: &[i64], serials: &[u32], order: &[u32]) -> Result<(), Refusal> {
+    if pyramid.len() < pyramid_length(power(side)?) {
+        return Err(Refusal::ShortPyramid);
+    }
+    if serials.len() < cell_count(side) || order.len() < cell_count(side) {
+        return Err(Refusal::ShortSheet);
+    }
+    Ok(())
+}
+
+/// "Load fills the pyramid from the greys, sets the N² places of both other buffers to 0 and returns the record
+/// (N, 0)."
+pub fn load(side: u32, greys: &[u8], pyramid: &mut [i64], serials: &mut [u32], order: &mut [u32]) -> LoadAnswer {
+    match check_load(side, greys, pyramid, serials, order) {
+        Err(refusal) => LoadAnswer { progress: Progress { side: 0, dots: 0 }, status: Err(refusal) },
+        Ok(power) => {
+            let cells = cell_count(side);
+            fill(power, &greys[..cells], pyramid);
+            serials[..cells].fill(0);
+            order[..cells].fill(0);
+            LoadAnswer { progress: Progress { side, dots: 0 }, status: Ok(()) }
+        }
+    }
+}
+
+/// The refusals of Load: 1, 2, 3, 4.
+fn check_load(side: u32, greys: &[u8], pyramid: &[i64], serials: &[u32], order: &[u32]) -> Result<u32, Refusal> {
+    let power = power(side)?;
+    if greys.len() < cell_count(side) {
+        return Err(Refusal::ShortGreys);
+    }
+    check_lengths(side, pyramid, serials, order)?;
+    Ok(power)
+}
+
+/// "Load gives each cell 256 × grey."
+fn fill(power: u32, greys: &[u8], pyramid: &mut [i64]) {
+    let residuals = &mut pyramid[level_start(power)..];
+    for (residual, grey) in residuals.iter_mut().zip(greys) {
+        *residual = 256 * i64::from(*grey);
+    }
+    renew_all(power, pyramid);
+}
+
+/// "Advance makes exactly the smaller of the budget and the holes due."
+pub fn advance(
+    progress: Progress,
+    budget: u32,
+    pyramid: &mut [i64],
+    serials: &mut [u32],
+    order: &mut [u32],
+) -> AdvanceAnswer {
+    match check_sheet(progress, pyramid, serials, order) {
+        Err(refusal) => AdvanceAnswer { progress, made: 0, status: Err(refusal) },
+        Ok(power) => {
+            let side = progress.side;
+            let made = dots_due(pyramid[0]).min(i64::from(budget)) as u32;
+            for dots in progress.dots..progress.dots + made {
+                let cell = descend(power, pyramid);
+                place(side, power, dots, cell, pyramid, serials, order);
+            }
+            let dots = progress.dots + made;
+            AdvanceAnswer { progress: Progress { side, dots }, made, status: Ok(ended(pyramid[0])) }
+        }
+    }
+}
+
+/// The refusals of Advance, and the first ones of Drill List: 1, 3, 4, 5.
+pub(crate) fn check_sheet(progress: Progress, pyramid: &[i64], serials: &[u32], order: &[u32]) -> Result<u32, Refusal> {
+    let power = power(progress.side)?;
+    check_lengths(progress.side, pyramid, serials, order)?;
+    if !sound(progress, pyramid, serials, order) {
+        return Err(Refusal::NotSound);
+    }
+    Ok(power)
+}
+
+/// "'finished' exactly if the top is then below 32,640, else 'more'."
+fn ended(top: i64) -> Ended {
+    if top < HALF_DOT {
+        Ended::Finished
+    } else {
+        Ended::More
+    }
+}

@@ -1,0 +1,81 @@
+//! One dot: the descent to its cell, its placing, and the diffusion of its error.
+
+use crate::pyramid::renew_over;
+use crate::shape::{entry, neighbours, DOT, HALF_DOT};
+
+/// "from the top, go to the entry of the four below with the largest sum, until level r. Among equal largest ones
+/// take the first in the order top left, top right, bottom left, bottom right." Gives the cell's row and column.
+pub fn descend(power: u32, pyramid: &[i64]) -> (usize, usize) {
+    let (mut row, mut column) = (0, 0);
+    for level in 1..=power {
+        let four = [
+            (2 * row, 2 * column),
+            (2 * row, 2 * column + 1),
+            (2 * row + 1, 2 * column),
+            (2 * row + 1, 2 * column + 1),
+        ];
+        let sum = |(a, b): (usize, usize)| pyramid[entry(level, a, b)];
+        let mut largest = four[0];
+        for candidate in four {
+            if sum(candidate) > sum(largest) {
+                largest = candidate;
+            }
+        }
+        (row, column) = largest;
+    }
+    (row, column)
+}
+
+/// "With c the sum of weights up to and including this neighbour and c' the sum before it, the debt falls by its
+/// share floor(d × c / D) − floor(d × c' / D)." All the shares of an error d, for weights whose sum D is above 0.
+pub fn shares(error: i64, weights: &[i64]) -> Vec<i64> {
+    let total: i64 = weights.iter().sum();
+    let floor = |up_to: i64| (error * up_to).div_euclid(total);
+    let mut before = 0;
+    let mut found = Vec::new();
+    for weight in weights {
+        let including = before + weight;
+        found.push(floor(including) - floor(before));
+        before = including;
+    }
+    found
+}
+
+/// "let W be the debt of the cell reached and d = 65,280 − W. The cell's debt becomes 0, its serial the next
+/// number", and then the spread: the next dot, number `dots` + 1, is placed at the cell (row, column).
+pub fn place(
+    side: u32,
+    power: u32,
+    dots: u32,
+    (row, column): (usize, usize),
+    pyramid: &mut [i64],
+    serials: &mut [u32],
+    order: &mut [u32],
+) {
+    let cell = row * side as usize + column;
+    serials[cell] = dots + 1;
+    order[dots as usize] = cell as u32;
+
+    let at = entry(power, row, column);
+    let error = DOT - pyramid[at];
+    pyramid[at] = 0;
+
+    let near = neighbours(side, row, column);
+    let weights: Vec<i64> = near.iter().map(|neighbour| neighbour.weight).collect();
+    let mut changed = vec![(row, column)];
+    for (neighbour, share) in near.iter().zip(shares(error, &weights)) {
+        pyramid[entry(power, neighbour.row, neighbour.column)] -= share;
+        changed.push((neighbour.row, neighbour.column));
+    }
+    renew_over(power, pyramid, &changed);
+}
+
+/// "From the top value t on entry, none are due if t < 32,640, else floor((t + 32,640) / 65,280)." For the top of
+/// a sound sheet.
+pub fn dots_due(top: i64) -> i64 {
+    if top < HALF_DOT {
+        0
+    } else {
+        (top + HALF_DOT) / DOT
+    }
+}

@@ -1,0 +1,30 @@
+//! The reference: document 01 and report 265 written down a second time, as simply as can be, so that the
+//! outputs of the proved engine can be matched against it. It shares no line with that engine.
+
+mod answers;
+mod calls;
+mod diffusion;
+mod drill_list;
+mod map_text;
+mod measures;
+mod plate;
+mod pyramid;
+mod run;
+mod shape;
+mod sound;
+
+pub mod maps;
+pub mod stored;
+
+pub use answers::{AdvanceAnswer, Ended, LoadAnswer, Progress, Refusal};
+pub use calls::{advance, load};
+pub use diffusion::{descend, dots_due, place, shares};
+pub use drill_list::drill_list;
+pub use map_text::{map_text, write_map_text};
+pub use measures::{levels, tally};
+pub use plate::{plate, GREYS_ROOM, LONGEST_INPUT};
+pub use pyramid::{renew_all, renew_over};
+pub use run::Buffers;
+pub use shape::{cell_count, entry, level_start, neighbours, power, pyramid_length};
+pub use shape::{Neighbour, DOT, HALF_DOT, SIDES};
+pub use sound::sound;

@@ -1,0 +1,64 @@
+//! The named maps whose runs are stored.
+
+/// The names of the maps, in the order of the stored files.
+pub const NAMES: [&str; 13] = [
+    "flat-0",
+    "flat-1",
+    "flat-127",
+    "flat-128",
+    "flat-129",
+    "flat-254",
+    "flat-255",
+    "gradient-columns",
+    "gradient-diagonal",
+    "hot-cell",
+    "hot-rim",
+    "checkerboard",
+    "random",
+];
+
+/// The greys of a named map of one of the eight sides, by row: "A grey is a byte, from 0 (no hole wanted) to 255 (a
+/// hole in every cell)." A name that isn't in the list has no greys.
+pub fn named(name: &str, side: u32) -> Vec<u8> {
+    let last = side - 1;
+    let rim = |place: u32| place == 0 || place == last;
+    match name {
+        "flat-0" => by_cell(side, |_, _| 0),
+        "flat-1" => by_cell(side, |_, _| 1),
+        "flat-127" => by_cell(side, |_, _| 127),
+        "flat-128" => by_cell(side, |_, _| 128),
+        "flat-129" => by_cell(side, |_, _| 129),
+        "flat-254" => by_cell(side, |_, _| 254),
+        "flat-255" => by_cell(side, |_, _| 255),
+        "gradient-columns" => by_cell(side, |_, column| column * 255 / last),
+        "gradient-diagonal" => by_cell(side, |row, column| (row + column) * 255 / (2 * last)),
+        "hot-cell" => by_cell(side, |row, column| if (row, column) == (side / 2, side / 2 - 1) { 255 } else { 0 }),
+        "hot-rim" => by_cell(side, |row, column| if rim(row) || rim(column) { 255 } else { 16 }),
+        "checkerboard" => by_cell(side, |row, column| if (row + column) % 2 == 1 { 255 } else { 0 }),
+        "random" => generated(1, (side * side) as usize),
+        _ => Vec::new(),
+    }
+}
+
+/// The greys that a rule gives to each row and column.
+fn by_cell(side: u32, rule: impl Fn(u32, u32) -> u32) -> Vec<u8> {
+    let mut greys = Vec::new();
+    for row in 0..side {
+        for column in 0..side {
+            greys.push(rule(row, column) as u8);
+        }
+    }
+    greys
+}
+
+/// Greys of the generator: each step the state becomes (1664525 × state + 1013904223) mod 2^32, and its highest
+/// eight bits are the next grey.
+pub fn generated(start: u32, count: usize) -> Vec<u8> {
+    let mut state = start;
+    let mut greys = Vec::new();
+    for _ in 0..count {
+        state = state.wrapping_mul(1_664_525).wrapping_add(1_013_904_223);
+        greys.push((state >> 24) as u8);
+    }
+    greys
+}

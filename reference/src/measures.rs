@@ -1,0 +1,59 @@
+//! Tally and Levels.
+
+use crate::answers::Refusal;
+use crate::shape::{cell_count, power};
+
+/// "Tally takes side, serial sheet and an aligned square and returns the number of its cells whose serial isn't 0."
+/// The aligned square is the block (level, row, column): "its side is s = N/2^k, and it is the cells which that
+/// entry covers."
+pub fn tally(side: u32, serials: &[u32], level: u32, row: u32, column: u32) -> Result<u32, Refusal> {
+    let power = power(side)?;
+    if serials.len() < cell_count(side) {
+        return Err(Refusal::ShortSheet);
+    }
+    if level > power || row >= 2u32.pow(level) || column >= 2u32.pow(level) {
+        return Err(Refusal::BadBlock);
+    }
+    let mut dots = 0;
+    for cell in block_cells(side, level, row as usize, column as usize) {
+        if serials[cell] != 0 {
+            dots += 1;
+        }
+    }
+    Ok(dots)
+}
+
+/// "Levels takes side, greys and serial sheet [...] For level k it returns the sum over the aligned squares of that
+/// level of the square of their summed errors [...]: nine sums, level 0 first, those past r being 0."
+pub fn levels(side: u32, greys: &[u8], serials: &[u32]) -> Result<[u64; 9], Refusal> {
+    let power = power(side)?;
+    if greys.len() < cell_count(side) {
+        return Err(Refusal::ShortGreys);
+    }
+    if serials.len() < cell_count(side) {
+        return Err(Refusal::ShortSheet);
+    }
+    let mut sums = [0; 9];
+    for level in 0..=power {
+        for row in 0..2usize.pow(level) {
+            for column in 0..2usize.pow(level) {
+                let cells = block_cells(side, level, row, column);
+                let error: i64 = cells.map(|cell| cell_error(greys[cell], serials[cell])).sum();
+                sums[level as usize] += error.unsigned_abs() * error.unsigned_abs();
+            }
+        }
+    }
+    Ok(sums)
+}
+
+/// "a cell's error is its grey, less 255 if its serial isn't 0."
+fn cell_error(grey: u8, serial: u32) -> i64 {
+    i64::from(grey) - if serial != 0 { 255 } else { 0 }
+}
+
+/// The numbers (row × N + column) of the cells of a block.
+fn block_cells(side: u32, level: u32, row: usize, column: usize) -> impl Iterator<Item = usize> {
+    let side = side as usize;
+    let wide = side / 2usize.pow(level);
+    (row * wide..(row + 1) * wide).flat_map(move |i| (column * wide..(column + 1) * wide).map(move |j| i * side + j))
+}

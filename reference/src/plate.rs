@@ -1,0 +1,30 @@
+//! The program `plate`, as a function from its input to what it prints.
+
+use crate::answers::Refusal;
+use crate::map_text::map_text;
+use crate::run::run;
+
+/// "input longer than 4,099 bytes | program only, before all else"
+pub const LONGEST_INPUT: usize = 4_099;
+
+/// "The program's greys buffer has 1,024 places, so '64' alone on its line gives 2."
+pub const GREYS_ROOM: usize = 1_024;
+
+/// "The program `plate` reads a map text on standard input, runs to finished and prints the drill list, or the line
+/// 'refused,n' with n the refusal."
+pub fn plate(input: &[u8]) -> Vec<u8> {
+    match list_of(input) {
+        Ok(list) => list,
+        Err(refusal) => format!("refused,{}\n", refusal.number()).into_bytes(),
+    }
+}
+
+/// The same, with the refusal kept apart.
+fn list_of(input: &[u8]) -> Result<Vec<u8>, Refusal> {
+    if input.len() > LONGEST_INPUT {
+        return Err(Refusal::LongInput);
+    }
+    let mut greys = [0; GREYS_ROOM];
+    let side = map_text(input, &mut greys)?;
+    Ok(run(side, &greys)?.list)
+}

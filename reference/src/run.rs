@@ -1,0 +1,67 @@
+//! Buffers of the needed lengths, and a map run to its end on them.
+
+use crate::answers::{AdvanceAnswer, LoadAnswer, Progress, Refusal};
+use crate::calls::{advance, load};
+use crate::drill_list::{drill_list, list_room};
+use crate::shape::{cell_count, power, pyramid_length};
+use crate::sound::sound;
+
+/// "The caller lends the pyramid as 64-bit signed numbers [...] Two further buffers of N² 32-bit unsigned numbers":
+/// the three buffers, for callers that have none of their own.
+#[derive(Debug, Clone, PartialEq, Eq)]
+pub struct Buffers {
+    pub pyramid: Vec<i64>,
+    pub serials: Vec<u32>,
+    pub order: Vec<u32>,
+}
+
+impl Buffers {
+    /// Buffers of just the needed lengths, for one of the eight sides.
+    pub fn new(side: u32) -> Result<Buffers, Refusal> {
+        Ok(Buffers {
+            pyramid: vec![0; pyramid_length(power(side)?)],
+            serials: vec![0; cell_count(side)],
+            order: vec![0; cell_count(side)],
+        })
+    }
+
+    /// Load on these buffers.
+    pub fn load(&mut self, side: u32, greys: &[u8]) -> LoadAnswer {
+        load(side, greys, &mut self.pyramid, &mut self.serials, &mut self.order)
+    }
+
+    /// Advance on these buffers.
+    pub fn advance(&mut self, progress: Progress, budget: u32) -> AdvanceAnswer {
+        advance(progress, budget, &mut self.pyramid, &mut self.serials, &mut self.order)
+    }
+
+    /// Drill List on these buffers.
+    pub fn drill_list(&self, progress: Progress, out: &mut [u8]) -> Result<usize, Refusal> {
+        drill_list(progress, &self.pyramid, &self.serials, &self.order, out)
+    }
+
+    /// Whether these buffers with this record are a sound sheet.
+    pub fn sound(&self, progress: Progress) -> bool {
+        sound(progress, &self.pyramid, &self.serials, &self.order)
+    }
+}
+
+/// What a run to its end leaves: the record, the buffers and the drill list.
+pub(crate) struct Run {
+    pub progress: Progress,
+    pub buffers: Buffers,
+    pub list: Vec<u8>,
+}
+
+/// "runs to finished and prints the drill list": Load, one Advance with the largest budget, Drill List.
+pub(crate) fn run(side: u32, greys: &[u8]) -> Result<Run, Refusal> {
+    let mut buffers = Buffers::new(side)?;
+    let loaded = buffers.load(side, greys);
+    loaded.status?;
+    let advanced = buffers.advance(loaded.progress, u32::MAX);
+    advanced.status?;
+    let mut list = vec![0; list_room(side)];
+    let length = buffers.drill_list(advanced.progress, &mut list)?;
+    list.truncate(length);
+    Ok(Run { progress: advanced.progress, buffers, list })
+}

@@ -1,0 +1,142 @@
+//! The stored files: what the reference gives for the named maps, to be matched by others.
+
+use std::fmt::Display;
+
+use crate::answers::Refusal;
+use crate::map_text::write_map_text;
+use crate::maps::{generated, named, NAMES};
+use crate::measures::levels;
+use crate::run::run;
+use crate::shape::SIDES;
+
+/// "Larger maps are run against a reference in another language and the outputs matched." All stored files, each
+/// with its path from the top of the repository.
+pub fn files() -> Result<Vec<(String, Vec<u8>)>, Refusal> {
+    let mut files = vec![("vectors/runs.csv".to_string(), runs_csv()?.into_bytes())];
+    for side in [2, 4, 8] {
+        files.push((format!("vectors/side-{side}.txt"), texts_and_lists(side)?));
+    }
+    let expected = "crates/definition/specs/Expected.antt".to_string();
+    files.push((expected, expected_values()?.into_bytes()));
+    Ok(files)
+}
+
+/// One line for each side and map: its figures, and checksums of what the run leaves.
+fn runs_csv() -> Result<String, Refusal> {
+    let mut text = "side,map,grey_sum,dots,top,level0,level1,level2,level3,level4,level5,level6,level7,level8,\
+                    pyramid,serials,order,list_length,list\n"
+        .to_string();
+    for side in SIDES {
+        for name in NAMES {
+            let greys = named(name, side);
+            let run = run(side, &greys)?;
+            let grey_sum: u64 = greys.iter().map(|grey| u64::from(*grey)).sum();
+            let fields = [
+                side.to_string(),
+                name.to_string(),
+                grey_sum.to_string(),
+                run.progress.dots.to_string(),
+                run.buffers.pyramid[0].to_string(),
+                joined(&levels(side, &greys, &run.buffers.serials)?, ","),
+                adler32(&lines(&run.buffers.pyramid)).to_string(),
+                adler32(&lines(&run.buffers.serials)).to_string(),
+                adler32(&lines(&run.buffers.order)).to_string(),
+                run.list.len().to_string(),
+                adler32(&run.list).to_string(),
+            ];
+            text.push_str(&joined(&fields, ","));
+            text.push('\n');
+        }
+    }
+    Ok(text)
+}
+
+/// For each map of a side: a line with its name, its map text and its drill list.
+fn texts_and_lists(side: u32) -> Result<Vec<u8>, Refusal> {
+    let mut bytes = Vec::new();
+    for name in NAMES {
+        let greys = named(name, side);
+        bytes.extend(format!("map,{name}\n").into_bytes());
+        bytes.extend(write_map_text(side, &greys));
+        bytes.extend(run(side, &greys)?.list);
+    }
+    Ok(bytes)
+}
+
+/// The values that a proof in another language compares with: two maps run to their end.
+fn expected_values() -> Result<String, Refusal> {
+    let greys = generated(7, 16);
+    let halved: Vec<u8> = generated(8, 64).iter().map(|grey| grey / 2).collect();
+    Ok(format!(
+        "-- Written by the reference (`cargo run --release -- write` in reference/) and not to be edited: \
+         two maps run to their end, side 4 and side 8.\n\
+         use mathlib.Core.List.{{List, [], _∷_}}\n\
+         use Prim.Native.Nat.{{ℕ}}\n\
+         use lib.IntN.{{ℤ, pos, negsuc}}\n\
+         \n\
+         -- the map of side 4, and what Load and Advance leave: the order list, the serial sheet, the pyramid; \
+         then the sums of Levels\n\
+         {}\n\
+         -- the map of side 8, likewise\n\
+         {}",
+        five_values(4, &greys)?,
+        five_values(8, &halved)?,
+    ))
+}
+
+/// The five values of one run, parted by empty lines.
+fn five_values(side: u32, greys: &[u8]) -> Result<String, Refusal> {
+    let run = run(side, greys)?;
+    let integers: Vec<String> = run.buffers.pyramid.iter().map(|z| integer(*z)).collect();
+    let values = [
+        value(&format!("greys{side}"), "ℕ", greys),
+        value(&format!("order{side}"), "ℕ", &run.buffers.order),
+        value(&format!("serials{side}"), "ℕ", &run.buffers.serials),
+        value(&format!("pyramid{side}"), "ℤ", &integers),
+        value(&format!("levels{side}"), "ℕ", &levels(side, greys, &run.buffers.serials)?),
+    ];
+    Ok(values.join("\n"))
+}
+
+/// One value: the line with its type, and the line with its list.
+fn value<T: Display>(name: &str, of: &str, items: &[T]) -> String {
+    let mut list = String::new();
+    for item in items {
+        list.push_str(&format!("{item} ∷ "));
+    }
+    format!("unfoldable pub {name} : List {of}\n{name} = {list}[]\n")
+}
+
+/// An integer as that language writes it.
+fn integer(z: i64) -> String {
+    if z >= 0 {
+        format!("pos {z}")
+    } else {
+        format!("negsuc {}", -z - 1)
+    }
+}
+
+/// Items in decimal with a mark between them.
+fn joined<T: Display>(items: &[T], mark: &str) -> String {
+    let texts: Vec<String> = items.iter().map(|item| item.to_string()).collect();
+    texts.join(mark)
+}
+
+/// Numbers in decimal, each followed by byte 10.
+fn lines<T: Display>(numbers: &[T]) -> Vec<u8> {
+    let mut text = String::new();
+    for number in numbers {
+        text.push_str(&format!("{number}\n"));
+    }
+    text.into_bytes()
+}
+
+/// The Adler-32 checksum of RFC 1950.
+fn adler32(bytes: &[u8]) -> u32 {
+    let (mut low, mut high) = (1, 0);
+    for byte in bytes {
+        low = (low + u32::from(*byte)) % 65_521;
+        high = (high + low) % 65_521;
+    }
+    high * 65_536 + low
+}

@@ -1,0 +1,249 @@
+//! What document 01 promises of every run, tried on small pseudo-random maps.
+
+use reference::*;
+
+/// Pseudo-random numbers, the same in every run.
+struct Dice(u64);
+
+impl Dice {
+    fn below(&mut self, bound: u32) -> u32 {
+        self.0 = self.0.wrapping_mul(6_364_136_223_846_793_005).wrapping_add(1_442_695_040_888_963_407);
+        ((self.0 >> 33) % u64::from(bound)) as u32
+    }
+
+    /// A map of one of several kinds: any greys, few greys, low greys, high greys, 0 or 255, two halves.
+    fn greys(&mut self, side: u32) -> Vec<u8> {
+        let kind = self.below(6);
+        let (cells, limit) = (side * side, self.below(256) + 1);
+        let mut grey = |cell: u32| match kind {
+            0 => self.below(256),
+            1 => 255 * u32::from(self.below(8) == 0),
+            2 => self.below(limit),
+            3 => 255 - self.below(limit),
+            4 => 255 * self.below(2),
+            _ => (limit - 1) * u32::from(cell >= cells / 2),
+        };
+        (0..cells).map(|cell| grey(cell) as u8).collect()
+    }
+
+    fn budget(&mut self, cells: u32) -> u32 {
+        match self.below(6) {
+            0 => 0,
+            1 => u32::MAX,
+            2 => 1,
+            _ => self.below(cells),
+        }
+    }
+
+    /// How much of a buffer is lent: mostly all.
+    fn lent(&mut self, needed: usize) -> usize {
+        if self.below(8) == 0 {
+            self.below(needed as u32) as usize
+        } else {
+            needed
+        }
+    }
+}
+
+/// How many maps of each side are tried.
+const TRIED: [(u32, u32); 4] = [(2, 2_000), (4, 1_200), (8, 500), (16, 150)];
+
+/// Does something for every map that is tried.
+fn for_every_map(seed: u64, mut check: impl FnMut(&mut Dice, u32, &[u8])) {
+    let mut dice = Dice(seed);
+    for (side, maps) in TRIED {
+        for _ in 0..maps {
+            let greys = dice.greys(side);
+            check(&mut dice, side, &greys);
+        }
+    }
+}
+
+fn fresh(side: u32, greys: &[u8]) -> (Buffers, Progress) {
+    let mut buffers = Buffers::new(side).unwrap();
+    let answer = buffers.load(side, greys);
+    assert_eq!(answer.status, Ok(()));
+    (buffers, answer.progress)
+}
+
+fn grey_sum(greys: &[u8]) -> i64 {
+    greys.iter().map(|grey| i64::from(*grey)).sum()
+}
+
+/// What holds after every call: the sheet is sound, no cell has two dots, every dot takes 65,280 off the top, and
+/// no block has more dots than its cap.
+fn check_state(greys: &[u8], progress: Progress, buffers: &Buffers) {
+    let (side, dots) = (progress.side, progress.dots as usize);
+    assert!(buffers.sound(progress));
+    assert_eq!(DOT * dots as i64 + buffers.pyramid[0], 256 * grey_sum(greys));
+
+    let mut cells = buffers.order[..dots].to_vec();
+    cells.sort();
+    cells.dedup();
+    assert_eq!(cells.len(), dots);
+
+    for level in 0..=power(side).unwrap() {
+        let blocks = 2u32.pow(level);
+        for (row, column) in (0..blocks).flat_map(|row| (0..blocks).map(move |column| (row, column))) {
+            let inside = tally(side, &buffers.serials, level, row, column).unwrap();
+            let grey = block_grey(side, greys, side / blocks, row, column);
+            assert!(765 * inside < 3 * grey + 765 + 1020 * (side / blocks));
+        }
+    }
+}
+
+/// The sum of the greys of a block that is `wide` cells wide.
+fn block_grey(side: u32, greys: &[u8], wide: u32, row: u32, column: u32) -> u32 {
+    let mut sum = 0;
+    for i in row * wide..(row + 1) * wide {
+        for j in column * wide..(column + 1) * wide {
+            sum += u32::from(greys[(i * side + j) as usize]);
+        }
+    }
+    sum
+}
+
+/// One call with random budget and random lengths lent, and what it has to answer. `asked` is the sum of the
+/// budgets of the calls that weren't refused.
+fn check_call(dice: &mut Dice, greys: &[u8], progress: Progress, asked: &mut u64, buffers: &mut Buffers) -> Progress {
+    let total = (2 * grey_sum(greys) + 255) / 510;
+    let budget = dice.budget(greys.len() as u32);
+    let pyramid = dice.lent(buffers.pyramid.len());
+    let (serials, order) = (dice.lent(greys.len()), dice.lent(greys.len()));
+    let before = buffers.clone();
+    let answer = advance(
+        progress,
+        budget,
+        &mut buffers.pyramid[..pyramid],
+        &mut buffers.serials[..serials],
+        &mut buffers.order[..order],
+    );
+
+    let refusal = if pyramid < buffers.pyramid.len() {
+        Some(Refusal::ShortPyramid)
+    } else if serials < greys.len() || order < greys.len() {
+        Some(Refusal::ShortSheet)
+    } else {
+        None
+    };
+    if let Some(refusal) = refusal {
+        assert_eq!(answer, AdvanceAnswer { progress, made: 0, status: Err(refusal) });
+        assert_eq!(*buffers, before);
+        return progress;
+    }
+    *asked += u64::from(budget);
+    let dots = (*asked).min(total as u64) as u32;
+    let high = buffers.pyramid[0] >= HALF_DOT;
+    assert_eq!(answer.progress, Progress { side: progress.side, dots });
+    assert_eq!(answer.made, dots - progress.dots);
+    assert_eq!(answer.status, Ok(if high { Ended::More } else { Ended::Finished }));
+    assert_eq!(high, i64::from(dots) < total);
+    answer.progress
+}
+
+#[test]
+fn lists_of_calls() {
+    for_every_map(1, |dice, side, greys| {
+        let (mut buffers, mut progress) = fresh(side, greys);
+        let mut asked = 0;
+        check_state(greys, progress, &buffers);
+        for _ in 0..dice.below(6) {
+            progress = check_call(dice, greys, progress, &mut asked, &mut buffers);
+            check_state(greys, progress, &buffers);
+        }
+        // the rest in one call; a run in one call from the start gives the same
+        let last = buffers.advance(progress, u32::MAX);
+        assert_eq!(last.status, Ok(Ended::Finished));
+        assert_eq!(i64::from(last.progress.dots), (2 * grey_sum(greys) + 255) / 510);
+        check_state(greys, last.progress, &buffers);
+        let (mut whole, start) = fresh(side, greys);
+        assert_eq!(whole.advance(start, u32::MAX).progress, last.progress);
+        assert_eq!(whole, buffers);
+    });
+}
+
+#[test]
+fn renewal_over_the_changed_cells_is_whole_renewal() {
+    let mut dice = Dice(2);
+    for side in [2, 4, 8, 16] {
+        for _ in 0..20 {
+            let (mut buffers, mut progress) = fresh(side, &dice.greys(side));
+            loop {
+                let answer = buffers.advance(progress, 1);
+                let mut renewed = buffers.pyramid.clone();
+                renew_all(power(side).unwrap(), &mut renewed);
+                assert_eq!(buffers.pyramid, renewed);
+                progress = answer.progress;
+                if answer.status == Ok(Ended::Finished) {
+                    break;
+                }
+            }
+        }
+    }
+}
+
+/// A sound sheet that came about in another way than by Load: dots anywhere, residuals anywhere within the bounds.
+fn any_sound_sheet(dice: &mut Dice, side: u32) -> (Buffers, Progress) {
+    let mut buffers = Buffers::new(side).unwrap();
+    let cells = side * side;
+    let mut progress = Progress { side, dots: 0 };
+    for _ in 0..dice.below(cells + 1) {
+        let cell = dice.below(cells);
+        if buffers.serials[cell as usize] == 0 {
+            buffers.order[progress.dots as usize] = cell;
+            progress.dots += 1;
+            buffers.serials[cell as usize] = progress.dots;
+        }
+    }
+    let start = level_start(power(side).unwrap());
+    for cell in 0..cells as usize {
+        let near = neighbours(side, cell / side as usize, cell % side as usize);
+        let has_dot = |near: &Neighbour| buffers.serials[near.row * side as usize + near.column] != 0;
+        let low = -DOT * near.iter().filter(|near| has_dot(near)).count() as i64;
+        let high = if buffers.serials[cell] == 0 { DOT } else { 0 };
+        buffers.pyramid[start + cell] = match dice.below(4) {
+            0 => low,
+            1 => high,
+            _ => low + i64::from(dice.below((high - low + 1) as u32)),
+        };
+    }
+    renew_all(power(side).unwrap(), &mut buffers.pyramid);
+    (buffers, progress)
+}
+
+#[test]
+fn sound_sheets_however_they_came_about() {
+    let mut dice = Dice(3);
+    for (side, sheets) in TRIED {
+        for _ in 0..sheets / 2 {
+            let (mut buffers, progress) = any_sound_sheet(&mut dice, side);
+            assert!(buffers.sound(progress));
+            let (top, budget) = (buffers.pyramid[0], dice.budget(side * side));
+            let due = if top < HALF_DOT { 0 } else { (top + HALF_DOT) / DOT };
+            let answer = buffers.advance(progress, budget);
+            assert_eq!(i64::from(answer.made), due.min(i64::from(budget)));
+            assert_eq!(answer.progress.dots, progress.dots + answer.made);
+            assert_eq!(buffers.pyramid[0], top - DOT * i64::from(answer.made));
+            let low = buffers.pyramid[0] < HALF_DOT;
+            assert_eq!(answer.status, Ok(if low { Ended::Finished } else { Ended::More }));
+            assert!(buffers.sound(answer.progress));
+        }
+    }
+}
+
+#[test]
+fn map_texts_there_and_back() {
+    for_every_map(4, |dice, side, greys| {
+        let mut text = write_map_text(side, greys);
+        let mut read = vec![99; greys.len() + 3];
+        assert_eq!(map_text(&text, &mut read), Ok(side));
+        assert_eq!(read, [greys, &[99; 3]].concat());
+        // with one byte changed it may still fit, but only as the text of what was read
+        let place = dice.below(text.len() as u32) as usize;
+        text[place] = b"0123456789,\n \r"[dice.below(14) as usize];
+        match map_text(&text, &mut read) {
+            Ok(side) => assert_eq!(write_map_text(side, &read[..cell_count(side)]), text),
+            Err(refusal) => assert!([1, 2, 7].contains(&refusal.number())),
+        }
+    });
+}

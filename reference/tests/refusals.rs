@@ -1,0 +1,416 @@
+//! "When a call says no": every number of the table for every call that gives it, at the exact boundary.
+
+use reference::*;
+
+/// Numbers that are no side.
+const NO_SIDES: [u32; 12] = [0, 1, 3, 5, 6, 12, 255, 257, 512, 65_536, 1 << 31, u32::MAX];
+
+/// Odd numbers that no call writes, so that every write shows.
+fn odd_buffers(pyramid: usize, serials: usize, order: usize) -> Buffers {
+    Buffers {
+        pyramid: (0..pyramid as i64).map(|place| -7_919 * place - 5).collect(),
+        serials: (0..serials as u32).map(|place| 31 * place + 70_001).collect(),
+        order: (0..order as u32).map(|place| 37 * place + 90_001).collect(),
+    }
+}
+
+/// The needed lengths of a side: cells and pyramid.
+fn needed(side: u32) -> (usize, usize) {
+    (cell_count(side), pyramid_length(power(side).unwrap()))
+}
+
+/// A sheet of side 4 with three dots, and more due.
+fn three_dots() -> (Buffers, Progress) {
+    let mut buffers = Buffers::new(4).unwrap();
+    let progress = buffers.load(4, &maps::generated(7, 16)).progress;
+    let answer = buffers.advance(progress, 3);
+    assert_eq!((answer.made, answer.status), (3, Ok(Ended::More)));
+    (buffers, answer.progress)
+}
+
+fn load_number(side: u32, greys: usize, pyramid: usize, serials: usize, order: usize) -> u32 {
+    let mut buffers = odd_buffers(pyramid, serials, order);
+    let before = buffers.clone();
+    let answer = buffers.load(side, &vec![77; greys]);
+    match answer.status {
+        Ok(()) => {
+            assert_eq!(answer.progress, Progress { side, dots: 0 });
+            0
+        }
+        Err(refusal) => {
+            assert_eq!(answer.progress, Progress { side: 0, dots: 0 });
+            assert_eq!(buffers, before);
+            refusal.number()
+        }
+    }
+}
+
+#[test]
+fn load_refuses() {
+    for side in SIDES {
+        let (n, p) = needed(side);
+        assert_eq!(load_number(side, n, p, n, n), 0);
+        assert_eq!(load_number(side, n - 1, p, n, n), 2);
+        assert_eq!(load_number(side, n, p - 1, n, n), 3);
+        assert_eq!(load_number(side, n, p, n - 1, n), 4);
+        assert_eq!(load_number(side, n, p, n, n - 1), 4);
+        assert_eq!(load_number(side, n - 1, p - 1, n - 1, n - 1), 2);
+        assert_eq!(load_number(side, n, p - 1, n - 1, n), 3);
+        assert_eq!(load_number(side, n, p - 1, n, 0), 3);
+        assert_eq!(load_number(side, 0, 0, 0, 0), 2);
+    }
+    for side in NO_SIDES {
+        assert_eq!(load_number(side, 0, 0, 0, 0), 1);
+        assert_eq!(load_number(side, 300, 300, 300, 300), 1);
+    }
+}
+
+/// The numbers of Advance and of Drill List for buffers of which only these parts are lent; both have to be the
+/// same. On a refusal nothing has changed and the record is given back, for every budget.
+fn sheet_number(progress: Progress, buffers: &Buffers, lent: (usize, usize, usize)) -> u32 {
+    let mut after = buffers.clone();
+    let pyramid = &mut after.pyramid[..lent.0];
+    let serials = &mut after.serials[..lent.1];
+    let order = &mut after.order[..lent.2];
+    let mut out = vec![b'#'; 1_000];
+    let list = drill_list(progress, pyramid, serials, order, &mut out);
+    let number = list.map_or_else(Refusal::number, |_| 0);
+    for budget in [0, 1, u32::MAX] {
+        let answer = advance(progress, budget, pyramid, serials, order);
+        assert_eq!(answer.status.map_or_else(Refusal::number, |_| 0), number);
+        if number > 0 {
+            assert_eq!((answer.progress, answer.made), (progress, 0));
+        } else {
+            break;
+        }
+    }
+    if number > 0 {
+        assert_eq!(after, *buffers);
+        assert!(out.iter().all(|byte| *byte == b'#'));
+    }
+    number
+}
+
+#[test]
+fn advance_and_drill_list_refuse_sides_and_lengths() {
+    for side in SIDES {
+        let (n, p) = needed(side);
+        let mut buffers = Buffers::new(side).unwrap();
+        let progress = buffers.load(side, &vec![1; n]).progress;
+        assert_eq!(sheet_number(progress, &buffers, (p, n, n)), 0);
+        // the same numbers on a sheet that isn't sound, since 5 is higher
+        let not_sound = odd_buffers(p, n, n);
+        assert_eq!(sheet_number(progress, &not_sound, (p, n, n)), 5);
+        for buffers in [&buffers, &not_sound] {
+            assert_eq!(sheet_number(progress, buffers, (p - 1, n, n)), 3);
+            assert_eq!(sheet_number(progress, buffers, (p, n - 1, n)), 4);
+            assert_eq!(sheet_number(progress, buffers, (p, n, n - 1)), 4);
+            assert_eq!(sheet_number(progress, buffers, (p - 1, n - 1, n - 1)), 3);
+            assert_eq!(sheet_number(progress, buffers, (0, 0, 0)), 3);
+            for wrong in NO_SIDES {
+                let progress = Progress { side: wrong, dots: 0 };
+                assert_eq!(sheet_number(progress, buffers, (0, 0, 0)), 1);
+                assert_eq!(sheet_number(progress, buffers, (p, n, n)), 1);
+            }
+        }
+    }
+}
+
+/// Changes a sheet of three dots, and gives the number that Advance and Drill List then answer.
+fn number_after(change: impl Fn(&mut Buffers, &mut Progress)) -> u32 {
+    let (mut buffers, mut progress) = three_dots();
+    change(&mut buffers, &mut progress);
+    let number = sheet_number(progress, &buffers, (21, 16, 16));
+    assert_eq!(number == 0, buffers.sound(progress));
+    number
+}
+
+/// The same for a change of one residual, with the coarser sums renewed after it.
+fn number_with_residual(cell: usize, residual: i64) -> u32 {
+    number_after(|buffers, _| {
+        buffers.pyramid[5 + cell] = residual;
+        renew_all(2, &mut buffers.pyramid);
+    })
+}
+
+// The three dots are at the cells 10, 1 and 9: each of the tests below breaks one condition and no other, as far as
+// this can be done.
+#[test]
+fn the_sheet_of_three_dots() {
+    let (buffers, _) = three_dots();
+    assert_eq!(buffers.order[..4], [10, 1, 9, 0]);
+    assert_eq!(number_after(|_, _| ()), 0);
+}
+
+#[test]
+fn condition_1_too_many_dots() {
+    for dots in [17, 18, 65_536, u32::MAX - 1, u32::MAX] {
+        assert_eq!(number_after(|_, progress| progress.dots = dots), 5);
+    }
+    // all cells with a dot are not too many
+    let mut full = Buffers::new(4).unwrap();
+    full.serials = (1..=16).collect();
+    full.order = (0..16).collect();
+    let lent = (21, 16, 16);
+    assert_eq!(sheet_number(Progress { side: 4, dots: 16 }, &full, lent), 0);
+    for dots in [17, u32::MAX] {
+        assert_eq!(sheet_number(Progress { side: 4, dots }, &full, lent), 5);
+    }
+}
+
+#[test]
+fn condition_2_order_and_serials_disagree() {
+    for cell in [16, 17, u32::MAX] {
+        assert_eq!(number_after(|buffers, _| buffers.order[0] = cell), 5);
+    }
+    assert_eq!(number_after(|buffers, _| buffers.order.swap(0, 1)), 5);
+    assert_eq!(number_after(|buffers, _| buffers.order[2] = 10), 5);
+    assert_eq!(number_after(|buffers, _| buffers.order[2] = 11), 5);
+    for serial in [2, 4, u32::MAX] {
+        assert_eq!(number_after(|buffers, _| buffers.serials[10] = serial), 5);
+    }
+    assert_eq!(number_after(|buffers, _| buffers.serials.swap(9, 10)), 5);
+}
+
+#[test]
+fn condition_3_other_serials() {
+    // a residual of 0 serves a cell with a dot as well as one without
+    for serial in [1, 3, 4, u32::MAX] {
+        let number = number_after(|buffers, _| {
+            buffers.serials[15] = serial;
+            buffers.pyramid[5 + 15] = 0;
+            renew_all(2, &mut buffers.pyramid);
+        });
+        assert_eq!(number, 5);
+    }
+    assert_eq!(number_with_residual(15, 0), 0);
+    // one dot too few in the record, with its order place 0
+    let mut buffers = Buffers::new(4).unwrap();
+    buffers.serials[0] = 1;
+    let lent = (21, 16, 16);
+    assert_eq!(sheet_number(Progress { side: 4, dots: 0 }, &buffers, lent), 5);
+    assert_eq!(sheet_number(Progress { side: 4, dots: 1 }, &buffers, lent), 0);
+}
+
+#[test]
+fn condition_4_unused_places() {
+    for place in [3, 4, 15] {
+        for cell in [1, 10, 16, u32::MAX] {
+            assert_eq!(number_after(|buffers, _| buffers.order[place] = cell), 5);
+        }
+    }
+}
+
+#[test]
+fn condition_5_sums() {
+    for entry in 0..5 {
+        for change in [1, -1, 1 << 32, 1 << 62] {
+            assert_eq!(number_after(|buffers, _| buffers.pyramid[entry] += change), 5);
+        }
+        for value in [i64::MIN, i64::MAX] {
+            assert_eq!(number_after(|buffers, _| buffers.pyramid[entry] = value), 5);
+        }
+    }
+    // the top is right and the level below isn't
+    let number = number_after(|buffers, _| {
+        buffers.pyramid[1] += 1;
+        buffers.pyramid[2] -= 1;
+    });
+    assert_eq!(number, 5);
+    // sums that are right only modulo 2^64
+    let number = number_after(|buffers, _| {
+        for entry in 1..5 {
+            buffers.pyramid[entry] = buffers.pyramid[entry].wrapping_add(1 << 62);
+        }
+    });
+    assert_eq!(number, 5);
+}
+
+#[test]
+fn condition_6_high_residuals() {
+    assert_eq!(number_with_residual(15, DOT), 0);
+    assert_eq!(number_with_residual(15, DOT + 1), 5);
+    assert_eq!(number_with_residual(10, 0), 0);
+    assert_eq!(number_with_residual(10, 1), 5);
+    for cell in 0..16 {
+        let number = number_after(|buffers, _| buffers.pyramid[5 + cell] = i64::MAX);
+        assert_eq!(number, 5);
+    }
+    assert_eq!(number_after(|buffers, _| buffers.pyramid.fill(i64::MAX)), 5);
+}
+
+#[test]
+fn condition_7_low_residuals() {
+    // the cells with the number of dots around each: the dots are at (2, 2), (0, 1) and (2, 1)
+    for (cell, dots) in [(3, 0), (0, 1), (2, 1), (15, 1), (5, 3), (6, 3), (9, 1), (10, 1), (13, 2)] {
+        assert_eq!(number_with_residual(cell, -DOT * dots), 0);
+        assert_eq!(number_with_residual(cell, -DOT * dots - 1), 5);
+    }
+    for cell in 0..16 {
+        let number = number_after(|buffers, _| buffers.pyramid[5 + cell] = i64::MIN);
+        assert_eq!(number, 5);
+    }
+    assert_eq!(number_after(|buffers, _| buffers.pyramid.fill(i64::MIN)), 5);
+}
+
+#[test]
+fn drill_list_refuses_a_short_output() {
+    let (buffers, progress) = three_dots();
+    let expected = b"3,4\n1,2,2\n2,0,1\n3,2,1\n";
+    let list = |progress, length: usize| {
+        let mut out = vec![b'#'; length];
+        let answer = buffers.drill_list(progress, &mut out);
+        (answer.map_err(Refusal::number), out)
+    };
+    for length in [0, 1, expected.len() - 1] {
+        assert_eq!(list(progress, length), (Err(8), vec![b'#'; length]));
+    }
+    assert_eq!(list(progress, expected.len()), (Ok(22), expected.to_vec()));
+    let with_tail = [&expected[..], b"###"].concat();
+    assert_eq!(list(progress, expected.len() + 3), (Ok(22), with_tail));
+    // 5 is lower
+    assert_eq!(list(Progress { side: 4, dots: 2 }, 0).0, Err(5));
+}
+
+#[test]
+fn tally_refuses() {
+    let number = |side, serials: usize, level, row, column| {
+        let serials: Vec<u32> = (0..serials as u32).collect();
+        tally(side, &serials, level, row, column).map_or_else(Refusal::number, |_| 0)
+    };
+    for side in SIDES {
+        let (n, _) = needed(side);
+        let r = power(side).unwrap();
+        for level in 0..=r {
+            let last = 2u32.pow(level) - 1;
+            assert_eq!(number(side, n, level, last, last), 0);
+            assert_eq!(number(side, n, level, last + 1, last), 6);
+            assert_eq!(number(side, n, level, last, last + 1), 6);
+            assert_eq!(number(side, n, level, u32::MAX, 0), 6);
+            assert_eq!(number(side, n, level, 0, u32::MAX), 6);
+            assert_eq!(number(side, n - 1, level, 0, 0), 4);
+        }
+        for level in [r + 1, 9, 31, 32, 33, 64, u32::MAX] {
+            assert_eq!(number(side, n, level, 0, 0), 6);
+        }
+        assert_eq!(number(side, n - 1, r + 1, 0, 0), 4);
+    }
+    for side in NO_SIDES {
+        assert_eq!(number(side, 300, 0, 0, 0), 1);
+        assert_eq!(number(side, 0, 99, 99, 99), 1);
+    }
+}
+
+#[test]
+fn levels_refuses() {
+    let number = |side, greys: usize, serials: usize| {
+        levels(side, &vec![255; greys], &vec![0; serials]).map_or_else(Refusal::number, |_| 0)
+    };
+    for side in SIDES {
+        let (n, _) = needed(side);
+        assert_eq!(number(side, n, n), 0);
+        assert_eq!(number(side, n - 1, n), 2);
+        assert_eq!(number(side, n, n - 1), 4);
+        assert_eq!(number(side, n - 1, n - 1), 2);
+    }
+    for side in NO_SIDES {
+        assert_eq!(number(side, 300, 300), 1);
+        assert_eq!(number(side, 0, 0), 1);
+    }
+}
+
+/// The number of Map Text for a greys buffer of this length, which a refusal leaves as it was.
+fn text_number(text: &[u8], length: usize) -> u32 {
+    let mut greys = vec![99; length];
+    let answer = map_text(text, &mut greys);
+    assert!(answer.is_ok() || greys.iter().all(|grey| *grey == 99));
+    answer.map_or_else(Refusal::number, |_| 0)
+}
+
+#[test]
+fn map_text_first_line() {
+    let wrong = "|\n|00\n|02\n|064\n|1000\n|0002\n|2|64|999|2\r\n| 2\n|2 \n|+2\n|-2\n|2,2\n|x\n|\"2\"\n|\
+                 18446744073709551618\n|340282366920938463463374607431768211458\n";
+    for text in wrong.split('|') {
+        assert_eq!(text_number(text.as_bytes(), 0), 7);
+        assert_eq!(text_number(text.as_bytes(), 100), 7);
+    }
+    for text in ["0\n", "1\n", "3\n", "999\n", "257\n", "100\n", "3\nx"] {
+        assert_eq!(text_number(text.as_bytes(), 0), 1);
+    }
+    // a short buffer is 2 whatever follows the first line
+    for side in SIDES {
+        let (n, _) = needed(side);
+        for rest in ["", "x", "0,0\n", "\n\n\n"] {
+            assert_eq!(text_number(format!("{side}\n{rest}").as_bytes(), n - 1), 2);
+        }
+        let text = write_map_text(side, &vec![255; n]);
+        assert_eq!(text_number(&text, n - 1), 2);
+        assert_eq!(text_number(&text, n), 0);
+        assert_eq!(text_number(&text[..text.len() - 1], n), 7);
+        assert_eq!(text_number(&[&text[..], b"\n"].concat(), n), 7);
+    }
+}
+
+#[test]
+fn map_text_other_lines() {
+    let mut greys = [99; 6];
+    assert_eq!(map_text(b"2\n0,255\n10,7\n", &mut greys), Ok(2));
+    assert_eq!(greys, [0, 255, 10, 7, 99, 99]);
+    let wrong = "|0,255\n|0,255\n10,7|0,255\n10,7\n\n|0,255\n10,7\n0,0\n|0,256\n10,7\n|0,255\n10,07\n|00,255\n10,7\n|\
+                 0,255,\n10,7\n|,255\n10,7\n|0\n255,10,7\n|0,255,10,7\n|0, 255\n10,7\n|0,255\r\n10,7\r\n|0,-1\n10,7\n|\
+                 0,1000\n10,7\n|0,18446744073709551616\n10,7\n|0,2x\n10,7\n|0,255\n10,7\nx|\n0,255\n10,7\n|\
+                 \"0\",255\n10,7\n|0,\n10,7\n|0;255\n10;7\n|0,255\n\n10,7\n";
+    for rest in wrong.split('|') {
+        assert_eq!(text_number(format!("2\n{rest}").as_bytes(), 4), 7);
+    }
+}
+
+#[test]
+fn the_program_refuses() {
+    // the longest map text of side 32 is just as long as the longest input
+    let longest = write_map_text(32, &[255; 1_024]);
+    assert_eq!(longest.len(), LONGEST_INPUT);
+    let list = plate(&longest);
+    assert!(list.starts_with(b"1024,32\n"));
+    assert_eq!(list.len(), 9_525);
+    assert_eq!(plate(&[&longest[..], b"\n"].concat()), b"refused,9\n");
+    assert_eq!(plate(&vec![b'x'; LONGEST_INPUT + 1]), b"refused,9\n");
+    assert_eq!(plate(&vec![b'x'; LONGEST_INPUT]), b"refused,7\n");
+    for text in ["64\n", "128\n", "256\n", "64\nx", "256\n0,0\n"] {
+        assert_eq!(plate(text.as_bytes()), b"refused,2\n");
+    }
+    for text in ["0\n", "3\n", "999\n"] {
+        assert_eq!(plate(text.as_bytes()), b"refused,1\n");
+    }
+    for text in ["", "64", "2\n0,0\n0,0", "2\n0,0\n0,256\n", "32\n"] {
+        assert_eq!(plate(text.as_bytes()), b"refused,7\n");
+    }
+    assert_eq!(plate(b"2\n0,0\n0,0\n"), b"0,2\n");
+}
+
+#[test]
+fn longer_buffers_keep_their_tail() {
+    for side in [2, 4, 16] {
+        let (n, p) = needed(side);
+        let greys = maps::named("random", side);
+        let long_greys = [&greys[..], &[255; 9]].concat();
+        let mut just = Buffers::new(side).unwrap();
+        let mut long = odd_buffers(p + 9, n + 9, n + 9);
+        let tails = long.clone();
+        let mut progress = just.load(side, &greys).progress;
+        assert_eq!(long.load(side, &long_greys), just.load(side, &greys));
+        for budget in [0, 1, u32::MAX] {
+            let answer = just.advance(progress, budget);
+            assert_eq!(long.advance(progress, budget), answer);
+            progress = answer.progress;
+            assert_eq!(long.pyramid, [&just.pyramid[..], &tails.pyramid[p..]].concat());
+            assert_eq!(long.serials, [&just.serials[..], &tails.serials[n..]].concat());
+            assert_eq!(long.order, [&just.order[..], &tails.order[n..]].concat());
+        }
+        let total = tally(side, &long.serials, 0, 0, 0);
+        assert_eq!(total, Ok(progress.dots));
+        let sums = levels(side, &greys, &just.serials);
+        assert_eq!(levels(side, &long_greys, &long.serials), sums);
+    }
+}
