@@ -8,7 +8,7 @@ use crate::sound::sound;
 
 /// "pyramid shorter than needed" and "serial sheet, or order list where lent, shorter than N²", for one of the
 /// eight sides.
-pub(crate) fn check_lengths(side: u32, pyramid: &[i64], serials: &[u32], order: &[u32]) -> Result<(), Refusal> {
+fn check_lengths(side: u32, pyramid: &[i64], serials: &[u32], order: &[u32]) -> Result<(), Refusal> {
     if pyramid.len() < pyramid_length(power(side)?) {
         return Err(Refusal::ShortPyramid);
     }

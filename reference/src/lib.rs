@@ -1,5 +1,9 @@
 //! The reference: document 01 and report 265 written down a second time, as simply as can be, so that the
 //! outputs of the proved engine can be matched against it. It shares no line with that engine.
+//!
+//! Names that differ from document 01's words: a dot is its hole and to place a dot is to burn; a residual is its
+//! debt; to diffuse is to spread; a block is an aligned square; serials and order are the serial sheet and the order
+//! list; Progress is the record. Words in quotation marks are sentences of document 01.
 
 mod answers;
 mod calls;

@@ -168,15 +168,13 @@ fn renewal_over_the_changed_cells_is_whole_renewal() {
     for side in [2, 4, 8, 16] {
         for _ in 0..20 {
             let (mut buffers, mut progress) = fresh(side, &dice.greys(side));
-            loop {
+            while buffers.pyramid[0] >= HALF_DOT {
                 let answer = buffers.advance(progress, 1);
+                assert_eq!(answer.made, 1);
                 let mut renewed = buffers.pyramid.clone();
                 renew_all(power(side).unwrap(), &mut renewed);
                 assert_eq!(buffers.pyramid, renewed);
                 progress = answer.progress;
-                if answer.status == Ok(Ended::Finished) {
-                    break;
-                }
             }
         }
     }
@@ -228,6 +226,21 @@ fn sound_sheets_however_they_came_about() {
             assert_eq!(answer.status, Ok(if low { Ended::Finished } else { Ended::More }));
             assert!(buffers.sound(answer.progress));
         }
+    }
+}
+
+/// A top of just 32,640 or 97,920 can't come from Load, whose tops are multiples of 256; a sound sheet may have it.
+#[test]
+fn the_threshold_itself() {
+    for (top, due) in [(32_639, 0), (32_640, 1), (97_919, 1), (97_920, 2)] {
+        let mut buffers = Buffers::new(2).unwrap();
+        buffers.pyramid[1..].copy_from_slice(&[DOT.min(top), (top - DOT).max(0), 0, 0]);
+        renew_all(1, &mut buffers.pyramid);
+        let progress = Progress { side: 2, dots: 0 };
+        let waiting = buffers.advance(progress, 0);
+        assert_eq!(waiting.status, Ok(if due == 0 { Ended::Finished } else { Ended::More }));
+        let answer = buffers.advance(progress, u32::MAX);
+        assert_eq!((answer.made, answer.status), (due, Ok(Ended::Finished)));
     }
 }
 

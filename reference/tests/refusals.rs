@@ -414,3 +414,31 @@ fn longer_buffers_keep_their_tail() {
         assert_eq!(levels(side, &long_greys, &long.serials), sums);
     }
 }
+
+/// Buffers of any length with any content, and any numbers: every call answers, and a refusal changes nothing.
+#[test]
+fn any_lengths_and_any_content() {
+    let bits = maps::generated(5, 500_000);
+    let mut bits = bits.iter().map(|byte| usize::from(*byte));
+    let mut pick = |count: usize| bits.next().unwrap() % count;
+    let numbers = [0, 0, 1, 2, 3, 4, 8, 15, 16, 256, 65_280, 1 << 31, u32::MAX];
+    let residuals = [0, 0, 1, DOT, -DOT, HALF_DOT, 1 << 62, -1 << 62, i64::MAX, i64::MIN];
+    for _ in 0..2_000 {
+        let lengths = [5, 21, 21, 85, 4, 16, 16, 64];
+        let mut buffers = Buffers {
+            pyramid: (0..lengths[pick(4)]).map(|_| residuals[pick(10)]).collect(),
+            serials: (0..lengths[4 + pick(4)]).map(|_| numbers[pick(13)]).collect(),
+            order: (0..lengths[4 + pick(4)]).map(|_| numbers[pick(13)]).collect(),
+        };
+        let before = buffers.clone();
+        let progress = Progress { side: numbers[pick(13)], dots: numbers[pick(13)] };
+        let answer = buffers.advance(progress, numbers[pick(13)]);
+        assert!(answer.status.is_ok() || (buffers == before && answer.progress == progress));
+        let listed = before.drill_list(progress, &mut [0; 2_000]);
+        assert_eq!(listed.is_ok(), answer.status.is_ok());
+        let dots = tally(progress.side, &before.serials, pick(9) as u32, pick(9) as u32, pick(9) as u32);
+        assert!(dots.is_err() || dots.is_ok_and(|dots| dots <= 64));
+        let sums = levels(progress.side, &[255; 64], &before.serials);
+        assert!(sums.is_err() || power(progress.side).is_ok());
+    }
+}

@@ -156,6 +156,10 @@ listP3 = 50 ∷ 44 ∷ 50 ∷ 10 ∷ 49 ∷ 44 ∷ 48 ∷ 44 ∷ 48 ∷ 10 ∷ 5
 unfoldable pub listed : ℕ → DrillListOutcome
 listed n = let held = after 1 p3 (9 ∷ []) in drillListOf (held .progress) (held .pyramid) (held .serials) (held .order) (replicate n 7)
 
+-- Advance on an unburnt sheet of side 2 whose first cell owes w and the others nothing
+unfoldable pub owed : ℕ → Reply
+owed w = advanceOf plain (record { side = 2; dots = 0 }) 9 (pos w ∷ pos w ∷ pos 0 ∷ pos 0 ∷ pos 0 ∷ []) p1 p1 .reply
+
 unfoldable pub furtherPlates : List Row
 furtherPlates =
     -- the map of side 4 run to its end in one call, and in several; its Levels; the same of side 8
@@ -174,8 +178,10 @@ furtherPlates =
     ∷ (23, refuses (levelsOf 2 (0 ∷ []) [] .said) 2 && refuses (levelsOf 2 p1 [] .said) 4 && refuses (listed 15 .said) 8)
     ∷ (24, refuses (mapTextOf (48 ∷ 50 ∷ 10 ∷ []) [] .said) 7 && refuses (mapTextOf (51 ∷ 10 ∷ []) [] .said) 1 && refuses (mapTextOf textP3 (0 ∷ 0 ∷ 0 ∷ []) .said) 2)
     ∷ (25, refuses (mapTextOf (textP3 ++ 10 ∷ []) p1 .said) 7 && same (mapTextOf textP3 (replicate 5 6) .greys) (p3 ++ 6 ∷ []))
+    -- the threshold itself, on a sheet that no Load made: with a top of 32,640 one hole is due, with 32,639 none
+    ∷ (26, replied ((1, finished) ∷ []) (owed 32640 ∷ []) && replied ((0, finished) ∷ []) (owed 32639 ∷ []))
     -- "64 alone on its line gives 2"
-    ∷ (26, same (plateOf (54 ∷ 52 ∷ 10 ∷ [])) (refusedText 2) && same (plateOf (replicate 4100 48)) (refusedText 9))
+    ∷ (27, same (plateOf (54 ∷ 52 ∷ 10 ∷ [])) (refusedText 2) && same (plateOf (replicate 4100 48)) (refusedText 9))
     ∷ []
 
 -- the number of the first row that doesn't hold; 0 if they all do
@@ -184,5 +190,5 @@ firstFailing [] = 0
 firstFailing (row ∷ rows) = elim (row .1) [ true ↦ firstFailing rows | false ↦ row .0 ]
 
 pub plates-hold : firstFailing (plates ++ furtherPlates) ≡ 0
-unfolding sumTo sumZTo allTo tabulateFrom repeated eqZ start placeIn rowAt columnAt levelOf inLevel entry four coarser pyramidOver blockSum blockSumZ greyAt burnt burntAt greySum greyTotal dotsIn allDots candidate firstOfEquals better largest descend plain within onMap weightAt share diffuse topOf modelStart missing placeDot step steps burntNear everyEntry fewDots numbered counted unused summed bounded owing isSound powerUpTo powerOf lowest loadRefusal loaded loadOf dotsDue saidAt sheetIn advanceRefusal advanced advanceOf tallyRefusal tallyOf errorAt squared levelSum levelsRefusal levelsOf digitsUpTo decimal line lineEnds isDigit digitsThen fieldOf rowsText mapText valuesOf readGreys mapTextRefusal readMap mapTextOf dotLines drillText drillListRefusal drillListOf refusedText finishedOf plateOf heldAfterLoad callOf heldAfter outcomesOf heldAfterCalls repliesOf modelRefusal modelCall modelReply modelAfterCalls modelReplies greys4 order4 serials4 pyramid4 levels4 greys8 order8 serials8 pyramid8 levels8 same sameZ saidAs refuses loadedMap callsOf after modelAfter replied answers leaves sharesFrom shares total p1 p2 p3 p6 textP3 listP3 listed plates furtherPlates firstFailing
+unfolding sumTo sumZTo allTo tabulateFrom repeated eqZ start placeIn rowAt columnAt levelOf inLevel entry four coarser pyramidOver blockSum blockSumZ greyAt burnt burntAt greySum greyTotal dotsIn allDots candidate firstOfEquals better largest descend plain within onMap weightAt share diffuse topOf modelStart missing placeDot step steps burntNear everyEntry fewDots numbered counted unused summed bounded owing isSound powerUpTo powerOf lowest loadRefusal loaded loadOf dotsDue saidAt sheetIn advanceRefusal advanced advanceOf tallyRefusal tallyOf errorAt squared levelSum levelsRefusal levelsOf digitsUpTo decimal line lineEnds isDigit digitsThen fieldOf rowsText mapText valuesOf readGreys mapTextRefusal readMap mapTextOf dotLines drillText drillListRefusal drillListOf refusedText finishedOf plateOf heldAfterLoad callOf heldAfter outcomesOf heldAfterCalls repliesOf modelRefusal modelCall modelReply modelAfterCalls modelReplies greys4 order4 serials4 pyramid4 levels4 greys8 order8 serials8 pyramid8 levels8 same sameZ saidAs refuses loadedMap callsOf after modelAfter replied answers leaves sharesFrom shares total p1 p2 p3 p6 textP3 listP3 listed owed plates furtherPlates firstFailing
 plates-hold = refl

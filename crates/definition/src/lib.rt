@@ -1,7 +1,7 @@
 // The values that the public calls are given and answer. What they mean is in specs/: Answers.antt gives document 01's
 // number and values for each case of each enum.
 
-// Document 01's record: the side of the map, and the holes made so far.
+// "The record, passed by value, holds the side and the number of holes made."
 pub struct Progress {
     pub side: u32,
     pub dots: u32,
