@@ -1,5 +1,4 @@
 -- Document 01, "Map Text": the one text of a side and greys; the reader, with its refusals in their order; the call.
-use mathlib.Core.Bool.{Bool, true, false}
 use mathlib.Core.List.{List, [], _∷_, _++_}
 use mathlib.Core.Option.{Option, some, none}
 use Prim.Native.Nat.{ℕ, zero, suc}
@@ -7,7 +6,7 @@ use lib.ListN.{length, take, drop}
 use Rattle.definition.specs.Lists.{repeated}
 use Rattle.definition.specs.Answers.{Said, returned, refused}
 use Rattle.definition.specs.Refusals.{powerOf, sideUnknown, greysShort, lowest}
-use Rattle.definition.specs.Text.{newline, line, lineEnds, Field, field, malformed, fieldOf}
+use Rattle.definition.specs.Text.{newline, line, lineEnds, field, malformed, fieldOf}
 
 -- m lines of n numbers each
 unfoldable pub rowsText : ℕ → ℕ → List ℕ → List ℕ

@@ -1,5 +1,5 @@
 -- Document 01, "One hole" and "The model of a map".
-use mathlib.Core.Bool.{Bool, true, false}
+use mathlib.Core.Bool.{true, false}
 use mathlib.Core.List.{List}
 use Prim.Native.Nat.{ℕ, zero, suc, _*_}
 use lib.ListN.{getD, set, drop, replicate}

@@ -5,8 +5,8 @@ use mathlib.Core.Bool.{Bool, true, false, cond, _&&_}
 use mathlib.Core.List.{List, [], _∷_, _++_, map}
 use Prim.Native.Nat.{ℕ, zero, suc, _+_, _*_, _/_, _^_}
 use lib.Dec.{eqb}
-use lib.ListN.{getD, set, replicate}
-use lib.IntN.{ℤ, pos, negsuc, negℤ, _+ℤ_}
+use lib.ListN.{set, replicate}
+use lib.IntN.{ℤ, pos, negℤ, _+ℤ_}
 use Rattle.definition.specs.Lists.{sumTo, sumZTo, allTo, tabulateFrom, repeated, eqZ}
 use Rattle.definition.specs.Answers.{Said, returned, finished, more, refused}
 use Rattle.definition.specs.Pyramid.{start, needed, cellCount, placeIn, rowAt, columnAt, levelOf, inLevel, entry, four, coarser, pyramidOver}
@@ -160,6 +160,11 @@ listed n = let held = after 1 p3 (9 ∷ []) in drillListOf (held .progress) (hel
 unfoldable pub owed : ℕ → Reply
 owed w = advanceOf plain (record { side = 2; dots = 0 }) 9 (pos w ∷ pos w ∷ pos 0 ∷ pos 0 ∷ pos 0 ∷ []) p1 p1 .reply
 
+-- Advance on a sheet of side 2 with one hole made: these serials and this order; the first two cells owe y and z, the others −1 each; the top is `off` too much
+unfoldable pub altered : ℕ → List ℕ → List ℕ → ℤ → ℤ → Reply
+altered off serials order y z =
+    advanceOf plain (record { side = 2; dots = 1 }) 9 ((y +ℤ z +ℤ minus 2 +ℤ pos off) ∷ y ∷ z ∷ minus 1 ∷ minus 1 ∷ []) serials order .reply
+
 unfoldable pub furtherPlates : List Row
 furtherPlates =
     -- the map of side 4 run to its end in one call, and in several; its Levels; the same of side 8
@@ -180,8 +185,17 @@ furtherPlates =
     ∷ (25, refuses (mapTextOf (textP3 ++ 10 ∷ []) p1 .said) 7 && same (mapTextOf textP3 (replicate 5 6) .greys) (p3 ++ 6 ∷ []))
     -- the threshold itself, on a sheet that no Load made: with a top of 32,640 one hole is due, with 32,639 none
     ∷ (26, replied ((1, finished) ∷ []) (owed 32640 ∷ []) && replied ((0, finished) ∷ []) (owed 32639 ∷ []))
+    -- a sound sheet with one hole; and with one condition broken at a time, each gives 5: order, count, unused places, sums, the two upper bounds, the lower one
+    ∷ (27, replied ((0, finished) ∷ []) (altered 0 (1 ∷ 0 ∷ 0 ∷ 0 ∷ []) (0 ∷ 0 ∷ 0 ∷ 0 ∷ []) (pos 0) (minus 1) ∷ []))
+    ∷ (28, refuses (altered 0 (1 ∷ 0 ∷ 0 ∷ 0 ∷ []) (1 ∷ 0 ∷ 0 ∷ 0 ∷ []) (pos 0) (minus 1) .said) 5)
+    ∷ (29, refuses (altered 0 (1 ∷ 0 ∷ 0 ∷ 5 ∷ []) (0 ∷ 0 ∷ 0 ∷ 0 ∷ []) (pos 0) (minus 1) .said) 5)
+    ∷ (30, refuses (altered 0 (1 ∷ 0 ∷ 0 ∷ 0 ∷ []) (0 ∷ 3 ∷ 0 ∷ 0 ∷ []) (pos 0) (minus 1) .said) 5)
+    ∷ (31, refuses (altered 1 (1 ∷ 0 ∷ 0 ∷ 0 ∷ []) (0 ∷ 0 ∷ 0 ∷ 0 ∷ []) (pos 0) (minus 1) .said) 5)
+    ∷ (32, refuses (altered 0 (1 ∷ 0 ∷ 0 ∷ 0 ∷ []) (0 ∷ 0 ∷ 0 ∷ 0 ∷ []) (pos 0) (pos 65281) .said) 5)
+    ∷ (33, refuses (altered 0 (1 ∷ 0 ∷ 0 ∷ 0 ∷ []) (0 ∷ 0 ∷ 0 ∷ 0 ∷ []) (pos 1) (minus 1) .said) 5)
+    ∷ (34, refuses (altered 0 (1 ∷ 0 ∷ 0 ∷ 0 ∷ []) (0 ∷ 0 ∷ 0 ∷ 0 ∷ []) (pos 0) (minus 65281) .said) 5)
     -- "64 alone on its line gives 2"
-    ∷ (27, same (plateOf (54 ∷ 52 ∷ 10 ∷ [])) (refusedText 2) && same (plateOf (replicate 4100 48)) (refusedText 9))
+    ∷ (35, same (plateOf (54 ∷ 52 ∷ 10 ∷ [])) (refusedText 2) && same (plateOf (replicate 4100 48)) (refusedText 9))
     ∷ []
 
 -- the number of the first row that doesn't hold; 0 if they all do
@@ -190,5 +204,5 @@ firstFailing [] = 0
 firstFailing (row ∷ rows) = elim (row .1) [ true ↦ firstFailing rows | false ↦ row .0 ]
 
 pub plates-hold : firstFailing (plates ++ furtherPlates) ≡ 0
-unfolding sumTo sumZTo allTo tabulateFrom repeated eqZ start placeIn rowAt columnAt levelOf inLevel entry four coarser pyramidOver blockSum blockSumZ greyAt burnt burntAt greySum greyTotal dotsIn allDots candidate firstOfEquals better largest descend plain within onMap weightAt share diffuse topOf modelStart missing placeDot step steps burntNear everyEntry fewDots numbered counted unused summed bounded owing isSound powerUpTo powerOf lowest loadRefusal loaded loadOf dotsDue saidAt sheetIn advanceRefusal advanced advanceOf tallyRefusal tallyOf errorAt squared levelSum levelsRefusal levelsOf digitsUpTo decimal line lineEnds isDigit digitsThen fieldOf rowsText mapText valuesOf readGreys mapTextRefusal readMap mapTextOf dotLines drillText drillListRefusal drillListOf refusedText finishedOf plateOf heldAfterLoad callOf heldAfter outcomesOf heldAfterCalls repliesOf modelRefusal modelCall modelReply modelAfterCalls modelReplies greys4 order4 serials4 pyramid4 levels4 greys8 order8 serials8 pyramid8 levels8 same sameZ saidAs refuses loadedMap callsOf after modelAfter replied answers leaves sharesFrom shares total p1 p2 p3 p6 textP3 listP3 listed owed plates furtherPlates firstFailing
+unfolding sumTo sumZTo allTo tabulateFrom repeated eqZ start placeIn rowAt columnAt levelOf inLevel entry four coarser pyramidOver blockSum blockSumZ greyAt burnt burntAt greySum greyTotal dotsIn allDots candidate firstOfEquals better largest descend plain within onMap weightAt share diffuse topOf modelStart missing placeDot step steps burntNear everyEntry fewDots numbered counted unused summed bounded owing isSound powerUpTo powerOf lowest loadRefusal loaded loadOf dotsDue saidAt sheetIn advanceRefusal advanced advanceOf tallyRefusal tallyOf errorAt squared levelSum levelsRefusal levelsOf digitsUpTo decimal line lineEnds isDigit digitsThen fieldOf rowsText mapText valuesOf readGreys mapTextRefusal readMap mapTextOf dotLines drillText drillListRefusal drillListOf refusedText finishedOf plateOf heldAfterLoad callOf heldAfter outcomesOf heldAfterCalls repliesOf modelRefusal modelCall modelReply modelAfterCalls modelReplies greys4 order4 serials4 pyramid4 levels4 greys8 order8 serials8 pyramid8 levels8 same sameZ saidAs refuses loadedMap callsOf after modelAfter replied answers leaves sharesFrom shares total p1 p2 p3 p6 textP3 listP3 listed owed altered plates furtherPlates firstFailing
 plates-hold = refl

@@ -1,1 +1,8 @@
 pub mod Demand3
+pub mod Panels
+pub mod Lent
+pub mod Start
+pub mod OneCall
+pub mod ManyCalls
+pub mod Theorem
+pub mod Example

@@ -1,1 +1,1 @@
-// No code: what is promised of every list of calls is in specs/.
+// No code: the promise about every list of calls, and its proof, are in specs/.

@@ -1,0 +1,4 @@
+pub mod Decimal
+pub mod Fields
+pub mod Lines
+pub mod Grammar

@@ -1,0 +1,52 @@
+-- An instance of demand 3, so that it is seen to speak of something: P3, side 2 and greys 128, with budgets 0, 1, 1 and, after the first of them, a call
+-- that is lent a pyramid of four places, one too few. The buffers are one place longer than needed.
+use mathlib.Core.Path.{_≡_, refl}
+use mathlib.Core.List.{List, [], _∷_}
+use Prim.Native.Nat.{ℕ}
+use native.Mathlib.Omega.{arith}
+use lib.ListN.{replicate}
+use lib.IntN.{ℤ, pos}
+use Rattle.definition.specs.Lists.{sumTo, allTo, tabulateFrom, eqZ}
+use Rattle.definition.specs.Answers.{Said, finished, more, refused}
+use Rattle.definition.specs.Pyramid.{start, placeIn, rowAt, columnAt, levelOf, inLevel, entry, four, coarser, pyramidOver}
+use Rattle.definition.specs.Blocks.{greyAt, burnt, burntAt}
+use Rattle.definition.specs.Descent.{candidate, firstOfEquals, better, largest, descend}
+use Rattle.definition.specs.Diffusion.{plain, within, onMap, weightAt, share, diffuse}
+use Rattle.definition.specs.Model.{topOf, modelStart, missing, placeDot, step, steps}
+use Rattle.definition.specs.Sound.{burntNear, everyEntry, fewDots, numbered, counted, unused, summed, bounded, owing, isSound}
+use Rattle.definition.specs.Refusals.{powerUpTo, powerOf, lowest}
+use Rattle.definition.specs.Load.{loadRefusal, loaded, loadOf}
+use Rattle.definition.specs.Advance.{Reply, dotsDue, saidAt, sheetIn, advanceRefusal, advanced, advanceOf}
+use Rattle.definition.specs.Calls.{Call, heldAfterLoad, callOf, heldAfter, outcomesOf, repliesOf}
+use Rattle.guarantee.specs.Demand3.{Accepted, Demand3}
+use Rattle.guarantee.specs.Theorem.{demand-3}
+
+abbrev greys : List ℕ
+greys = 128 ∷ 128 ∷ 128 ∷ 128 ∷ []
+
+abbrev pyramid : List ℤ
+pyramid = replicate 6 (pos 9)
+
+abbrev sheet : List ℕ
+sheet = replicate 5 9
+
+abbrev call : ℕ → ℕ → Call
+call budget lent = record { budget = budget; pyramidLent = lent; serialsLent = 5; orderLent = 5 }
+
+abbrev calls : List Call
+calls = call 0 6 ∷ call 1 4 ∷ call 1 6 ∷ call 1 5 ∷ []
+
+accepted : Accepted 2 greys pyramid sheet sheet
+unfolding loadOf loadRefusal loaded lowest powerOf powerUpTo start
+accepted = record { bytes = (omega arith, (omega arith, (omega arith, (omega arith, tt)))); said = refl }
+
+pub holds-here : Demand3 plain 2 greys pyramid sheet sheet calls
+holds-here = demand-3 2 greys pyramid sheet sheet accepted calls
+
+-- what the calls reply, by computing: more; refused, 3; more; finished
+abbrev reply : ℕ → ℕ → Said → Reply
+reply dots made said = record { progress = record { side = 2; dots = dots }; made = made; said = said }
+
+pub replies-here : repliesOf plain (heldAfterLoad 2 greys pyramid sheet sheet) calls ≡ reply 0 0 more ∷ reply 0 0 (refused 3) ∷ reply 1 1 more ∷ reply 2 1 finished ∷ []
+unfolding sumTo allTo tabulateFrom eqZ start placeIn rowAt columnAt levelOf inLevel entry four coarser pyramidOver greyAt burnt burntAt candidate firstOfEquals better largest descend plain within onMap weightAt share diffuse topOf modelStart missing placeDot step steps burntNear everyEntry fewDots numbered counted unused summed bounded owing isSound powerUpTo powerOf lowest loadRefusal loaded loadOf dotsDue saidAt sheetIn advanceRefusal advanced advanceOf heldAfterLoad callOf heldAfter outcomesOf repliesOf
+replies-here = refl

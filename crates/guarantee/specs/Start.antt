@@ -1,0 +1,150 @@
+-- The model's start, on greys that are bytes: a sound sheet, with every square's cap and the total. And what an accepted Load leaves is that start.
+use mathlib.Core.Path.{_≡_, refl, ap, _∙_}
+use mathlib.Core.List.{List, [], _∷_, _++_}
+use Prim.Native.Nat.{ℕ, zero, suc, _+_, _*_, _^_, _≤_, _<_}
+use native.Mathlib.Omega.{arith}
+use native.Mathlib.Nat.{zero-mul}
+use lib.ListN.{length, getD, drop, length-replicate}
+use lib.IntN.{ℤ, pos}
+use Rattle.definition.specs.Answers.{refused}
+use Rattle.definition.specs.Pyramid.{cellCount, cellNumber, needed, levelOf, entry}
+use Rattle.definition.specs.Blocks.{greyAt, burnt, burntAt, greySum, greyTotal}
+use Rattle.definition.specs.Model.{Halftone, modelStart}
+use Rattle.definition.specs.Sound.{Sound}
+use Rattle.definition.specs.Refusals.{powerOf}
+use Rattle.definition.specs.Load.{loadRefusal, loaded, loadOf}
+use Rattle.definition.specs.Calls.{heldAfterLoad}
+use Rattle.integers.specs.Linear.{zz, ints}
+use Rattle.integers.specs.Lists.{getD-replicate-self}
+use Rattle.integers.specs.Sums.{sumTo-zero}
+use Rattle.refusals.specs.Powers.{side-pow}
+use Rattle.refusals.specs.Lowest.{LoadLent, load-none}
+use Rattle.quadtree.specs.Areas.{area, area-ext, area-mul, area-zero, block-area}
+use Rattle.quadtree.specs.Residues.{areaZ, areaZ-ext, areaZ-pos}
+use Rattle.quadtree.specs.Levels.{block-side}
+use Rattle.quadtree.specs.Pyramids.{length-level, level-entry, length-pyramid, pyramid-cells, pyramid-summed}
+use Rattle.dots.specs.Placing.{Sized}
+use Rattle.dots.specs.Kept.{sound-summed}
+use Rattle.dots.specs.Steps.{Sheet, top-area}
+use Rattle.guarantee.specs.Demand3.{Each, Accepted}
+use Rattle.guarantee.specs.Panels.{Panels}
+use Rattle.guarantee.specs.Lent.{heldOf}
+
+-- what holds of each element holds at each place, where it holds of the default
+pub each-getD : {A : Type 0} (P : A → Type 0) (l : List A) (d : A) → P d → Each P l → (i : ℕ) → P (getD l i d)
+each-getD P [] d z h i = z
+each-getD P (x ∷ xs) d z h zero = h .0
+each-getD P (x ∷ xs) d z h (suc i) = each-getD P xs d z (h .1) i
+
+-- the sum of all greys, as a sum over the map
+pub total-area : (r : ℕ) (greys : List ℕ) → greyTotal r greys ≡ area 0 0 (2 ^ r) (greyAt r greys)
+unfolding greyTotal greySum
+total-area r greys = block-area r (greyAt r greys) 0 0 0 ∙ rw (block-side r r 0 (omega arith), zero-mul)
+
+module _ (r : ℕ) (greys : List ℕ) (bytes : Each (λ grey. grey ≤ 255) greys) where
+  abbrev fresh : Halftone
+  fresh = modelStart r greys
+
+  abbrev cells : List ℤ
+  cells = levelOf r (λ row column. pos (256 * greyAt r greys row column))
+
+  fresh-entry : (x y : ℕ) → x < 2 ^ r → y < 2 ^ r → entry (fresh .pyramid) r x y ≡ pos (256 * greyAt r greys x y)
+  unfolding modelStart
+  fresh-entry x y p q = pyramid-cells r cells x y ∙ level-entry r (λ row column. pos (256 * greyAt r greys row column)) x y p q
+
+  fresh-burnt : (x y : ℕ) → burntAt r (fresh .serials) x y ≡ 0
+  unfolding modelStart burntAt burnt
+  fresh-burnt x y = ap burnt (getD-replicate-self (cellCount r) (cellNumber r x y) 0)
+
+  grey-le : (x y : ℕ) → greyAt r greys x y ≤ 255
+  unfolding greyAt
+  grey-le x y = each-getD (λ grey. grey ≤ 255) greys 0 (omega arith) bytes (cellNumber r x y)
+
+  start-sized : Sized r fresh
+  unfolding modelStart
+  start-sized =
+      record {
+        pyramid = length-pyramid r cells (length-level r (λ row column. pos (256 * greyAt r greys row column)));
+        serials = length-replicate (cellCount r) 0;
+        order = length-replicate (cellCount r) 0;
+      }
+
+  start-sound : Sound r fresh
+  unfolding modelStart burnt
+  start-sound =
+      record {
+        few-dots = omega arith;
+        in-order = λ j h k. absurd (omega arith);
+        count = sumTo-zero (cellCount r) _ (λ m k. ap burnt (getD-replicate-self (cellCount r) m 0));
+        unused-zero = λ m h k. getD-replicate-self (cellCount r) m 0;
+        sums = pyramid-summed r cells .sums;
+        at-most = λ x y p q. rw (fresh-entry x y p q) (omega (ints, grey-le x y));
+        burnt-at-most = λ x y p q e. absurd (omega (arith, fresh-burnt x y, e));
+        at-least = λ x y p q. rw (fresh-entry x y p q) (simp zz (omega arith));
+      }
+
+  pub start-sheet : Sheet r fresh
+  start-sheet = record { sized = start-sized; sound = start-sound }
+
+  -- no cell is burnt, and the residuals are 256 × grey
+  fresh-residue : (p q n : ℕ) → p + n ≤ 2 ^ r → q + n ≤ 2 ^ r → areaZ p q n (entry (fresh .pyramid) r) ≡ pos (256 * area p q n (greyAt r greys))
+  fresh-residue p q n low wide =
+      areaZ-ext p q n _ (λ x y. pos (256 * greyAt r greys x y)) (λ x y i j. fresh-entry x y (omega arith) (omega arith))
+      ∙ areaZ-pos p q n (λ x y. 256 * greyAt r greys x y)
+      ∙ ap pos (area-mul p q n 256 (greyAt r greys))
+
+  fresh-area : (p q n : ℕ) → area p q n (burntAt r (fresh .serials)) ≡ 0
+  fresh-area p q n = area-ext p q n _ (λ x y. 0) (λ x y i j. fresh-burnt x y) ∙ area-zero p q n
+
+  start-dots : fresh .dots ≡ 0
+  unfolding modelStart
+  start-dots = refl
+
+  pub start-panels : Panels r greys fresh
+  start-panels =
+      record {
+        flow = λ p q n low wide. rw (fresh-residue p q n low wide, fresh-area p q n) (simp zz (omega arith));
+        cap = λ j k a b e u v. omega (arith, fresh-area (a * 2 ^ j) (b * 2 ^ j) (2 ^ j));
+        total =
+            rw (start-dots, top-area r (fresh .pyramid) (sound-summed start-sound), fresh-residue 0 0 (2 ^ r) (omega arith) (omega arith), total-area r greys)
+            (simp zz (omega arith));
+      }
+
+-- ---- Load
+-- what an accepted Load was lent
+pub record Loaded (side : ℕ) (greys : List ℕ) (pyramid : List ℤ) (serials order : List ℕ) : Type 0 where
+  pub none : loadRefusal (powerOf side) (length greys) (length pyramid) (length serials) (length order) ≡ 0
+  pub lent : LoadLent (powerOf side) (length greys) (length pyramid) (length serials) (length order)
+  pub side-is : side ≡ 2 ^ powerOf side
+
+module _ (side : ℕ) (greys : List ℕ) (pyramid : List ℤ) (serials order : List ℕ) where
+  abbrev refusal : ℕ
+  refusal = loadRefusal (powerOf side) (length greys) (length pyramid) (length serials) (length order)
+
+  pub accepted-loaded : Accepted side greys pyramid serials order → Loaded side greys pyramid serials order
+  accepted-loaded h =
+      let z = go refusal refl in
+      let l = load-none (powerOf side) (length greys) (length pyramid) (length serials) (length order) .0 z in
+      record { none = z; lent = l; side-is = side-pow side (l .power) }
+    where
+      said-no : (n : ℕ) → refusal ≡ suc n → loadOf side greys pyramid serials order .said ≡ refused (suc n)
+      said-no n e = unfold loadOf in rw (e, loadOf)
+
+      go : (k : ℕ) → refusal ≡ k → refusal ≡ 0
+      go zero e = e
+      go (suc n) e = let s = said-no n e in let t = h .said in let z : _≡_ {A = ℕ} 0 1 = cc in absurd (omega arith)
+
+  -- it leaves the model's start in front of what lay past the needed lengths
+  pub loaded-held : Loaded side greys pyramid serials order → heldAfterLoad side greys pyramid serials order
+      ≡ heldOf (powerOf side) (modelStart (powerOf side) greys) (drop (needed (powerOf side)) pyramid) (drop (cellCount (powerOf side)) serials) (drop (cellCount (powerOf side)) order)
+  unfolding heldAfterLoad loadOf loaded modelStart
+  loaded-held h =
+      let fresh = modelStart (powerOf side) greys in
+      rw (h .none, loadOf)
+      (λ i.
+      record {
+        progress = record { side = h .side-is i; dots = 0 };
+        pyramid = fresh .pyramid ++ drop (needed (powerOf side)) pyramid;
+        serials = fresh .serials ++ drop (cellCount (powerOf side)) serials;
+        order = fresh .order ++ drop (cellCount (powerOf side)) order;
+      })

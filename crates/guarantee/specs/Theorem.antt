@@ -1,0 +1,185 @@
+-- Demand 3, for every list of calls after an accepted Load.
+use mathlib.Core.Path.{_≡_, refl, sym, ap, _∙_}
+use mathlib.Core.Logic.{_≢_, _↔_}
+use mathlib.Core.Bool.{false}
+use mathlib.Core.List.{List, [], _∷_, _++_}
+use Prim.Native.Nat.{ℕ, _+_, _*_, _-_, _^_, _≤_, _<_}
+use native.Mathlib.Omega.{arith}
+use native.Mathlib.Nat.{zero-mul, zero-add, add-sub-cancel}
+use lib.Pow.{pow-mono}
+use lib.ListN.{getD, drop, List·getD-append}
+use lib.Seq.{take-at, drop-at}
+use lib.IntN.{ℤ, pos}
+use Rattle.definition.specs.Lists.{sumTo}
+use Rattle.definition.specs.Answers.{finished}
+use Rattle.definition.specs.Pyramid.{cellCount, cellNumber, needed}
+use Rattle.definition.specs.Blocks.{greyAt, burnt, burntAt, greySum, greyTotal, dotsIn, allDots}
+use Rattle.definition.specs.Diffusion.{Kernel, plain}
+use Rattle.definition.specs.Model.{Halftone, topOf, modelStart}
+use Rattle.definition.specs.Refusals.{powerOf}
+use Rattle.definition.specs.Advance.{dotsDue}
+use Rattle.definition.specs.Calls.{Call, callOf, outcomesOf, repliesOf, modelCall, modelReply, modelAfterCalls, modelReplies, isRefusal}
+use Rattle.integers.specs.Linear.{zz, ints, up-or-dn}
+use Rattle.integers.specs.Sums.{sumTo-rows, sumTo-ext}
+use Rattle.quadtree.specs.Areas.{span, area, area-ext, block-area}
+use Rattle.quadtree.specs.Levels.{start-suc, cell-lt, block-side, block-on-map}
+use Rattle.shares.specs.Kernels.{Fit, plain-fit}
+use Rattle.dots.specs.Steps.{Sheet, due-is, steps-keep}
+use Rattle.guarantee.specs.Demand3.{Each, Accepted, totalOf, Ends, Holds, Demand3}
+use Rattle.guarantee.specs.Panels.{Panels, panels-kept}
+use Rattle.guarantee.specs.Start.{start-sheet, start-panels, accepted-loaded, loaded-held}
+use Rattle.guarantee.specs.Lent.{heldOf}
+use Rattle.guarantee.specs.OneCall.{call-same, held-same}
+use Rattle.guarantee.specs.ManyCalls.{call-sheet, calls-sheet, calls-keep, calls-held, calls-replies, calls-number, calls-first, reply-finished, call-due}
+
+-- ---- dots and greys of a block, on a sheet in front of what isn't its own
+module _ (r : ℕ) (t : Halftone) (sheet : Sheet r t) (s : List ℕ) where
+  burnt-front : (x y : ℕ) → x < 2 ^ r → y < 2 ^ r → burntAt r (t .serials ++ s) x y ≡ burntAt r (t .serials) x y
+  unfolding burntAt
+  burnt-front x y p q = ap burnt (List·getD-append (t .serials) s 0 (cellNumber r x y) (omega (arith, sheet .sized .serials, cell-lt (2 ^ r) x y p q)))
+
+  dots-area : (j k a b : ℕ) → j + k ≡ r → a < 2 ^ k → b < 2 ^ k → dotsIn r (t .serials ++ s) k a b ≡ area (a * 2 ^ j) (b * 2 ^ j) (2 ^ j) (burntAt r (t .serials))
+  unfolding dotsIn
+  dots-area j k a b e u v =
+      block-area r (burntAt r (t .serials ++ s)) k a b
+      ∙ rw (block-side r j k e)
+      (area-ext (a * 2 ^ j) (b * 2 ^ j) (2 ^ j) _ _ (λ x y m n. burnt-front x y (omega (arith, block-on-map r j k a e u)) (omega (arith, block-on-map r j k b e v))))
+
+  -- all dots are as many as the sheet says
+  map-area : (f : ℕ → ℕ) → area 0 0 (2 ^ r) (λ x y. f (cellNumber r x y)) ≡ sumTo (cellCount r) f
+  unfolding area span
+  map-area f = sumTo-ext (2 ^ r) _ _ (λ x. sumTo-ext (2 ^ r) _ _ (λ y. simp zero-add)) ∙ sym (sumTo-rows (2 ^ r) (2 ^ r) f)
+
+  pub all-dots-is : allDots r (t .serials ++ s) ≡ t .dots
+  unfolding allDots
+  all-dots-is = dots-area r 0 0 0 (omega arith) (omega arith) (omega arith) ∙ rw zero-mul (all-area ∙ sheet .sound .count)
+    where
+      all-area : area 0 0 (2 ^ r) (burntAt r (t .serials)) ≡ sumTo (cellCount r) (λ i. burnt (getD (t .serials) i 0))
+      all-area = unfold burntAt in map-area (λ i. burnt (getD (t .serials) i 0))
+
+grey-area : (r : ℕ) (greys : List ℕ) (j k a b : ℕ) → j + k ≡ r → greySum r greys k a b ≡ area (a * 2 ^ j) (b * 2 ^ j) (2 ^ j) (greyAt r greys)
+unfolding greySum
+grey-area r greys j k a b e = block-area r (greyAt r greys) k a b ∙ rw (block-side r j k e)
+
+module _ (kernel : Kernel) (fit : Fit kernel) (r : ℕ) (big : 2 ≤ 2 ^ r) (power : powerOf (2 ^ r) ≡ r) (greys : List ℕ) (bytes : Each (λ grey. grey ≤ 255) greys) where
+  abbrev fresh : Halftone
+  fresh = modelStart r greys
+
+  abbrev total : ℕ
+  total = totalOf (greyTotal r greys)
+
+  no-dots : fresh .dots ≡ 0
+  unfolding modelStart
+  no-dots = refl
+
+  -- at the start, the dots due are the total
+  start-due : fresh .dots + dotsDue (topOf (fresh .pyramid)) ≡ total
+  start-due =
+      let t = topOf (fresh .pyramid) in
+      let h = start-panels r greys bytes .total in
+      omega (ints, due-is t, up-or-dn t, no-dots, simp zz at h)
+
+  -- ---- each call says finished exactly if all dots are made
+  ends-one : (p : List ℤ) (s o : List ℕ) (t : Halftone) → Sheet r t → (c : Call) → t .dots + dotsDue (topOf (t .pyramid)) ≡ total → Ends r total (callOf kernel (heldOf r t p s o) c)
+  ends-one p s o t sheet c h = rw (call-same kernel fit r big power t sheet p s o c) ends
+    where
+      after : Halftone
+      after = modelCall kernel r t c
+
+      made : allDots r (modelCall kernel r t c .serials ++ s) ≡ modelCall kernel r t c .dots
+      made = all-dots-is r (modelCall kernel r t c) (call-sheet kernel fit r big power t sheet c) s
+
+      ends : isRefusal (modelReply kernel r t c .said) ≡ false → (modelReply kernel r t c .said ≡ finished) ↔ (allDots r (modelCall kernel r t c .serials ++ s) ≡ total)
+      ends e =
+          let f = reply-finished kernel fit r big power t sheet c e in
+          let d = call-due kernel fit r big power t sheet c in
+          ((λ x. omega (arith, f .0 x, d, made)), (λ x. f .1 (omega (arith, d, made))))
+
+  ends-all : (p : List ℤ) (s o : List ℕ) (cs : List Call) (t : Halftone) → Sheet r t → t .dots + dotsDue (topOf (t .pyramid)) ≡ total → Each (Ends r total) (outcomesOf kernel (heldOf r t p s o) cs)
+  unfolding outcomesOf
+  ends-all p s o [] t sheet h = tt
+  ends-all p s o (c ∷ cs) t sheet h = (
+    ends-one p s o t sheet c h,
+    rw (held-same kernel fit r big power t sheet p s o c)
+        (ends-all p s o cs (modelCall kernel r t c) (call-sheet kernel fit r big power t sheet c) (call-due kernel fit r big power t sheet c ∙ h)),
+  )
+
+  module _ (cs : List Call) (lentPyramid : List ℤ) (lentSerials lentOrder : List ℕ) where
+    abbrev last : Halftone
+    last = modelAfterCalls kernel r fresh cs
+
+    sheet : Sheet r last
+    sheet = calls-sheet kernel fit r big power cs fresh (start-sheet r greys bytes)
+
+    panels : Panels r greys last
+    panels =
+        calls-keep kernel fit r big power (Panels r greys)
+        (λ n t sheet h. steps-keep kernel fit r big (Panels r greys) (λ u sheet due k. panels-kept kernel fit r big greys u sheet due k) n t sheet h) cs fresh (start-sheet r greys bytes) (start-panels r greys bytes)
+
+    abbrev p : List ℤ
+    p = drop (needed r) lentPyramid
+
+    abbrev s : List ℕ
+    s = drop (cellCount r) lentSerials
+
+    abbrev o : List ℕ
+    o = drop (cellCount r) lentOrder
+
+    at-order : (i : ℕ) → i < last .dots → getD (last .order ++ o) i 0 ≡ getD (last .order) i 0
+    at-order i h = List·getD-append (last .order) o 0 i (omega (arith, sheet .sized .order, sheet .sound .few-dots))
+
+    at-top : topOf (last .pyramid ++ p) ≡ topOf (last .pyramid)
+    unfolding topOf
+    at-top = List·getD-append (last .pyramid) p (pos 0) 0 (omega (arith, sheet .sized .pyramid, start-suc r, cell-lt (2 ^ r) 0 0 (omega arith) (omega arith)))
+
+    -- two places of the order list have two serials
+    different : (i j : ℕ) → i < j → j < last .dots → getD (last .order) i 0 ≢ getD (last .order) j 0
+    different i j h k e =
+        let a = sheet .sound .in-order (i + 1) (omega arith) (omega arith) .1 in
+        let b = sheet .sound .in-order (j + 1) (omega arith) (omega arith) .1 in
+        omega (arith, rw (add-sub-cancel i 1) at a, rw (add-sub-cancel j 1) at b, ap (λ (c : ℕ). getD (last .serials) c 0) e)
+
+    pub holds : Holds kernel r (greyTotal r greys) greys lentPyramid lentSerials lentOrder cs (heldOf r last p s o) (outcomesOf kernel (heldOf r fresh p s o) cs) (repliesOf kernel (heldOf r fresh p s o) cs) last (modelReplies kernel r fresh cs)
+    holds =
+        record {
+          pyramid = take-at (last .pyramid) p (needed r) (sheet .sized .pyramid);
+          serials = take-at (last .serials) s (cellCount r) (sheet .sized .serials);
+          order = take-at (last .order) o (cellCount r) (sheet .sized .order);
+          progress = refl;
+          answered = calls-replies kernel fit r big power p s o cs fresh (start-sheet r greys bytes);
+          pyramid-rest = drop-at (last .pyramid) p (needed r) (sheet .sized .pyramid);
+          serials-rest = drop-at (last .serials) s (cellCount r) (sheet .sized .serials);
+          order-rest = drop-at (last .order) o (cellCount r) (sheet .sized .order);
+          first-dots = calls-first kernel fit r big power cs fresh (start-sheet r greys bytes) no-dots;
+          all-dots = all-dots-is r last sheet s;
+          number =
+              rw (calls-replies kernel fit r big power p s o cs fresh (start-sheet r greys bytes))
+              (omega (arith, calls-number kernel fit r big power cs fresh (start-sheet r greys bytes), no-dots, start-due));
+          once = λ i j h k e. different i j h k (sym (at-order i (omega arith)) ∙ e ∙ at-order j k);
+          cap = λ k a b h u v.
+              omega (
+                arith,
+                dots-area r last sheet s (r - k) k a b (omega arith) u v,
+                grey-area r greys (r - k) k a b (omega arith),
+                block-side r (r - k) k (omega arith),
+                panels .cap (r - k) k a b (omega arith) u v,
+              );
+          debt = rw at-top (panels .total);
+          ends = ends-all p s o cs fresh (start-sheet r greys bytes) start-due;
+        }
+
+-- Demand 3, for every table of weights that is fit ..
+pub demand-3-for : (kernel : Kernel) → Fit kernel → (side : ℕ) (greys : List ℕ) (pyramid : List ℤ) (serials order : List ℕ)
+    → Accepted side greys pyramid serials order → (calls : List Call) → Demand3 kernel side greys pyramid serials order calls
+demand-3-for kernel fit side greys pyramid serials order accepted calls =
+    let h = accepted-loaded side greys pyramid serials order accepted in
+    let r = powerOf side in
+    let big : 2 ≤ 2 ^ r = pow-mono {i = 1} {j = r} (h .lent .power) in
+    let power : powerOf (2 ^ r) ≡ r = ap powerOf (sym (h .side-is)) in
+    rw (loaded-held side greys pyramid serials order h, calls-held kernel fit r big power (drop (needed r) pyramid) (drop (cellCount r) serials) (drop (cellCount r) order) calls (modelStart r greys) (start-sheet r greys (accepted .bytes)))
+    (holds kernel fit r big power greys (accepted .bytes) calls pyramid serials order)
+
+-- .. and so for document 01's
+pub demand-3 : (side : ℕ) (greys : List ℕ) (pyramid : List ℤ) (serials order : List ℕ)
+    → Accepted side greys pyramid serials order → (calls : List Call) → Demand3 plain side greys pyramid serials order calls
+demand-3 = demand-3-for plain plain-fit

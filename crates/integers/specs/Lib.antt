@@ -1,0 +1,5 @@
+pub mod Tests
+pub mod Linear
+pub mod Sums
+pub mod Lists
+pub mod Machine

@@ -1,0 +1,7 @@
+pub mod Areas
+pub mod Points
+pub mod Sides
+pub mod Residues
+pub mod Levels
+pub mod Pyramids
+pub mod Guidance

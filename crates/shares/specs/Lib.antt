@@ -1,0 +1,4 @@
+pub mod Shares
+pub mod Kernels
+pub mod Neighbours
+pub mod Outflow
