@@ -16,6 +16,7 @@ mod pyramid;
 mod run;
 mod shape;
 mod sound;
+mod survey_cases;
 
 pub mod maps;
 pub mod stored;

@@ -8,6 +8,7 @@ use crate::maps::{generated, named, NAMES};
 use crate::measures::levels;
 use crate::run::run;
 use crate::shape::SIDES;
+use crate::survey_cases;
 
 /// "Larger maps are run against a reference in another language and the outputs matched." All stored files, each
 /// with its path from the top of the repository.
@@ -18,6 +19,9 @@ pub fn files() -> Result<Vec<(String, Vec<u8>)>, Refusal> {
     }
     let expected = "crates/definition/specs/Expected.antt".to_string();
     files.push((expected, expected_values()?.into_bytes()));
+    let (input, output) = survey_cases::input_and_output()?;
+    files.push(("crates/panel_survey/stdin".to_string(), input.into_bytes()));
+    files.push(("crates/panel_survey/stdout".to_string(), output.into_bytes()));
     Ok(files)
 }
 

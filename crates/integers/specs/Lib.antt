@@ -3,3 +3,4 @@ pub mod Linear
 pub mod Sums
 pub mod Lists
 pub mod Machine
+pub mod Fill

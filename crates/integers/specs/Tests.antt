@@ -3,7 +3,7 @@
 -- and `b ≡ false`. The kit has `T-not`, `not-T`, `leb→le` and the like in lib.Dec, `ltb-true`, `lt-ltb` and the like in borrow.Author.Tests.
 use mathlib.Core.Path.{_≡_, refl, ap}
 use mathlib.Core.Logic.{_≢_, _⊎_, inl, inr}
-use mathlib.Core.Bool.{Bool, true, false, not, cond, _&&_, _||_}
+use mathlib.Core.Bool.{Bool, true, false, true≢false, not, cond, _&&_, _||_}
 use Prim.Native.Nat.{ℕ, zero, suc, _+_, _*_, _≤_, _<_, _^_}
 use native.Mathlib.Decide.{ℕ-discrete}
 use native.Mathlib.Omega.{arith}
@@ -48,6 +48,10 @@ and-T false b s t = s
 pub T-or : (a b : Bool) → T (a || b) → T a ⊎ T b
 T-or true b t = inl tt
 T-or false b t = inr t
+
+pub or-false : (a b : Bool) → (a || b) ≡ false → (a ≡ false) × (b ≡ false)
+or-false true b e = let z : true ≡ false = e in absurd (true≢false z)
+or-false false b e = (refl, e)
 
 pub or-T : (a b : Bool) → T a ⊎ T b → T (a || b)
 or-T true b s = tt

@@ -1,2 +1,3 @@
 pub mod Powers
 pub mod Lowest
+pub mod Numbers

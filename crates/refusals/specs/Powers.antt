@@ -39,20 +39,34 @@ pub powerOf-pow : (r : ℕ) → 0 < r → r ≤ 8 → powerOf (2 ^ r) ≡ r
 unfolding powerOf
 powerOf-pow r p h = powerUpTo-pow 8 r p h
 
+-- no power is above 8
+powerUpTo-most : (k side : ℕ) → powerUpTo k side ≤ k
+unfolding powerUpTo
+powerUpTo-most zero side = omega arith
+powerUpTo-most (suc k) side =
+    elim (ℕ-discrete side (2 ^ suc k)) [
+      | yes h ↦ omega (arith, powerUpTo-here k side h)
+      | no h ↦ omega (arith, powerUpTo-below k side h, powerUpTo-most k side)
+    ]
+
+pub powerOf-small : (side : ℕ) → powerOf side ≤ 8
+unfolding powerOf
+powerOf-small side = powerUpTo-most 8 side
+
+-- what the code has worked out for it
+pub power-small : (side : ℕ) {r : ℕ} → r ≡ powerOf side → r ≤ 8
+power-small side e = rw e (powerOf-small side)
+
 module _ (side : ℕ) (one-of-eight : 0 < powerOf side) where
   pub side-pow : side ≡ 2 ^ powerOf side
   unfolding powerOf
   side-pow = powerUpTo-power 8 side (powerOf side) refl one-of-eight .0
 
-  pub powerOf-most : powerOf side ≤ 8
-  unfolding powerOf
-  powerOf-most = powerUpTo-power 8 side (powerOf side) refl one-of-eight .1
-
   pub side-positive : 0 < side
   side-positive = omega (arith, side-pow, pow-pos (powerOf side))
 
   pub side-most : side ≤ 256
-  side-most = omega (arith, side-pow, pow-mono powerOf-most)
+  side-most = omega (arith, side-pow, pow-mono (powerOf-small side))
 
   pub cellCount-side : cellCount (powerOf side) ≡ side * side
   cellCount-side = rw (← side-pow)

@@ -1,0 +1,84 @@
+-- One level filled from the next finer one.
+use mathlib.Core.Path.{_≡_, refl, sym, ap, ap₂, _∙_}
+use mathlib.Core.List.{List, _++_}
+use Prim.Native.Nat.{ℕ, suc, _+_, _*_, _/_, _%_, _^_, _≤_, _<_}
+use native.Mathlib.Omega.{arith}
+use native.Mathlib.Nat.{div-lt-iff-lt-mul, mod-lt, mul-le-mul-right, add-mul, add-assoc, pow-succ'}
+use lib.ListN.{length, getD, drop}
+use lib.Seq.{getD-drop}
+use lib.IntN.{ℤ, pos, _+ℤ_}
+use Rattle.definition.specs.Pyramid.{placeIn, rowAt, columnAt, levelOf, inLevel, four, coarser}
+use Rattle.integers.specs.Fill.{filled, length-filled, filled-past}
+use Rattle.integers.specs.Lists.{tabulate-ext}
+use Rattle.pyramid.specs.Asked.{fourAt, fourPlace, parentOf, levelFilled, FourAsked, LevelAsked}
+
+module _ (part : List ℤ) (side : ℕ) (h : LevelAsked part side) (i : ℕ) (lt : i < side * side) where
+  -- the four below place i lie in the next level
+  pub four-inside : (i / side < side) × (2 * (i / side) * (2 * side) + 2 * (i % side) + 2 * side + 1 < 2 * side * (2 * side))
+  four-inside =
+      let a : i / side < side = div-lt-iff-lt-mul (h .some) .1 lt in
+      let b : i % side < side = mod-lt i (h .some) in
+      (a, omega (arith, mul-le-mul-right (2 * side) (double (i / side) side a), add-mul (2 * (i / side)) 2 (2 * side)))
+    where
+      double : (a s : ℕ) → a < s → 2 * a + 2 ≤ 2 * s
+      double a s q = omega arith
+
+  pub four-asked : FourAsked part (fourPlace side i) (2 * side)
+  unfolding fourPlace
+  four-asked =
+      let k = four-inside .1 in
+      let x = 2 * (i / side) * (2 * side) + 2 * (i % side) in
+      record {
+        room = omega (arith, h .whole);
+        first = h .small x;
+        second = rw (add-assoc (side * side) x 1) (h .small (x + 1));
+        third = rw (add-assoc (side * side) x (2 * side)) (h .small (x + 2 * side));
+        fourth = rw (add-assoc (side * side) x (2 * side), add-assoc (side * side) (x + 2 * side) 1) (h .small (x + 2 * side + 1));
+      }
+
+pub asked-side : {part : List ℤ} {n side : ℕ} → side ≡ n → LevelAsked part n → LevelAsked part side
+asked-side e h = rw e h
+
+-- a place of the first level is one of the part's, however far it is filled
+pub in-filled : (part : List ℤ) (side : ℕ) → LevelAsked part side → (f : ℕ → ℤ) (n : ℕ) → n < side * side → n < length (filled f n part)
+in-filled part side h f n lt = omega (arith, h .whole, length-filled f n part (omega (arith, h .whole)))
+
+-- what is stored in the first level is not read for it
+module _ (part : List ℤ) (side : ℕ) (h : LevelAsked part side) (f : ℕ → ℤ) (n : ℕ) (le : n ≤ side * side) where
+  pub asked-filled : LevelAsked (filled f n part) side
+  asked-filled =
+      record {
+        some = h .some;
+        most = h .most;
+        whole = length-filled f n part (omega (arith, h .whole)) ∙ h .whole;
+        small = λ i. rw (filled-past f n part (side * side + i) (pos 0) (omega arith)) (h .small i);
+      }
+
+  pub parent-filled : (i : ℕ) → parentOf (filled f n part) side i ≡ parentOf part side i
+  unfolding parentOf fourAt fourPlace
+  parent-filled i =
+      let x = side * side + (2 * (i / side) * (2 * side) + 2 * (i % side)) in
+      let same : (j : ℕ) → side * side ≤ j → getD (filled f n part) j (pos 0) ≡ getD part j (pos 0) = λ j q. filled-past f n part j (pos 0) (omega arith) in
+      rw (same x (omega arith), same (x + 1) (omega arith), same (x + 2 * side) (omega arith), same (x + 2 * side + 1) (omega arith))
+
+-- all places filled: the level of sums, and the rest as it was
+module _ (k : ℕ) (part : List ℤ) where
+  abbrev finer : ℕ → ℕ → ℤ
+  finer = inLevel (suc k) (drop (2 ^ k * 2 ^ k) part)
+
+  finer-at : (x y j : ℕ) → j ≡ 2 ^ k * 2 ^ k + (x * (2 * 2 ^ k) + y) → getD part j (pos 0) ≡ finer x y
+  unfolding inLevel placeIn
+  finer-at x y j e = ap (λ (m : ℕ). getD part m (pos 0)) (e ∙ rw (pow-succ' 2 k)) ∙ sym (getD-drop (2 ^ k * 2 ^ k) part (x * 2 ^ suc k + y) (pos 0))
+
+  parent-four : (i : ℕ) → parentOf part (2 ^ k) i ≡ four finer (rowAt k i) (columnAt k i)
+  unfolding parentOf fourAt fourPlace four rowAt columnAt
+  parent-four i =
+      let a = i / 2 ^ k in
+      let b = i % 2 ^ k in
+      ap₂ _+ℤ_
+      (ap₂ _+ℤ_ (ap₂ _+ℤ_ (finer-at (2 * a) (2 * b) _ refl) (finer-at (2 * a) (2 * b + 1) _ (omega arith))) (finer-at (2 * a + 1) (2 * b) _ (omega arith)))
+      (finer-at (2 * a + 1) (2 * b + 1) _ (omega arith))
+
+  pub filled-level : filled (parentOf part (2 ^ k)) (2 ^ k * 2 ^ k) part ≡ levelFilled k part
+  unfolding filled levelFilled coarser levelOf
+  filled-level = ap (λ (l : List ℤ). l ++ drop (2 ^ k * 2 ^ k) part) (tabulate-ext (2 ^ k * 2 ^ k) _ _ (λ i lt. parent-four i))

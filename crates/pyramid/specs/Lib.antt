@@ -1,0 +1,5 @@
+pub mod Asked
+pub mod Four
+pub mod Level
+pub mod Upward
+pub mod Fresh

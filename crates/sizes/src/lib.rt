@@ -1,0 +1,59 @@
+// Sides, powers of two and level starts: the numbers that every call works with.
+ghost use mathlib.Core.Path.{_≡_};
+ghost use Prim.Native.Nat.{_^_, _≤_};
+ghost use Rattle.definition.specs.Pyramid.{cellCount, needed, start};
+ghost use Rattle.definition.specs.Refusals.{powerOf};
+
+// The power of a side: 1 to 8, or 0 if the side isn't one of the eight.
+pub fn power_of(side: u32) -> usize
+    ensures { λ r. ⌜ r ≡ powerOf side ⌝ }
+{
+    match side {
+        2 => 1,
+        4 => 2,
+        8 => 3,
+        16 => 4,
+        32 => 5,
+        64 => 6,
+        128 => 7,
+        256 => 8,
+        _ => 0,
+    }
+}
+
+// 2 to the power of k.
+const POWERS: [usize; 9] = [1, 2, 4, 8, 16, 32, 64, 128, 256];
+
+pub fn pow2(k: usize) -> usize
+    requires { ⌜ k ≤ 8 ⌝ }
+    ensures { λ n. ⌜ n ≡ 2 ^ k ⌝ }
+{
+    POWERS[k]
+}
+
+// The number of cells of a map of power r.
+pub fn cell_count(r: usize) -> usize
+    requires { ⌜ r ≤ 8 ⌝ }
+    ensures { λ n. ⌜ n ≡ cellCount r ⌝ }
+{
+    let side = pow2(r);
+    side * side
+}
+
+// The place at which level k begins, or one past the pyramid where k is one more than the last level.
+const STARTS: [usize; 10] = [0, 1, 5, 21, 85, 341, 1365, 5461, 21845, 87381];
+
+pub fn level_start(k: usize) -> usize
+    requires { ⌜ k ≤ 9 ⌝ }
+    ensures { λ n. ⌜ n ≡ start k ⌝ }
+{
+    STARTS[k]
+}
+
+// The needed length of a pyramid of power r.
+pub fn needed(r: usize) -> usize
+    requires { ⌜ r ≤ 8 ⌝ }
+    ensures { λ n. ⌜ n ≡ needed r ⌝ }
+{
+    level_start(r + 1)
+}

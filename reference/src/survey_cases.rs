@@ -1,0 +1,147 @@
+//! The cases of the program crate `panel_survey`: its standard input, and what it ought to write.
+
+use std::fmt::Display;
+
+use crate::answers::Refusal;
+use crate::calls::load;
+use crate::maps::named;
+use crate::measures::{levels, tally};
+use crate::run::run;
+use crate::shape::{cell_count, power, pyramid_length};
+
+/// One case: a side, the greys, the lengths lent of the three other buffers, the cells that get a serial after the
+/// load, and the blocks (level, row, column) to tally.
+struct Case {
+    side: u32,
+    greys: Vec<u8>,
+    pyramid: usize,
+    serials: usize,
+    order: usize,
+    marks: Vec<u32>,
+    blocks: Vec<[u32; 3]>,
+}
+
+/// What the pyramid's places hold before the load, and those of the two others.
+const BEFORE: (i64, u32) = (-1, 9);
+
+/// Standard input and standard output.
+pub fn input_and_output() -> Result<(String, String), Refusal> {
+    let cases = cases()?;
+    let mut input = format!("{} cases\n", cases.len());
+    let mut output = String::new();
+    for (place, case) in cases.iter().enumerate() {
+        input.push_str(&written(case));
+        output.push_str(&format!("case,{}\n{}", place + 1, answers(case)));
+    }
+    Ok((input, output))
+}
+
+/// Whole maps with buffers of just the needed length and with longer ones, then all that is refused.
+fn cases() -> Result<Vec<Case>, Refusal> {
+    let mut cases = Vec::new();
+    for (side, spare) in [(2, 0), (2, 3), (4, 1), (8, 0), (16, 5), (32, 7)] {
+        for name in ["random", "gradient-diagonal", "flat-128"] {
+            cases.push(finished(side, name, spare)?);
+        }
+    }
+    for side in [0, 1, 3, 5, 12, 31, 33, 64, 256, 257, 512, 999_999] {
+        cases.push(Case { side, ..lent(4, [0; 4]) });
+    }
+    for short in 1..16 {
+        cases.push(lent(4, [short & 1, short >> 1 & 1, short >> 2 & 1, short >> 3]));
+    }
+    Ok(cases)
+}
+
+/// A map, and the cells of its dots when it's finished.
+fn finished(side: u32, name: &str, spare: usize) -> Result<Case, Refusal> {
+    let greys = named(name, side);
+    let run = run(side, &greys)?;
+    let marks = run.buffers.order[..run.progress.dots as usize].to_vec();
+    let cells = cell_count(side) + spare;
+    let pyramid = pyramid_length(power(side)?) + spare;
+    Ok(Case { side, greys, pyramid, serials: cells, order: cells, marks, blocks: blocks(power(side)?) })
+}
+
+/// The first, the last and a middle block of each level, and blocks that there aren't.
+fn blocks(power: u32) -> Vec<[u32; 3]> {
+    let mut blocks = Vec::new();
+    for level in 0..=power {
+        let last = 2u32.pow(level) - 1;
+        blocks.extend([
+            [level, 0, 0],
+            [level, last / 2, last],
+            [level, last, last],
+            [level, last + 1, 0],
+            [level, 0, last + 1],
+        ]);
+    }
+    blocks.extend([[power + 1, 0, 0], [999_999, 0, 0]]);
+    blocks
+}
+
+/// A case of a side with buffers that are so many places short: greys, pyramid, serials, order.
+fn lent(side: u32, short: [usize; 4]) -> Case {
+    let cells = cell_count(side);
+    Case {
+        side,
+        greys: named("random", side)[..cells - short[0]].to_vec(),
+        pyramid: pyramid_length(side.trailing_zeros()) - short[1],
+        serials: cells - short[2],
+        order: cells - short[3],
+        marks: vec![0, 5],
+        blocks: vec![[0, 0, 0], [3, 0, 0]],
+    }
+}
+
+/// A case as the program reads it.
+fn written(case: &Case) -> String {
+    let blocks: Vec<u32> = case.blocks.concat();
+    format!(
+        "\nside {}, lent {} {} {} {}\ngreys{}\n{} marks{}\n{} blocks{}\n",
+        case.side,
+        case.greys.len(),
+        case.pyramid,
+        case.serials,
+        case.order,
+        row(&case.greys, " "),
+        case.marks.len(),
+        row(&case.marks, " "),
+        case.blocks.len(),
+        row(&blocks, " "),
+    )
+}
+
+/// What the three calls answer, and the three buffers after the load.
+fn answers(case: &Case) -> String {
+    let mut pyramid = vec![BEFORE.0; case.pyramid];
+    let mut serials = vec![BEFORE.1; case.serials];
+    let mut order = vec![BEFORE.1; case.order];
+    let loaded = load(case.side, &case.greys, &mut pyramid, &mut serials, &mut order);
+    let mut text = format!("load,{},{}{}\n", loaded.progress.side, loaded.progress.dots, refusal(loaded.status.err()));
+    text.push_str(&format!("pyramid{}\n", row(&pyramid, ",")));
+    text.push_str(&format!("serials{}\norder{}\n", row(&serials, ","), row(&order, ",")));
+    for (place, cell) in case.marks.iter().enumerate() {
+        if let Some(serial) = serials.get_mut(*cell as usize) {
+            *serial = place as u32 + 1;
+        }
+    }
+    for block in &case.blocks {
+        let answer = tally(case.side, &serials, block[0], block[1], block[2]);
+        let dots: Vec<u32> = answer.into_iter().collect();
+        text.push_str(&format!("tally{}{}{}\n", row(block, ","), row(&dots, ","), refusal(answer.err())));
+    }
+    let sums = levels(case.side, &case.greys, &serials);
+    text.push_str(&format!("levels{}{}\n", row(&sums.unwrap_or([0; 9]), ","), refusal(sums.err())));
+    text
+}
+
+/// The end of a line that says no.
+fn refusal(why: Option<Refusal>) -> String {
+    why.map_or(String::new(), |why| format!(",refused,{}", why.number()))
+}
+
+/// Items in decimal, each after a mark.
+fn row<T: Display>(items: &[T], mark: &str) -> String {
+    items.iter().map(|item| format!("{mark}{item}")).collect()
+}
