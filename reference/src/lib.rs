@@ -14,6 +14,7 @@ mod measures;
 mod plate;
 mod pyramid;
 mod run;
+mod run_cases;
 mod shape;
 mod sound;
 mod survey_cases;

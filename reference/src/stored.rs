@@ -7,6 +7,7 @@ use crate::map_text::write_map_text;
 use crate::maps::{generated, named, NAMES};
 use crate::measures::levels;
 use crate::run::run;
+use crate::run_cases;
 use crate::shape::SIDES;
 use crate::survey_cases;
 
@@ -22,6 +23,9 @@ pub fn files() -> Result<Vec<(String, Vec<u8>)>, Refusal> {
     let (input, output) = survey_cases::input_and_output()?;
     files.push(("crates/panel_survey/stdin".to_string(), input.into_bytes()));
     files.push(("crates/panel_survey/stdout".to_string(), output.into_bytes()));
+    let (input, output) = run_cases::input_and_output()?;
+    files.push(("crates/panel_run/stdin".to_string(), input.into_bytes()));
+    files.push(("crates/panel_run/stdout".to_string(), output.into_bytes()));
     Ok(files)
 }
 

@@ -28,7 +28,7 @@ pub fn fill_cells(part: &mut [i64], greys: &[u8], count: usize)
 }
 
 // The sum of the four entries whose top left one is at place `top`, in rows of `wide` entries.
-fn sum_of_four(part: &[i64], top: usize, wide: usize) -> i64
+pub fn sum_of_four(part: &[i64], top: usize, wide: usize) -> i64
     requires { ⌜ FourAsked (now part) top wide ⌝ }
     ensures { λ z. ⌜ z ≡ fourAt (now (part .entry)) top wide ⌝ }
 {

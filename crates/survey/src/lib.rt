@@ -19,7 +19,7 @@ ghost use Rattle.survey.specs.Squares.{rowDots, squareDots, cellError, r
 ghost use Rattle.survey.specs.Asked.{BlockAsked, LevelsAsked};
 
 // 1 for the serial of a dot, 0 for that of a cell without one.
-fn mark(serial: u32) -> u32
+pub fn mark(serial: u32) -> u32
     ensures { λ n. ⌜ Total (burnt serial) 1 n ⌝ }
 {
     if serial != 0 {

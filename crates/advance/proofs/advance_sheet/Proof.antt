@@ -1,0 +1,28 @@
+-- `advance::advance_sheet`: the parts of just the needed lengths are run, and the answer told from the top.
+use mathlib.Core.Path.{refl}
+use borrow.Author.Needs.{needs}
+use Rattle.advance.specs.Advancing.{pyramid-part, serials-part, order-part, run-asked, top-there, dots-fit, advanced-is}
+use Rattle.advance.proofs.advance_sheet.Statement.{statement}
+use Rattle.advance.proofs.advance_sheet.Tie as tie
+
+pub advance-sheet-spec : {M : Type 1} → statement M
+advance-sheet-spec =
+    tie.close
+    (tie.spec
+    (λ c κs. search needs)
+    (λ c κs. search needs)
+    (λ c. search needs)
+    (λ c. search (pyramid-part, needs))
+    (λ c. search needs)
+    (λ c. search (serials-part, needs))
+    (λ c. search needs)
+    (λ c. search (order-part, needs))
+    (λ c κs. search (run-asked, needs))
+    (λ c. let s = c .before .before .before .before .before .before .before .before .before .before .before .before .before in top-there _ _ _ (s .pre) (c .before .before .before .before .before .before .before .before .before .before .needed .ensures) (c .before .before .before .before .before .before .before .before .before .cell-count .ensures) _ (c .before .before .before .before .before .run .ensures))
+    (λ c κs. search needs)
+    (λ c. search (dots-fit, needs))
+    (λ c κs. search needs)
+    (λ c. search needs)
+    (λ c. search needs)
+    (λ c. search needs)
+    (λ c. let s = c .before .before .before .before .before .before .before .before .before .before .before .before .before .before .before .before in advanced-is _ _ _ (s .pre) (c .before .before .before .before .before .before .before .before .before .before .before .before .before .needed .ensures) (c .before .before .before .before .before .before .before .before .before .before .before .before .cell-count .ensures) _ (c .before .before .before .before .before .before .before .before .run .ensures) (s .args .progress) _ refl (search needs) (c .before .ended .ensures) (c .answer .ensures)))

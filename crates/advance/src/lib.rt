@@ -1,0 +1,111 @@
+// Advance: "makes exactly the smaller of the budget and the holes due".
+use checks::Check;
+use definition::AdvanceAnswer;
+use definition::AdvanceStatus;
+use definition::Progress;
+use definition::Refusal;
+ghost use mathlib.Core.Path.{_≡_};
+ghost use Rattle.definition.specs.Answers.{advanceSays};
+ghost use Prim.Native.Nat.{_+_};
+ghost use Rattle.definition.specs.Diffusion.{plain};
+ghost use Rattle.definition.specs.Advance.{saidAt, advanced, advanceOf};
+ghost use Rattle.advance.specs.Running.{RunAsked, Ran};
+ghost use Rattle.advance.specs.Advancing.{AdvanceAsked};
+
+// What is said with this top: "finished exactly if the top is then below 32,640, else more".
+fn ended(top: i64) -> AdvanceStatus
+    ensures { λ a. ⌜ advanceSays a ≡ saidAt top ⌝ }
+{
+    if top < 32640 {
+        return AdvanceStatus::Finished;
+    }
+    AdvanceStatus::More
+}
+
+fn refused(progress: Progress, why: Refusal) -> AdvanceAnswer
+    ensures { λ a. ⌜ a ≡ record { progress = progress; made = 0; status = AdvanceStatus.Refused why } ⌝ }
+{
+    AdvanceAnswer {
+        progress: progress,
+        made: 0,
+        status: AdvanceStatus::Refused(why),
+    }
+}
+
+// Makes the dots that are due, as far as the budget lasts, on a sound sheet of just the needed lengths, and returns how many.
+fn run(
+    pyramid: &mut [i64],
+    serials: &mut [u32],
+    order: &mut [u32],
+    r: usize,
+    dots: u32,
+    budget: u32,
+) -> u32
+    requires { ⌜ RunAsked r (record { pyramid = now pyramid; serials = now serials; order = now order; dots = dots }) ⌝ }
+    ensures { λ made. ⌜ Ran r (record { pyramid = now (pyramid .entry); serials = now (serials .entry); order = now (order .entry); dots = dots }) budget made (record { pyramid = now (pyramid .exit); serials = now (serials .exit); order = now (order .exit); dots = dots + made }) ⌝ }
+{
+    let mut made = 0;
+    while made < budget {
+        let top = pyramid[0];
+        if top < 32640 {
+            return made;
+        }
+        dot::place_dot(pyramid, serials, order, r, dots + made);
+        made += 1;
+    }
+    made
+}
+
+fn answer(side: u32, dots: u32, made: u32, status: AdvanceStatus) -> AdvanceAnswer
+    ensures { λ a. ⌜ a ≡ record { progress = record { side = side; dots = dots }; made = made; status = status } ⌝ }
+{
+    AdvanceAnswer {
+        progress: Progress { side, dots },
+        made,
+        status,
+    }
+}
+
+// Advance, on a sheet that is not refused.
+fn advance_sheet(
+    progress: Progress,
+    r: usize,
+    budget: u32,
+    pyramid: &mut [i64],
+    serials: &mut [u32],
+    order: &mut [u32],
+) -> AdvanceAnswer
+    requires { ⌜ AdvanceAsked r (progress .dots) (now pyramid) (now serials) (now order) ⌝ }
+    ensures { λ a. ⌜ record { reply = record { progress = a .progress; made = a .made; said = advanceSays (a .status) }; pyramid = now (pyramid .exit); serials = now (serials .exit); order = now (order .exit) } ≡ advanced plain r progress budget (now (pyramid .entry)) (now (serials .entry)) (now (order .entry)) ⌝ }
+{
+    let dots = progress.dots;
+    let needed = sizes::needed(r);
+    let cells = sizes::cell_count(r);
+    let made = run(
+        &mut pyramid[..needed],
+        &mut serials[..cells],
+        &mut order[..cells],
+        r,
+        dots,
+        budget,
+    );
+    let status = ended(pyramid[0]);
+    answer(progress.side, dots + made, made, status)
+}
+
+pub fn advance(
+    progress: Progress,
+    budget: u32,
+    pyramid: &mut [i64],
+    serials: &mut [u32],
+    order: &mut [u32],
+) -> AdvanceAnswer
+    ensures { λ a. ⌜ record { reply = record { progress = a .progress; made = a .made; said = advanceSays (a .status) }; pyramid = now (pyramid .exit); serials = now (serials .exit); order = now (order .exit) } ≡ advanceOf plain progress budget (now (pyramid .entry)) (now (serials .entry)) (now (order .entry)) ⌝ }
+{
+    let dots = progress.dots;
+    let r = sizes::power_of(progress.side);
+    match sheet::check_sheet(r, dots, pyramid, serials, order) {
+        Check::Failed(why) => refused(progress, why),
+        Check::Passed => advance_sheet(progress, r, budget, pyramid, serials, order),
+    }
+}

@@ -1,0 +1,36 @@
+-- `call_list::make_calls`: after i turns the caller holds what i calls leave.
+use Prim.Native.Nat.{_-_}
+use native.Mathlib.Omega.{arith}
+use lib.ListN.{length}
+use borrow.Author.Needs.{needs}
+use Rattle.call_list.specs.Promise.{Called, begins, goes-on, all-called}
+use Rattle.call_list.proofs.make_calls.Statement.{statement}
+use Rattle.call_list.proofs.make_calls.Tie as tie
+
+abbrev Inv-loop : tie.InvT-loop
+Inv-loop pyramid₀ serials₀ order₀ budgets pyramids sheets orders progress₀ i₀ pyramid serials order progress i =
+    Called progress₀ pyramid₀ serials₀ order₀ budgets pyramids sheets orders progress pyramid serials order i
+
+abbrev μ-loop : tie.MeasureT-loop
+μ-loop pyramid₀ serials₀ order₀ budgets pyramids sheets orders progress₀ i₀ pyramid serials order progress i = length budgets - i
+
+pub make-calls-spec : {M : Type 1} → statement M
+make-calls-spec =
+    tie.close
+    (tie.spec
+    Inv-loop
+    μ-loop
+    (λ c. search (begins, needs))
+    (λ c κs. search needs)
+    (λ c κs. search needs)
+    (λ c κs. search needs)
+    (λ c. omega arith)
+    (λ c. omega arith)
+    (λ c κs. search needs)
+    (λ c. omega arith)
+    (λ c. omega arith)
+    (λ c. let t = c .before .before .before .before .before .before .before .before .before .before in goes-on _ _ _ _ _ _ _ _ _ _ _ _ _ (t .before .before .before .before .loop .inv) (t .before .before .before .loop-test .taken) (t .before .before .at .ensures) (t .before .at2 .ensures) (t .at3 .ensures) _ _ _ _ (search needs) (search needs) (search needs) (c .before .before .before .before .before .one-call .ensures))
+    (λ c. search needs)
+    (λ c. search needs)
+    (λ c. search needs)
+    (λ c. search (all-called, needs)))

@@ -1,0 +1,16 @@
+-- `call_list::run_calls`: what the calls leave after Load, and demand 3 of it.
+use borrow.Author.Needs.{needs}
+use Rattle.call_list.specs.Promise.{promised}
+use Rattle.call_list.proofs.run_calls.Statement.{statement}
+use Rattle.call_list.proofs.run_calls.Tie as tie
+
+pub run-calls-spec : {M : Type 1} → statement M
+run-calls-spec =
+    tie.close
+    (tie.spec
+    (λ c κs. search needs)
+    (λ c κs. search needs)
+    (λ c. search needs)
+    (λ c. search needs)
+    (λ c. search needs)
+    (λ c. promised _ _ _ _ _ _ _ _ (c .before .before .before .before .before .before .before .before .before .before .before .before .before .before .before .load .ensures) (c .before .before .before .before .before .make-calls .ensures)))

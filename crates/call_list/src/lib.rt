@@ -1,0 +1,107 @@
+// The promise in code: a map is loaded, and a list of Advance calls is made on it, each lent parts of the buffers. What is promised is demand 3.
+use definition::Progress;
+ghost use mathlib.Core.Path.{_≡_};
+ghost use Prim.Native.Nat.{min};
+ghost use lib.ListN.{length, getD};
+ghost use Rattle.definition.specs.Diffusion.{plain};
+ghost use Rattle.definition.specs.Calls.{callOf, heldAfter, heldAfterCalls};
+ghost use Rattle.call_list.specs.Promise.{callsIn, Kept};
+
+// The number at place i, or 0 where there is none.
+fn at(numbers: &[usize], i: usize) -> usize
+    ensures { λ n. ⌜ n ≡ getD (now (numbers .entry)) i 0 ⌝ }
+{
+    if i < numbers.len() {
+        return numbers[i];
+    }
+    0
+}
+
+// How much of a buffer is lent: what is asked, or all of it.
+fn lent(asked: usize, length: usize) -> usize
+    ensures { λ n. ⌜ n ≡ min asked length ⌝ }
+{
+    if length < asked {
+        return length;
+    }
+    asked
+}
+
+// One call, lent the first a, b and c places of the buffers.
+fn one_call(
+    progress: Progress,
+    budget: u32,
+    a: usize,
+    b: usize,
+    c: usize,
+    pyramid: &mut [i64],
+    serials: &mut [u32],
+    order: &mut [u32],
+) -> Progress
+    ensures { λ r. ⌜ record { progress = r; pyramid = now (pyramid .exit); serials = now (serials .exit); order = now (order .exit) } ≡ heldAfter (callOf plain (record { progress = progress; pyramid = now (pyramid .entry); serials = now (serials .entry); order = now (order .entry) }) (record { budget = budget; pyramidLent = a; serialsLent = b; orderLent = c })) ⌝ }
+{
+    let p = lent(a, pyramid.len());
+    let s = lent(b, serials.len());
+    let o = lent(c, order.len());
+    let answer = advance::advance(
+        progress,
+        budget,
+        &mut pyramid[..p],
+        &mut serials[..s],
+        &mut order[..o],
+    );
+    answer.progress
+}
+
+// A call for each budget, lent as many places as the three other slices say.
+fn make_calls(
+    first: Progress,
+    pyramid: &mut [i64],
+    serials: &mut [u32],
+    order: &mut [u32],
+    budgets: &[u32],
+    pyramids: &[usize],
+    sheets: &[usize],
+    orders: &[usize],
+) -> Progress
+    ensures { λ r. ⌜ record { progress = r; pyramid = now (pyramid .exit); serials = now (serials .exit); order = now (order .exit) } ≡ heldAfterCalls plain (record { progress = first; pyramid = now (pyramid .entry); serials = now (serials .entry); order = now (order .entry) }) (callsIn (now (budgets .entry)) (now (pyramids .entry)) (now (sheets .entry)) (now (orders .entry))) ⌝ }
+{
+    let mut progress = first;
+    let mut i = 0;
+    while i < budgets.len() {
+        let a = at(pyramids, i);
+        let b = at(sheets, i);
+        let c = at(orders, i);
+        progress = one_call(progress, budgets[i], a, b, c, pyramid, serials, order);
+        i += 1;
+    }
+    progress
+}
+
+// Load, then these calls.
+pub fn run_calls(
+    side: u32,
+    greys: &[u8],
+    pyramid: &mut [i64],
+    serials: &mut [u32],
+    order: &mut [u32],
+    budgets: &[u32],
+    pyramids: &[usize],
+    sheets: &[usize],
+    orders: &[usize],
+) -> Progress
+    ensures { λ r. ⌜ Kept side (now (greys .entry)) (now (pyramid .entry)) (now (serials .entry)) (now (order .entry)) (callsIn (now (budgets .entry)) (now (pyramids .entry)) (now (sheets .entry)) (now (orders .entry))) (record { progress = r; pyramid = now (pyramid .exit); serials = now (serials .exit); order = now (order .exit) }) ⌝ }
+{
+    let loaded = load::load(side, greys, pyramid, serials, order);
+    let first = loaded.progress;
+    make_calls(
+        first,
+        pyramid,
+        serials,
+        order,
+        budgets,
+        pyramids,
+        sheets,
+        orders,
+    )
+}

@@ -1,0 +1,24 @@
+-- What the functions of this crate are asked, and how a candidate reads in the definition.
+use Prim.Native.Nat.{ℕ, suc, _^_, _≤_, _<_}
+use Rattle.definition.specs.Pyramid.{start, needed}
+use Rattle.definition.specs.Descent as definition
+use Rattle.descent.specs.declared.Candidate.{Candidate}
+
+-- a candidate of the code, as the definition has it
+abbrev pub shown : Candidate → definition.Candidate
+shown c = record { row = c .row; column = c .column; sum = c .sum }
+
+-- an entry (a, b) of level k, in a pyramid of `len` entries that has the whole level
+pub record EntryAsked (len k a b : ℕ) : Type 0 where
+  pub most : k ≤ 8
+  pub row : a < 2 ^ k
+  pub column : b < 2 ^ k
+  pub whole : start (suc k) ≤ len
+
+-- an entry (a, b) of level k to start from, in a pyramid of power r
+pub record DescentAsked (len r k a b : ℕ) : Type 0 where
+  pub most : r ≤ 8
+  pub level : k ≤ r
+  pub row : a < 2 ^ k
+  pub column : b < 2 ^ k
+  pub whole : needed r ≤ len

@@ -1,0 +1,25 @@
+-- `diffusion::burn`: by the laws on what a cell lacks of a dot.
+use mathlib.Core.Path.{_∙_}
+use borrow.Author.Needs.{needs}
+use lib.ListN.{length-set}
+use Rattle.diffusion.specs.Places.{places}
+use Rattle.diffusion.specs.Burning.{lack-fits, lack-sign, lack-word, lack-asked, burnt}
+use Rattle.diffusion.proofs.burn.Statement.{statement}
+use Rattle.diffusion.proofs.burn.Tie as tie
+
+pub burn-spec : {M : Type 1} → statement M
+burn-spec =
+    tie.close
+    (tie.spec
+    (λ c κs. search needs)
+    (λ c. search (places, needs))
+    (λ c. search (places, needs))
+    (λ c. search (places, needs))
+    (λ c. search (places, needs))
+    (λ c. search (lack-fits, needs))
+    (λ c. search (places, needs))
+    (λ c. search (places, needs))
+    (λ c. (search (lack-sign, needs), search (lack-word, needs)))
+    (λ c κs. search (lack-asked, needs))
+    (λ c. c .before .diffuse .kept .0 ∙ simp length-set)
+    (λ c. search (burnt, needs)))

@@ -1,0 +1,27 @@
+-- `diffusion::take_share`: a place with a weight lies on the map.
+use borrow.Author.Needs.{needs}
+use Rattle.diffusion.specs.Places.{row-fits, column-fits, places}
+use Rattle.diffusion.specs.Shares.{nothing-taken, nearby, less-fits, share-taken}
+use Rattle.diffusion.proofs.take_share.Statement.{statement}
+use Rattle.diffusion.proofs.take_share.Tie as tie
+
+pub take-share-spec : {M : Type 1} → statement M
+take-share-spec =
+    tie.close
+    (tie.spec
+    (λ c. search (nothing-taken, needs))
+    (λ c κs. search needs)
+    (λ c. search (row-fits, needs))
+    (λ c. search (nearby, needs))
+    (λ c. search (places, nearby, needs))
+    (λ c. search (column-fits, needs))
+    (λ c. search (nearby, needs))
+    (λ c. search (places, nearby, needs))
+    (λ c. search (places, nearby, needs))
+    (λ c. search (places, nearby, needs))
+    (λ c. search needs)
+    (λ c. search (less-fits, needs))
+    (λ c. search (places, nearby, needs))
+    (λ c. search (places, nearby, needs))
+    (λ c. search needs)
+    (λ c. search (share-taken, needs)))

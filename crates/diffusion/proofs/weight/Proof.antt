@@ -1,0 +1,21 @@
+-- `diffusion::weight`: off the map on one of four sides, or on it.
+use borrow.Author.Needs.{needs}
+use Rattle.diffusion.specs.Places.{row-fits, column-fits}
+use Rattle.diffusion.specs.Weights.{weight-above, weight-below, weight-left, weight-right, weight-on}
+use Rattle.diffusion.proofs.weight.Statement.{statement}
+use Rattle.diffusion.proofs.weight.Tie as tie
+
+pub weight-spec : {M : Type 1} → statement M
+weight-spec =
+    tie.close
+    (tie.spec
+    (λ c κs. search needs)
+    (λ c. search (row-fits, needs))
+    (λ c. search (column-fits, needs))
+    (λ c. search (weight-above, needs))
+    (λ c. search (weight-below, needs))
+    (λ c. search (weight-left, needs))
+    (λ c. search (weight-right, needs))
+    (λ c. search needs)
+    (λ c. search needs)
+    (λ c. search (weight-on, needs)))

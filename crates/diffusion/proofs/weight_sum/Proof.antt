@@ -1,0 +1,30 @@
+-- `diffusion::weight_sum`: after p turns the sum of the first p weights.
+use mathlib.Core.Path.{_≡_, _∙_}
+use Prim.Native.Nat.{_≤_, _-_}
+use native.Mathlib.Omega.{arith}
+use borrow.Author.Needs.{needs}
+use Rattle.definition.specs.Lists.{sumTo}
+use Rattle.definition.specs.Diffusion.{plain, weightAt}
+use Rattle.diffusion.specs.Weights.{sum-none, sum-more, sum-fits}
+use Rattle.diffusion.proofs.weight_sum.Statement.{statement}
+use Rattle.diffusion.proofs.weight_sum.Tie as tie
+
+abbrev Inv-loop : tie.InvT-loop
+Inv-loop r row column sum₀ p₀ sum p = (p ≤ 9) × (sum ≡ sumTo p (weightAt plain r row column))
+
+abbrev μ-loop : tie.MeasureT-loop
+μ-loop r row column sum₀ p₀ sum p = 9 - p
+
+pub weight-sum-spec : {M : Type 1} → statement M
+weight-sum-spec =
+    tie.close
+    (tie.spec
+    Inv-loop
+    μ-loop
+    (λ c. (search needs, search (sum-none, needs)))
+    (λ c κs. search needs)
+    (λ c. search (sum-fits, needs))
+    (λ c. search needs)
+    (λ c. search needs)
+    (λ c. (search needs, search (sum-more, needs)))
+    (λ c. let e : c .before .loop .p ≡ 9 = omega arith in c .before .loop .inv .1 ∙ rw e))

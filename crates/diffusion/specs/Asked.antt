@@ -1,0 +1,52 @@
+-- What the functions of this crate are asked, and what one turn of the diffusion gives.
+use mathlib.Core.Path.{_≡_}
+use mathlib.Core.Bool.{true, false}
+use mathlib.Core.List.{List}
+use Prim.Native.Nat.{ℕ, _-_, _^_, _≤_, _<_}
+use lib.Dec.{eqb}
+use lib.ListN.{length, getD, set}
+use lib.IntN.{ℤ, pos, _-ℤ_}
+use lib.Signed.{_≤ℤ_}
+use Rattle.definition.specs.Pyramid.{oneDot, cellCount, placeIn, inLevel}
+use Rattle.definition.specs.Diffusion.{plain, rowNear, columnNear, weightAt}
+use Rattle.pyramid.specs.Asked.{Within}
+
+-- the cells with s taken off the neighbour at place p, if that has a weight
+unfoldable pub shareTaken : ℕ → ℕ → ℕ → ℕ → ℕ → List ℤ → List ℤ
+shareTaken r row column p s cells =
+    let x = rowNear row p - 1 in
+    let y = columnNear column p - 1 in
+    elim (eqb (weightAt plain r row column p) 0) [
+      | true ↦ cells
+      | false ↦ set cells (placeIn r x y) (inLevel r cells x y -ℤ pos s)
+    ]
+
+-- a cell of a map of power r
+pub record CellAsked (r row column : ℕ) : Type 0 where
+  pub least : 1 ≤ r
+  pub most : r ≤ 8
+  pub above : row < 2 ^ r
+  pub left : column < 2 ^ r
+
+-- a share to take at place p of the nine around a cell, which has the weight w, far from overflow
+pub record ShareAsked (cells : List ℤ) (r row column p w s : ℕ) : Type 0 where
+  pub cell : CellAsked r row column
+  pub nine : p < 9
+  pub is : w ≡ weightAt plain r row column p
+  pub fair : s ≤ 2 ^ 46
+  pub whole : length cells ≡ cellCount r
+  pub small : (i : ℕ) → Within (2 ^ 60) (getD cells i (pos 0))
+
+-- d to take from the neighbours of a cell
+pub record DiffuseAsked (cells : List ℤ) (r row column d : ℕ) : Type 0 where
+  pub cell : CellAsked r row column
+  pub whole : length cells ≡ cellCount r
+  pub small : (i : ℕ) → Within (2 ^ 40) (getD cells i (pos 0))
+  pub fair : d ≤ 2 ^ 41
+
+-- a dot to place at a cell, whose residual is at most one dot's worth
+pub record BurnAsked (cells : List ℤ) (r row column : ℕ) : Type 0 where
+  pub cell : CellAsked r row column
+  pub whole : length cells ≡ cellCount r
+  pub small : (i : ℕ) → Within (2 ^ 40) (getD cells i (pos 0))
+  pub owed : inLevel r cells row column ≤ℤ pos oneDot

@@ -1,0 +1,6 @@
+pub mod Asked
+pub mod Places
+pub mod Weights
+pub mod Shares
+pub mod Turns
+pub mod Burning

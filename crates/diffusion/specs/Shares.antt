@@ -1,0 +1,128 @@
+-- A share, and what taking it off a neighbour does.
+use mathlib.Core.Path.{_≡_, sym, ap, _∙_}
+use mathlib.Core.Logic.{_≢_}
+use mathlib.Core.List.{List, [], _∷_}
+use Prim.Native.Nat.{ℕ, zero, suc, _+_, _*_, _-_, _/_, _%_, _^_, _≤_, _<_}
+use native.Mathlib.Omega.{arith}
+use native.Mathlib.Nat.{mul-le-mul, mul-le-mul-left, div-le-self}
+use native.Mathlib.Decide.{ℕ-discrete}
+use borrow.Author.Tests.{eq-eqb, ne-eqb}
+use lib.ListN.{length, getD, set, length-set}
+use lib.IntN.{ℤ, pos, _-ℤ_}
+use mir.Syntax.{w64}
+use mir.Val.{Fits, SFits, toZ, ofZ}
+use mir.Facts.{toZ-ofZ}
+use Rattle.definition.specs.Pyramid.{placeIn, inLevel}
+use Rattle.definition.specs.Diffusion.{plain, rowNear, columnNear, weightAt}
+use Rattle.integers.specs.Linear.{zz, ints}
+use Rattle.integers.specs.Machine.{words, machine, of-bits, div-mono}
+use Rattle.pyramid.specs.Asked.{Within}
+use Rattle.pyramid.specs.Four.{within-mono}
+use Rattle.shares.specs.Neighbours.{weight-on-map}
+use Rattle.diffusion.specs.Asked.{shareTaken, ShareAsked}
+
+-- ---- a share
+part-small : (d c : ℕ) → d ≤ 2 ^ 41 → c ≤ 18 → d * c ≤ 2 ^ 46
+part-small d c h k = let m : d * c ≤ 2 ^ 41 * 18 = mul-le-mul h k in omega arith
+
+pub part-fits : (d c : ℕ) → d ≤ 2 ^ 41 → c ≤ 18 → Fits w64 (d * c)
+part-fits d c h k = record { fits = omega (arith, part-small d c h k) }
+
+pub share-down : (d before after all : ℕ) → before ≤ after → 0 < all → d * before / all ≤ d * after / all
+share-down d before after all h k = div-mono all k (mul-le-mul-left d h)
+
+pub share-fair : (d before after all : ℕ) → d ≤ 2 ^ 41 → after ≤ 18 → d * after / all - d * before / all ≤ 2 ^ 46
+share-fair d before after all h k = omega (arith, part-small d after h k, div-le-self (d * after) all)
+
+-- ---- a share taken
+module _ (r row column p s : ℕ) (cells : List ℤ) where
+  abbrev x : ℕ
+  x = rowNear row p - 1
+
+  abbrev y : ℕ
+  y = columnNear column p - 1
+
+  taken-none : weightAt plain r row column p ≡ 0 → cells ≡ shareTaken r row column p s cells
+  unfolding shareTaken
+  taken-none e = rw (eq-eqb (weightAt plain r row column p) 0 e, shareTaken)
+
+  taken-some : weightAt plain r row column p ≢ 0 → set cells (placeIn r x y) (inLevel r cells x y -ℤ pos s) ≡ shareTaken r row column p s cells
+  unfolding shareTaken
+  taken-some ne = rw (ne-eqb (weightAt plain r row column p) 0 ne, shareTaken)
+
+-- ---- what taking a share off a neighbour rests on
+module _ {cells : List ℤ} {r row column p w s : ℕ} (h : ShareAsked cells r row column p w s) where
+  pub nothing-taken : w ≡ 0 → cells ≡ shareTaken r row column p s cells
+  nothing-taken e = taken-none r row column p s cells (sym (h .is) ∙ e)
+
+  -- in machine words
+  old-fits : (i : ℕ) → SFits w64 (getD cells i (pos 0))
+  old-fits i = let b = h .small i in simp words (omega machine)
+
+  new-fits : (i : ℕ) → SFits w64 (getD cells i (pos 0) -ℤ pos s)
+  new-fits i = let b = h .small i in let f = h .fair in simp words (omega machine)
+
+  cast : toZ w64 s ≡ pos s
+  cast = of-bits s (omega (arith, h .fair))
+
+  pub less-fits : (i : ℕ) → SFits w64 (toZ w64 (ofZ w64 (getD cells i (pos 0))) -ℤ toZ w64 s)
+  less-fits i = rw (toZ-ofZ (old-fits i), cast) (new-fits i)
+
+  module _ (ne : w ≡ 0 → ⊥) where
+    some : weightAt plain r row column p ≢ 0
+    some q = ne (h .is ∙ q)
+
+    pub near-up : 1 ≤ row + p / 3
+    unfolding plain
+    near-up = weight-on-map plain r row column p some .0
+
+    pub near-left : 1 ≤ column + p % 3
+    unfolding plain
+    near-left = weight-on-map plain r row column p some .2
+
+    pub near-row : row + p / 3 - 1 < 2 ^ r
+    unfolding plain
+    near-row = omega (arith, weight-on-map plain r row column p some)
+
+    pub near-column : column + p % 3 - 1 < 2 ^ r
+    unfolding plain
+    near-column = omega (arith, weight-on-map plain r row column p some)
+
+    pub share-taken : {side : ℕ} → side ≡ 2 ^ r
+        → let at = (row + p / 3 - 1) * side + (column + p % 3 - 1) in
+        set cells at (toZ w64 (ofZ w64 (toZ w64 (ofZ w64 (getD cells at (pos 0))) -ℤ toZ w64 s))) ≡ shareTaken r row column p s cells
+    unfolding placeIn inLevel
+    share-taken {side} e =
+        let at = (row + p / 3 - 1) * side + (column + p % 3 - 1) in
+        rw (toZ-ofZ (old-fits at), cast, toZ-ofZ (new-fits at), e) (taken-some r row column p s cells some)
+
+pub ruleset nearby = (near-up, near-left, near-row, near-column)
+
+-- ---- sizes
+pub set-within : (B : ℕ) (l : List ℤ) (k : ℕ) (v : ℤ) → ((i : ℕ) → Within B (getD l i (pos 0))) → Within B v → (i : ℕ) → Within B (getD (set l k v) i (pos 0))
+set-within B [] k v h q i = h i
+set-within B (x ∷ l) zero v h q zero = q
+set-within B (x ∷ l) zero v h q (suc i) = h (suc i)
+set-within B (x ∷ l) (suc k) v h q zero = h zero
+set-within B (x ∷ l) (suc k) v h q (suc i) = set-within B l k v (λ m. h (suc m)) q i
+
+pub taken-within : (B r row column p s : ℕ) (cells : List ℤ) → ((i : ℕ) → Within B (getD cells i (pos 0))) → (i : ℕ) → Within (B + s) (getD (shareTaken r row column p s cells) i (pos 0))
+unfolding inLevel
+taken-within B r row column p s cells h i = go (ℕ-discrete (weightAt plain r row column p) 0)
+  where
+    wider : (z : ℤ) → Within B z → Within (B + s) z
+    wider z = within-mono B (B + s) z (omega arith)
+
+    less : (z : ℤ) → Within B z → Within (B + s) (z -ℤ pos s)
+    less z k = record { low = simp zz (omega ints); high = simp zz (omega ints) }
+
+    go : Dec (weightAt plain r row column p ≡ 0) → Within (B + s) (getD (shareTaken r row column p s cells) i (pos 0))
+    go (yes e) = rw (sym (taken-none r row column p s cells e)) (wider _ (h i))
+    go (no ne) = rw (sym (taken-some r row column p s cells ne)) (set-within (B + s) cells _ _ (λ m. wider _ (h m)) (less _ (h _)) i)
+
+pub length-taken : (r row column p s : ℕ) (cells : List ℤ) → length (shareTaken r row column p s cells) ≡ length cells
+length-taken r row column p s cells = go (ℕ-discrete (weightAt plain r row column p) 0)
+  where
+    go : Dec (weightAt plain r row column p ≡ 0) → length (shareTaken r row column p s cells) ≡ length cells
+    go (yes e) = ap length (sym (taken-none r row column p s cells e))
+    go (no ne) = ap length (sym (taken-some r row column p s cells ne)) ∙ length-set cells _ _

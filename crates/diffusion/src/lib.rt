@@ -1,0 +1,105 @@
+// Diffusion: what a dot lacks of its worth is taken from the neighbours of its cell, each its share.
+ghost use mathlib.Core.Path.{_≡_};
+ghost use Prim.Native.Nat.{_+_, _*_, _-_, _/_, _^_, _<_, _≤_};
+ghost use lib.ListN.{set};
+ghost use lib.IntN.{pos};
+ghost use Rattle.definition.specs.Lists.{sumTo};
+ghost use Rattle.definition.specs.Pyramid.{placeIn, inLevel};
+ghost use Rattle.definition.specs.Model.{missing};
+ghost use Rattle.definition.specs.Diffusion.{plain, weightAt, diffuse};
+ghost use Rattle.diffusion.specs.Asked.{shareTaken, CellAsked, ShareAsked, DiffuseAsked, BurnAsked};
+
+// The weights of the nine places around a cell, by row then column: a straight neighbour weighs 2, a diagonal one 1.
+const WEIGHTS: [usize; 9] = [1, 2, 1, 2, 0, 2, 1, 2, 1];
+
+// What one dot is worth.
+const ONE_DOT: i64 = 65280;
+
+// The weight of place p of the nine around a cell: 0 at the cell itself and off the map.
+fn weight(r: usize, row: usize, column: usize, p: usize) -> usize
+    requires { ⌜ CellAsked r row column × (p < 9) ⌝ }
+    ensures { λ w. ⌜ w ≡ weightAt plain r row column p ⌝ }
+{
+    let side = sizes::pow2(r);
+    let x = row + p / 3;
+    let y = column + p % 3;
+    if x == 0 {
+        return 0;
+    }
+    if side < x {
+        return 0;
+    }
+    if y == 0 {
+        return 0;
+    }
+    if side < y {
+        return 0;
+    }
+    WEIGHTS[p]
+}
+
+// The sum of the weights: 12 inside the map, 8 on a side, 5 in a corner.
+fn weight_sum(r: usize, row: usize, column: usize) -> usize
+    requires { ⌜ CellAsked r row column ⌝ }
+    ensures { λ n. ⌜ n ≡ sumTo 9 (weightAt plain r row column) ⌝ }
+{
+    let mut sum = 0;
+    let mut p = 0;
+    while p < 9 {
+        sum += weight(r, row, column, p);
+        p += 1;
+    }
+    sum
+}
+
+// The share in d of a neighbour: the weights up to it sum to `before`, with its own to `after`, and those of all neighbours to `all`.
+fn share(d: usize, before: usize, after: usize, all: usize) -> usize
+    requires { ⌜ (d ≤ 2 ^ 41) × (before ≤ after) × (after ≤ 18) × (0 < all) ⌝ }
+    ensures { λ s. ⌜ s ≡ d * after / all - d * before / all ⌝ }
+{
+    d * after / all - d * before / all
+}
+
+// Takes a share off the residual of the neighbour at place p, if it has a weight.
+fn take_share(cells: &mut [i64], r: usize, row: usize, column: usize, p: usize, w: usize, s: usize)
+    requires { ⌜ ShareAsked (now cells) r row column p w s ⌝ }
+    ensures { λ _. ⌜ now (cells .exit) ≡ shareTaken r row column p s (now (cells .entry)) ⌝ }
+{
+    if w == 0 {
+        return;
+    }
+    let side = sizes::pow2(r);
+    let at = (row + p / 3 - 1) * side + (column + p % 3 - 1);
+    let z = cells[at];
+    cells[at] = z - (s as i64);
+}
+
+// Takes d off the residuals of the neighbours of a cell, each its share.
+pub fn diffuse(cells: &mut [i64], r: usize, row: usize, column: usize, d: usize)
+    requires { ⌜ DiffuseAsked (now cells) r row column d ⌝ }
+    ensures { λ _. ⌜ now (cells .exit) ≡ diffuse plain r row column d 9 (now (cells .entry)) ⌝ }
+{
+    let all = weight_sum(r, row, column);
+    let mut before = 0;
+    let mut p = 0;
+    while p < 9 {
+        let w = weight(r, row, column, p);
+        let after = before + w;
+        let s = share(d, before, after, all);
+        take_share(cells, r, row, column, p, w, s);
+        before = after;
+        p += 1;
+    }
+}
+
+// Places a dot: the cell's residual becomes 0, and what it lacks of a whole dot is taken from its neighbours.
+pub fn burn(cells: &mut [i64], r: usize, row: usize, column: usize)
+    requires { ⌜ BurnAsked (now cells) r row column ⌝ }
+    ensures { λ _. ⌜ now (cells .exit) ≡ diffuse plain r row column (missing (inLevel r (now (cells .entry)) row column)) 9 (set (now (cells .entry)) (placeIn r row column) (pos 0)) ⌝ }
+{
+    let side = sizes::pow2(r);
+    let at = row * side + column;
+    let d = ONE_DOT - cells[at];
+    cells[at] = 0;
+    diffuse(cells, r, row, column, d as usize);
+}

@@ -1,0 +1,26 @@
+-- `dot::place_dot`: the walk, the cells, the sums over them, the number noted.
+use borrow.Author.Needs.{needs}
+use Rattle.dot.specs.Placed.{off-bytes, off-in, burn-asked, sums-asked, side-fits, cell-fits, note-asked, placed}
+use Rattle.dot.proofs.place_dot.Statement.{statement}
+use Rattle.dot.proofs.place_dot.Tie as tie
+
+pub place-dot-spec : {M : Type 1} → statement M
+place-dot-spec =
+    tie.close
+    (tie.spec
+    (λ c κs. search needs)
+    (λ c κs. search needs)
+    (λ c. search (off-bytes, needs))
+    (λ c. search (off-in, needs))
+    (λ c. search (off-in, needs))
+    (λ c. search needs)
+    (λ c κs. search (burn-asked, needs))
+    (λ c κs. search (sums-asked, needs))
+    (λ c κs. search needs)
+    (λ c. search (side-fits, needs))
+    (λ c. search (cell-fits, needs))
+    (λ c κs. search (note-asked, needs))
+    (λ c. search needs)
+    (λ c. search needs)
+    (λ c. search needs)
+    (λ c. search (placed, needs)))

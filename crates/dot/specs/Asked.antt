@@ -1,0 +1,21 @@
+-- What the functions of this crate are asked.
+use Prim.Native.Nat.{ℕ, _≤_, _<_}
+use lib.IntN.{pos}
+use lib.Signed.{_≤ℤ_}
+use Rattle.definition.specs.Pyramid.{halfDot}
+use Rattle.definition.specs.Model.{Halftone, topOf}
+use Rattle.dots.specs.Steps.{Sheet}
+
+-- a sheet of just the needed lengths, sound, with a dot due
+pub record DotAsked (r : ℕ) (s : Halftone) : Type 0 where
+  pub power : 1 ≤ r
+  pub small : r ≤ 8
+  pub sheet : Sheet r s
+  pub due : pos halfDot ≤ℤ topOf (s .pyramid)
+
+-- a cell and a number that there are places for
+pub record NoteAsked (serials order at dots : ℕ) : Type 0 where
+  pub at-in : at < serials
+  pub dots-in : dots < order
+  pub at-most : at < 65536
+  pub dots-most : dots < 65536

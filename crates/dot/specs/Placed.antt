@@ -1,0 +1,167 @@
+-- A dot placed by the code: the walk, the cells burnt, the sums over them, and the number noted.
+use mathlib.Core.Path.{_≡_, refl, sym, ap, _∙_}
+use mathlib.Core.List.{List, _++_}
+use Prim.Native.Nat.{ℕ, zero, suc, _+_, _*_, _-_, _^_, _≤_, _<_}
+use native.Mathlib.Omega.{arith}
+use native.Mathlib.Nat.{sub-zero, mul-le-mul}
+use native.Mathlib.Numerals.{add-one}
+use native.Mathlib.Decide.{ℕ-discrete}
+use lib.Pow.{pow-mono}
+use lib.ListN.{length, getD, take, drop, set, length-set, length-drop, length-append}
+use lib.Seq.{length-take-le, getD-append-add, drop-at}
+use lib.IntN.{ℤ, pos}
+use mir.Syntax.{w64}
+use mir.Val.{Fits}
+use borrow.Author.Tests.{eq-eqb, ne-eqb}
+use Rattle.definition.specs.Pyramid.{cellCount, start, placeIn, inLevel, pyramidOver}
+use Rattle.definition.specs.Descent.{firstOfEquals, descend}
+use Rattle.definition.specs.Diffusion.{Kernel, plain, weightAt, diffuse}
+use Rattle.definition.specs.Model.{Halftone, missing, placeDot, step}
+use Rattle.integers.specs.Tests.{true-T}
+use Rattle.quadtree.specs.Levels.{start-suc, start-mono, cell-lt}
+use Rattle.quadtree.specs.Pyramids.{entry-drop, pyramid-cells}
+use Rattle.shares.specs.Kernels.{plain-fit}
+use Rattle.dots.specs.Steps.{Sheet, target, step-made, row-in, column-in, next-sheet}
+use Rattle.pyramid.specs.Asked.{Within, PyramidAsked}
+use Rattle.pyramid.specs.Four.{within-mono}
+use Rattle.pyramid.specs.Upward.{tail-lent, tail-back}
+use Rattle.descent.specs.Asked.{DescentAsked}
+use Rattle.diffusion.specs.Asked.{BurnAsked}
+use Rattle.dot.specs.Asked.{DotAsked, NoteAsked}
+use Rattle.dot.specs.Small.{mostResidual, sound-small, places-small}
+
+start-eight : start 8 ≡ 21845
+start-eight = unfold start in refl
+
+length-diffuse : (kernel : Kernel) (r row column d n : ℕ) (cells : List ℤ) → length (diffuse kernel r row column d n cells) ≡ length cells
+unfolding diffuse
+length-diffuse kernel r row column d zero cells = refl
+length-diffuse kernel r row column d (suc n) cells = go (ℕ-discrete (weightAt kernel r row column n) 0) (length-diffuse kernel r row column d n cells)
+  where
+    go : Dec (weightAt kernel r row column n ≡ 0) → length (diffuse kernel r row column d n cells) ≡ length cells → length (diffuse kernel r row column d (suc n) cells) ≡ length cells
+    go (yes z) e = rw (eq-eqb (weightAt kernel r row column n) 0 z, diffuse) e
+    go (no z) e = rw (ne-eqb (weightAt kernel r row column n) 0 z, diffuse) (simp length-set e)
+
+module _ (r : ℕ) (p : List ℤ) (ss o : List ℕ) (dots : ℕ) (h : DotAsked r (record { pyramid = p; serials = ss; order = o; dots = dots })) where
+  abbrev s : Halftone
+  s = record { pyramid = p; serials = ss; order = o; dots = dots }
+
+  big : 2 ≤ 2 ^ r
+  big = pow-mono {i = 1} {j = r} (h .power)
+
+  long : length p ≡ start r + cellCount r
+  long = h .sheet .sized .pyramid ∙ start-suc r
+
+  cells-long : length (drop (start r) p) ≡ cellCount r
+  cells-long = omega (arith, length-drop (start r) p, long)
+
+  pub descent-asked : DescentAsked (length p) r 0 0 0
+  descent-asked = record { most = h .small; level = omega arith; row = omega arith; column = omega arith; whole = omega (arith, h .sheet .sized .pyramid) }
+
+  -- the cell that the walk reaches
+  module _ (row column : ℕ) (ec : (row, column) ≡ descend firstOfEquals p (r - 0) 0 0 0) where
+    at-target : (row, column) ≡ target plain r s
+    at-target = rw (sub-zero r) at ec
+
+    row-lt : row < 2 ^ r
+    row-lt = rw (ap (λ (c : ℕ × ℕ). c .0) at-target) (row-in plain plain-fit r big s (h .sheet) (h .due))
+
+    column-lt : column < 2 ^ r
+    column-lt = rw (ap (λ (c : ℕ × ℕ). c .1) at-target) (column-in plain plain-fit r big s (h .sheet) (h .due))
+
+    next-is : step plain r s ≡ placeDot plain r s (row, column)
+    next-is = step-made plain r s (true-T _ (h .due .le)) ∙ ap (placeDot plain r s) (sym at-target)
+
+    sheet' : Sheet r (placeDot plain r s (row, column))
+    sheet' = rw at-target (next-sheet plain plain-fit r big s (h .sheet) (h .due))
+
+    module _ (off : ℕ) (eo : off ≡ start r) where
+      pub off-in : off ≤ length p
+      off-in = omega (arith, long)
+
+      pub off-bytes : Fits w64 (off * 8)
+      off-bytes = record { fits = omega (arith, start-mono r 8 (h .small), start-eight) }
+
+      abbrev lent : List ℤ
+      lent = take (length p - off) (drop off p)
+
+      lent-is : lent ≡ drop (start r) p
+      lent-is = tail-lent off p ∙ ap (λ (n : ℕ). drop n p) eo
+
+      lent-long : length lent ≡ cellCount r
+      lent-long = ap length lent-is ∙ cells-long
+
+      lent-small : (i : ℕ) → Within mostResidual (getD lent i (pos 0))
+      lent-small = places-small r mostResidual lent lent-long (λ x y a b. rw (lent-is, entry-drop p r x y) (sound-small r s (h .sheet .sound) x y a b))
+
+      pub burn-asked : BurnAsked lent r row column
+      burn-asked =
+          record {
+            cell = record { least = h .power; most = h .small; above = row-lt; left = column-lt };
+            whole = lent-long;
+            small = λ i. within-mono mostResidual (2 ^ 40) _ (omega arith) (lent-small i);
+            owed = rw (lent-is, entry-drop p r row column) (h .sheet .sound .at-most row column row-lt column-lt);
+          }
+
+      -- the cells come back as e
+      module _ {e : List ℤ} (q : e ≡ diffuse plain r row column (missing (inLevel r lent row column)) 9 (set lent (placeIn r row column) (pos 0))) where
+        abbrev back : List ℤ
+        back = take off p ++ (e ++ drop (length p - off) (drop off p))
+
+        e-long : length e ≡ cellCount r
+        e-long = ap length q ∙ length-diffuse plain r row column _ 9 _ ∙ length-set lent (placeIn r row column) (pos 0) ∙ lent-long
+
+        over-e : placeDot plain r s (row, column) .pyramid ≡ pyramidOver r e
+        unfolding placeDot
+        over-e = rw (q, lent-is)
+
+        e-small : (i : ℕ) → Within mostResidual (getD e i (pos 0))
+        e-small = places-small r mostResidual e e-long (λ x y a b. rw (over-e, pyramid-cells r e x y) at (sound-small r (placeDot plain r s (row, column)) (sheet' .sound) x y a b))
+
+        back-is : back ≡ take off p ++ e
+        back-is = tail-back off p e
+
+        head-long : length (take off p) ≡ start r
+        head-long = length-take-le off p off-in ∙ eo
+
+        pub sums-asked : PyramidAsked back r
+        sums-asked =
+            rw back-is
+            (record {
+              most = h .small;
+              whole = omega (arith, length-append (take off p) e, head-long, e-long, start-suc r, ap start (add-one r));
+              bound = mostResidual;
+              small = λ i. rw (rw head-long at (getD-append-add (take off p) e i (pos 0))) (e-small i);
+              room = let le : 2 ^ r ≤ 256 = pow-mono {i = r} {j = 8} (h .small) in omega (arith, mul-le-mul le le);
+            })
+
+        pub placed : {z : List ℤ} {s′ o′ : List ℕ} (side : ℕ) → side ≡ 2 ^ r → z ≡ pyramidOver r (drop (start r) back) → s′ ≡ set ss (row * side + column) (dots + 1) → o′ ≡ set o dots (row * side + column)
+            → record { pyramid = z; serials = s′; order = o′; dots = dots + 1 } ≡ step plain r s
+        unfolding placeDot
+        placed side es ez e₁ e₂ = rw (next-is, ez, e₁, e₂, es, back-is, drop-at (take off p) e (start r) head-long, q, lent-is, add-one dots)
+
+    module _ (side : ℕ) (es : side ≡ 2 ^ r) where
+      cell-in : row * side + column < 65536
+      cell-in = let le : 2 ^ r ≤ 256 = pow-mono {i = r} {j = 8} (h .small) in rw es (omega (arith, cell-lt (2 ^ r) row column row-lt column-lt, mul-le-mul le le))
+
+      pub side-fits : Fits w64 (row * side)
+      side-fits = record { fits = omega (arith, cell-in) }
+
+      pub cell-fits : Fits w64 (row * side + column)
+      cell-fits = record { fits = omega (arith, cell-in) }
+
+      pub note-asked : NoteAsked (length ss) (length o) (row * side + column) dots
+      note-asked =
+          let le : 2 ^ r ≤ 256 = pow-mono {i = r} {j = 8} (h .small) in
+          record {
+            at-in = rw es (omega (arith, cell-lt (2 ^ r) row column row-lt column-lt, h .sheet .sized .serials));
+            dots-in = omega (arith, room, h .sheet .sized .order);
+            at-most = cell-in;
+            dots-most = omega (arith, room, mul-le-mul le le);
+          }
+        where
+          room : dots < cellCount r
+          room = omega (arith, sheet' .sound .few-dots, dots-next)
+            where
+              dots-next : placeDot plain r s (row, column) .dots ≡ suc dots
+              dots-next = unfold placeDot in refl

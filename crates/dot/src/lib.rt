@@ -1,0 +1,31 @@
+// One dot: the walk to the neediest cell, the dot there, the sums renewed, its number noted.
+ghost use mathlib.Core.Path.{_≡_};
+ghost use Prim.Native.Nat.{_+_};
+ghost use lib.ListN.{length, set};
+ghost use Rattle.definition.specs.Diffusion.{plain};
+ghost use Rattle.definition.specs.Model.{step};
+ghost use Rattle.dot.specs.Asked.{NoteAsked, DotAsked};
+
+// Notes the next dot, at the cell with the number `at`, in serial sheet and order list.
+fn note(serials: &mut [u32], order: &mut [u32], at: usize, dots: u32)
+    requires { ⌜ NoteAsked (length (now serials)) (length (now order)) at dots ⌝ }
+    ensures { λ _. ⌜ (now (serials .exit) ≡ set (now (serials .entry)) at (dots + 1)) × (now (order .exit) ≡ set (now (order .entry)) dots at) ⌝ }
+{
+    serials[at] = dots + 1;
+    order[dots as usize] = at as u32;
+}
+
+// Makes the next dot, on a sound sheet of just the needed lengths where one is due.
+pub fn place_dot(pyramid: &mut [i64], serials: &mut [u32], order: &mut [u32], r: usize, dots: u32)
+    requires { ⌜ DotAsked r (record { pyramid = now pyramid; serials = now serials; order = now order; dots = dots }) ⌝ }
+    ensures { λ _. ⌜ record { pyramid = now (pyramid .exit); serials = now (serials .exit); order = now (order .exit); dots = dots + 1 } ≡ step plain r (record { pyramid = now (pyramid .entry); serials = now (serials .entry); order = now (order .entry); dots = dots }) ⌝ }
+{
+    let cell = descent::descend(pyramid, r, 0, 0, 0);
+    let row = cell.row;
+    let column = cell.column;
+    let cells = sizes::level_start(r);
+    diffusion::burn(&mut pyramid[cells..], r, row, column);
+    pyramid::sum_up(pyramid, r);
+    let side = sizes::pow2(r);
+    note(serials, order, row * side + column, dots);
+}

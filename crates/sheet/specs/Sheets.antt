@@ -1,0 +1,123 @@
+-- The checks of a sheet: its lengths, then whether it is sound.
+use mathlib.Core.Path.{_≡_, refl, sym, _∙_}
+use mathlib.Core.Bool.{Bool, true, false, not, cond}
+use mathlib.Core.List.{List}
+use Prim.Native.Nat.{ℕ, suc, _-_, _≤_, _<_}
+use native.Mathlib.Omega.{arith}
+use lib.Dec.{ltb, eqb}
+use lib.ListN.{length, take}
+use lib.Seq.{length-take-le}
+use lib.IntN.{ℤ}
+use borrow.Author.Tests.{ltb-false, le-ltb, eqb-false, ne-eqb}
+use Rattle.definition.specs.Answers.{numberOf}
+use Rattle.definition.specs.Pyramid.{needed, cellCount}
+use Rattle.definition.specs.Refusals.{lowest}
+use Rattle.definition.specs.Sound.{isSound}
+use Rattle.definition.specs.Advance.{sheetIn, advanceRefusal}
+use Rattle.definition.specs.declared.Refusal.{Refusal}
+use Rattle.definition.specs.declared.Refusal.the-variants.{SheetUnsound}
+use Rattle.refusals.specs.Lowest.{lowest-none}
+use Rattle.refusals.specs.Numbers.{number-positive}
+use Rattle.checks.specs.Checks.{checked, passed-none, failed-number}
+use Rattle.checks.specs.declared.Check.{Check}
+use Rattle.checks.specs.declared.Check.the-variants.{Passed, Failed}
+use Rattle.sound.specs.Asked.{SoundAsked}
+
+-- a sheet that is long enough
+pub record SheetLent (r pyramid serials order : ℕ) : Type 0 where
+  pub power : 0 < r
+  pub pyramid-long : needed r ≤ pyramid
+  pub serials-long : cellCount r ≤ serials
+  pub order-long : cellCount r ≤ order
+
+module _ (r p s o : ℕ) where
+  pub sheet-lent : advanceRefusal r p s o true ≡ 0 → SheetLent r p s o
+  unfolding advanceRefusal
+  sheet-lent e =
+      let r₁ = lowest-none 1 (eqb r 0) _ (omega arith) e in
+      let r₂ = lowest-none 3 (ltb p (needed r)) _ (omega arith) (r₁ .1) in
+      let r₃ = lowest-none 4 (ltb s (cellCount r)) _ (omega arith) (r₂ .1) in
+      let r₄ = lowest-none 4 (ltb o (cellCount r)) _ (omega arith) (r₃ .1) in
+      record {
+        power = omega (arith, eqb-false r 0 (r₁ .0));
+        pyramid-long = ltb-false _ _ (r₂ .0);
+        serials-long = ltb-false _ _ (r₃ .0);
+        order-long = ltb-false _ _ (r₄ .0);
+      }
+
+  -- where the lengths are refused, soundness does not matter; where they are not, it alone does
+  pub lengths-first : (n : ℕ) → advanceRefusal r p s o true ≡ suc n → (sound : Bool) → advanceRefusal r p s o sound ≡ suc n
+  unfolding advanceRefusal lowest
+  lengths-first n e sound = go (eqb r 0) (ltb p (needed r)) (ltb s (cellCount r)) (ltb o (cellCount r)) e
+    where
+      go : (a b c d : Bool) → cond a 1 (cond b 3 (cond c 4 (cond d 4 0))) ≡ suc n → cond a 1 (cond b 3 (cond c 4 (cond d 4 (cond (not sound) 5 0)))) ≡ suc n
+      go true b c d e = e
+      go false true c d e = e
+      go false false true d e = e
+      go false false false true e = e
+      go false false false false e = absurd (omega arith)
+
+  pub then-sound : SheetLent r p s o → (sound : Bool) → advanceRefusal r p s o sound ≡ cond sound 0 5
+  unfolding advanceRefusal lowest
+  then-sound h sound =
+      rw (ne-eqb r 0 (λ e. omega arith), le-ltb p (needed r) (h .pyramid-long), le-ltb s (cellCount r) (h .serials-long), le-ltb o (cellCount r) (h .order-long)) (go sound)
+    where
+      go : (b : Bool) → _≡_ {A = ℕ} (cond (not b) 5 0) (cond b 0 5)
+      go true = refl
+      go false = refl
+
+-- ---- the code's way: the lengths are checked first; n and c are what it has worked out for the needed length and the number of cells
+module _ {r : ℕ} (small : r ≤ 8) (p : List ℤ) (s o : List ℕ) (dots : ℕ) (lengths : Check) (e : checked lengths ≡ advanceRefusal r (length p) (length s) (length o) true) where
+  pub lengths-failed : {why : Refusal} → lengths ≡ Failed why
+      → checked (Failed why) ≡ advanceRefusal r (length p) (length s) (length o) (isSound r (sheetIn r dots p s o))
+  unfolding checked
+  lengths-failed {why} failed =
+      number-positive why ∙ sym (lengths-first r (length p) (length s) (length o) (numberOf why - 1) (failed-number lengths e why failed) (isSound r (sheetIn r dots p s o)))
+
+  module _ (passed : lengths ≡ Passed) where
+    lent : SheetLent r (length p) (length s) (length o)
+    lent = sheet-lent r (length p) (length s) (length o) (passed-none lengths e passed)
+
+    module _ (n : ℕ) (en : n ≡ needed r) where
+      pub pyramid-in : n ≤ length p
+      pyramid-in = omega (arith, lent .pyramid-long)
+
+      pub pyramid-part : n ≡ length (take n p)
+      pyramid-part = sym (length-take-le n p pyramid-in)
+
+    module _ (c : ℕ) (ec : c ≡ cellCount r) where
+      pub serials-in : c ≤ length s
+      serials-in = omega (arith, lent .serials-long)
+
+      pub order-in : c ≤ length o
+      order-in = omega (arith, lent .order-long)
+
+      pub serials-part : c ≡ length (take c s)
+      serials-part = sym (length-take-le c s serials-in)
+
+      pub order-part : c ≡ length (take c o)
+      order-part = sym (length-take-le c o order-in)
+
+    module _ (n c : ℕ) (en : n ≡ needed r) (ec : c ≡ cellCount r) where
+      pub sound-asked : SoundAsked r (length (take n p)) (length (take c s)) (length (take c o))
+      sound-asked =
+          record {
+            some = lent .power;
+            most = small;
+            whole = sym (pyramid-part n en) ∙ en;
+            cells = sym (serials-part c ec) ∙ ec;
+            places = sym (order-part c ec) ∙ ec;
+          }
+
+      module _ (b : Bool) (eb : b ≡ isSound r (record { pyramid = take n p; serials = take c s; order = take c o; dots = dots })) where
+        sound-is : isSound r (sheetIn r dots p s o) ≡ b
+        unfolding sheetIn
+        sound-is = rw (eb, en, ec)
+
+        pub is-sound : b ≡ true → checked Passed ≡ advanceRefusal r (length p) (length s) (length o) (isSound r (sheetIn r dots p s o))
+        unfolding checked
+        is-sound yes′ = sym (rw (sound-is, yes′) (then-sound r (length p) (length s) (length o) lent true))
+
+        pub is-unsound : b ≡ false → checked (Failed SheetUnsound) ≡ advanceRefusal r (length p) (length s) (length o) (isSound r (sheetIn r dots p s o))
+        unfolding checked numberOf
+        is-unsound no′ = sym (rw (sound-is, no′) (then-sound r (length p) (length s) (length o) lent false))

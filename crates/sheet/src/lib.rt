@@ -1,0 +1,56 @@
+// The check of the calls that take a sheet: refusals 1, 3, 4 and 5.
+use checks::Check;
+use definition::Refusal;
+ghost use mathlib.Core.Path.{_≡_};
+ghost use mathlib.Core.Bool.{true};
+ghost use Prim.Native.Nat.{_≤_};
+ghost use lib.ListN.{length};
+ghost use Rattle.definition.specs.Sound.{isSound};
+ghost use Rattle.definition.specs.Advance.{sheetIn, advanceRefusal};
+ghost use Rattle.checks.specs.Checks.{checked};
+
+// Refusals 1, 3, 4, from the side's power and the lengths lent.
+fn check_lengths(r: usize, pyramid: usize, serials: usize, order: usize) -> Check
+    requires { ⌜ r ≤ 8 ⌝ }
+    ensures { λ c. ⌜ checked c ≡ advanceRefusal r pyramid serials order true ⌝ }
+{
+    if r == 0 {
+        return Check::Failed(Refusal::SideUnknown);
+    }
+    let cells = sizes::cell_count(r);
+    let needed = sizes::needed(r);
+    if pyramid < needed {
+        return Check::Failed(Refusal::PyramidShort);
+    }
+    if serials < cells {
+        return Check::Failed(Refusal::SheetShort);
+    }
+    if order < cells {
+        return Check::Failed(Refusal::SheetShort);
+    }
+    Check::Passed
+}
+
+// Refusals 1, 3, 4, 5: the lengths lent, then whether the sheet is sound.
+pub fn check_sheet(r: usize, dots: u32, pyramid: &[i64], serials: &[u32], order: &[u32]) -> Check
+    requires { ⌜ r ≤ 8 ⌝ }
+    ensures { λ c. ⌜ checked c ≡ advanceRefusal r (length (now (pyramid .entry))) (length (now (serials .entry))) (length (now (order .entry))) (isSound r (sheetIn r dots (now (pyramid .entry)) (now (serials .entry)) (now (order .entry)))) ⌝ }
+{
+    match check_lengths(r, pyramid.len(), serials.len(), order.len()) {
+        Check::Failed(why) => Check::Failed(why),
+        Check::Passed => {
+            let needed = sizes::needed(r);
+            let cells = sizes::cell_count(r);
+            if sound::is_sound(
+                r,
+                dots,
+                &pyramid[..needed],
+                &serials[..cells],
+                &order[..cells],
+            ) {
+                return Check::Passed;
+            }
+            Check::Failed(Refusal::SheetUnsound)
+        }
+    }
+}

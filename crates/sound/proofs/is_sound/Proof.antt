@@ -1,0 +1,25 @@
+-- `sound::is_sound`: a test that fails decides; the sums, which need the bounds, come last.
+use borrow.Author.Needs.{needs}
+use Rattle.sound.specs.Seven.{numbered-asked, summed-asked, few-no, numbered-no, counted-no, unused-no, bounded-no, owing-no, all-but-sums}
+use Rattle.sound.specs.Places.{held, failed}
+use Rattle.sound.proofs.is_sound.Statement.{statement}
+use Rattle.sound.proofs.is_sound.Tie as tie
+
+pub is-sound-spec : {M : Type 1} → statement M
+is-sound-spec =
+    tie.close
+    (tie.spec
+    (λ c κs. search needs)
+    (λ c. search (few-no, failed, needs))
+    (λ c κs. search (numbered-asked, needs))
+    (λ c. search (numbered-no, failed, needs))
+    (λ c κs. search needs)
+    (λ c. search (counted-no, failed, needs))
+    (λ c κs. search needs)
+    (λ c. search (unused-no, failed, needs))
+    (λ c κs. search needs)
+    (λ c. search (bounded-no, failed, needs))
+    (λ c κs. search needs)
+    (λ c. search (owing-no, failed, needs))
+    (λ c κs. summed-asked _ _ (c .before .before .before .before .before .before .before .before .before .before .before .before .before .before .args .serials .now) (c .before .before .before .before .before .before .before .before .before .before .before .before .before .before .pre) (c .before .before .before .bounded .ensures) (c .before .before .if5 .left) (c .before .owing .ensures) (c .if6 .left))
+    (λ c. search (all-but-sums, held, needs)))

@@ -1,0 +1,34 @@
+-- `sound::level_summed`: the loop tests place after place.
+use Prim.Native.Nat.{_-_}
+use native.Mathlib.Omega.{arith}
+use borrow.Author.Needs.{needs}
+use Rattle.sound.specs.Asked.{sumAt}
+use Rattle.sound.specs.Places.{Held, none, turn, fails, passes}
+use Rattle.sound.specs.Sums.{sides-asked, in-square, level-every}
+use Rattle.sound.proofs.level_summed.Statement.{statement}
+use Rattle.sound.proofs.level_summed.Tie as tie
+
+abbrev Inv-loop : tie.InvT-loop
+Inv-loop k pyramid side off next size i₀ i = Held (sumAt pyramid off next side) size i
+
+abbrev μ-loop : tie.MeasureT-loop
+μ-loop k pyramid side off next size i₀ i = size - i
+
+pub level-summed-spec : {M : Type 1} → statement M
+level-summed-spec =
+    tie.close
+    (tie.spec
+    Inv-loop
+    μ-loop
+    (λ c κs. search needs)
+    (λ c κs. search needs)
+    (λ c. search needs)
+    (λ c κs. search needs)
+    (λ c κs. search needs)
+    (λ c. none)
+    (λ c κs. (search (sides-asked, needs), search (in-square, needs)))
+    (λ c. search (fails, level-every, needs))
+    (λ c. omega arith)
+    (λ c. omega arith)
+    (λ c. search (turn, needs))
+    (λ c. search (passes, level-every, needs)))

@@ -1,0 +1,151 @@
+-- What the tests of a sheet are asked, and the same tests of one place.
+use mathlib.Core.Path.{_≡_}
+use mathlib.Core.Bool.{Bool, cond, not, _&&_, _||_}
+use mathlib.Core.List.{List}
+use Prim.Native.Nat.{ℕ, suc, _+_, _*_, _-_, _/_, _%_, _^_, _≤_, _<_}
+use lib.Dec.{leb, ltb, eqb}
+use lib.ListN.{length, getD}
+use lib.IntN.{ℤ, pos, negℤ}
+use lib.Signed.{leZ}
+use Rattle.definition.specs.Lists.{sumTo, eqZ}
+use Rattle.definition.specs.Pyramid.{oneDot, cellCount, needed, start, entry, four}
+use Rattle.definition.specs.Blocks.{burnt}
+use Rattle.definition.specs.Diffusion.{rowNear, columnNear}
+use Rattle.pyramid.specs.Asked.{fourAt, Within, FourAsked}
+
+-- parts of just the lengths that a map of power r needs
+pub record SoundAsked (r pyramid serials order : ℕ) : Type 0 where
+  pub some : 1 ≤ r
+  pub most : r ≤ 8
+  pub whole : pyramid ≡ needed r
+  pub cells : serials ≡ cellCount r
+  pub places : order ≡ cellCount r
+
+-- a part with a place for each cell
+pub record CellsAsked (r part : ℕ) : Type 0 where
+  pub most : r ≤ 8
+  pub cells : part ≡ cellCount r
+
+-- serials and order, and dots of which each has its order place
+pub record NumberedAsked (r serials order dots : ℕ) : Type 0 where
+  pub most : r ≤ 8
+  pub cells : serials ≡ cellCount r
+  pub places : order ≡ cellCount r
+  pub few : dots ≤ cellCount r
+
+-- order place i names a cell, and the serial there is the next after i
+abbrev pub nextAt : ℕ → List ℕ → List ℕ → ℕ → Bool
+nextAt cells serials order i = ltb (getD order i 0) cells && eqb (getD serials (getD order i 0) 0) (suc i)
+
+pub record NextAsked (cells serials order i : ℕ) : Type 0 where
+  pub cell : cells ≤ serials
+  pub place : i < order
+
+-- a place of the order list is used, or 0
+abbrev pub freeAt : ℕ → List ℕ → ℕ → Bool
+freeAt dots order i = ltb i dots || eqb (getD order i 0) 0
+
+-- ════ cells
+
+-- a pyramid and serials
+pub record GridAsked (r pyramid serials : ℕ) : Type 0 where
+  pub most : r ≤ 8
+  pub whole : pyramid ≡ needed r
+  pub cells : serials ≡ cellCount r
+
+-- a residual is at most one dot, and at most 0 if the cell is burnt
+abbrev pub boundedCell : ℤ → ℕ → Bool
+boundedCell residual serial = leZ residual (pos oneDot) && (eqb (burnt serial) 0 || leZ residual (pos 0))
+
+-- so for cell i, the cells beginning at place `off`
+abbrev pub boundedAt : ℕ → List ℤ → List ℕ → ℕ → Bool
+boundedAt off pyramid serials i = boundedCell (getD pyramid (off + i) (pos 0)) (getD serials i 0)
+
+pub record CellAsked (off pyramid serials i : ℕ) : Type 0 where
+  pub residual : off + i < pyramid
+  pub serial : i < serials
+
+-- a row or column counted from one before the map lies on a map of side `side`
+abbrev pub onSide : ℕ → ℕ → Bool
+onSide side x = leb 1 x && leb x side
+
+-- place p of the nine around a cell is another cell, on the map; and 1 if it is burnt too
+abbrev pub isNear : ℕ → ℕ → ℕ → ℕ → Bool
+isNear side row column p = not (eqb p 4) && (onSide side (rowNear row p) && onSide side (columnNear column p))
+
+abbrev pub burntThere : ℕ → List ℕ → ℕ → ℕ → ℕ → ℕ
+burntThere side serials row column p = burnt (getD serials ((rowNear row p - 1) * side + (columnNear column p - 1)) 0)
+
+abbrev pub nearAt : ℕ → List ℕ → ℕ → ℕ → ℕ → ℕ
+nearAt side serials row column p = cond (isNear side row column p) (burntThere side serials row column p) 0
+
+-- a cell of a map of side `side`
+pub record NearAsked (side serials row column : ℕ) : Type 0 where
+  pub small : side ≤ 256
+  pub cells : serials ≡ side * side
+  pub down : row < side
+  pub across : column < side
+
+-- row x and column y, so counted, lie on the map
+pub record NearPlace (side serials x y : ℕ) : Type 0 where
+  pub down : 1 ≤ x
+  pub across : 1 ≤ y
+  pub inside : (x - 1) * side + (y - 1) < serials
+  pub few : serials ≤ 65536
+
+-- a residual is at least −65,280 for each burnt neighbour
+abbrev pub owingCell : ℤ → ℕ → Bool
+owingCell residual near = leZ (negℤ (pos (oneDot * near))) residual
+
+abbrev pub owingAt : ℕ → ℕ → List ℤ → List ℕ → ℕ → Bool
+owingAt side off pyramid serials i = owingCell (getD pyramid (off + i) (pos 0)) (sumTo 9 (nearAt side serials (i / side) (i % side)))
+
+pub record OwingAsked (side off pyramid serials i : ℕ) : Type 0 where
+  pub some : 0 < side
+  pub small : side ≤ 256
+  pub cells : serials ≡ side * side
+  pub whole : pyramid ≡ off + side * side
+  pub within : i < side * side
+
+-- ════ sums
+
+-- the entry at place `at` is the sum of the four from place `top` on, in rows of `wide`
+abbrev pub sumHolds : List ℤ → ℕ → ℕ → ℕ → Bool
+sumHolds pyramid at top wide = eqZ (getD pyramid at (pos 0)) (fourAt pyramid top wide)
+
+pub record SumAsked (pyramid : List ℤ) (at top wide : ℕ) : Type 0 where
+  pub room : at < length pyramid
+  pub below : FourAsked pyramid top wide
+
+-- where the four below place i of a level of side `side` begin, the next finer level beginning at `next`
+abbrev pub belowPlace : ℕ → ℕ → ℕ → ℕ
+belowPlace next side i = next + (2 * (i / side) * (2 * side) + 2 * (i % side))
+
+-- place i of a level of side `side` that begins at `off`
+abbrev pub sumAt : List ℤ → ℕ → ℕ → ℕ → ℕ → Bool
+sumAt pyramid off next side i = sumHolds pyramid (off + i) (belowPlace next side i) (2 * side)
+
+-- so for every entry of level k
+abbrev pub levelSummed : List ℤ → ℕ → ℕ → ℕ → Bool
+levelSummed pyramid k a b = eqZ (entry pyramid k a b) (four (entry pyramid (suc k)) a b)
+
+-- a level of side `side`, and the next finer one, far from overflow
+pub record SidesAsked (pyramid : List ℤ) (off next side : ℕ) : Type 0 where
+  pub some : 0 < side
+  pub most : side ≤ 128
+  pub room : off + side * side ≤ next
+  pub whole : next + 2 * side * (2 * side) ≤ length pyramid
+  pub low : next ≤ 87381
+  pub small : (i : ℕ) → i < 2 * side * (2 * side) → Within (2 ^ 60) (getD pyramid (next + i) (pos 0))
+
+-- the same of level k
+pub record LevelAsked (pyramid : List ℤ) (k : ℕ) : Type 0 where
+  pub most : k ≤ 7
+  pub whole : start (k + 2) ≤ length pyramid
+  pub small : (i : ℕ) → i < 2 ^ (k + 1) * 2 ^ (k + 1) → Within (2 ^ 60) (getD pyramid (start (k + 1) + i) (pos 0))
+
+-- a pyramid of just the needed length, whose cells are small
+pub record SummedAsked (pyramid : List ℤ) (r : ℕ) : Type 0 where
+  pub most : r ≤ 8
+  pub whole : length pyramid ≡ needed r
+  pub small : (x y : ℕ) → x < 2 ^ r → y < 2 ^ r → Within (2 ^ 20) (entry pyramid r x y)

@@ -1,0 +1,155 @@
+-- The tests of every cell as tests of one cell after another, and of one cell.
+use mathlib.Core.Path.{_≡_, refl, sym, ap, _∙_, fun-ext}
+use mathlib.Core.Bool.{Bool, true, false, not, _&&_}
+use mathlib.Core.List.{List}
+use Prim.Native.Nat.{ℕ, _+_, _*_, _-_, _/_, _%_, _^_, _≤_, _<_}
+use native.Mathlib.Omega.{arith}
+use native.Mathlib.Nat.{mul-le-mul, div-lt-iff-lt-mul, mod-lt}
+use lib.Dec.{T, leb, eqb}
+use lib.ListN.{getD}
+use lib.IntN.{ℤ, pos, negℤ, _-ℤ_, _*ℤ_}
+use lib.Signed.{leZ, mag}
+use lib.Pow.{pow-pos, pow-mono}
+use mir.Syntax.{w64}
+use mir.Val.{SFits, toZ, ofZ}
+use mir.Facts.{toZ-ofZ}
+use borrow.Author.Tests.{le-leb}
+use Rattle.definition.specs.Lists.{allTo, sumTo}
+use Rattle.definition.specs.Pyramid.{oneDot, cellCount, start, placeIn, rowAt, columnAt, entry}
+use Rattle.definition.specs.Blocks.{burnt, burntAt}
+use Rattle.definition.specs.Diffusion.{rowNear, columnNear, within, onMap}
+use Rattle.definition.specs.Sound.{burntNear, everyEntry, bounded, owing}
+use Rattle.integers.specs.Tests.{T-true, T-and, and-T, ne→neqb, cond-T, cond-not, tests, allTo-at, allTo-all, everyEntry-at, everyEntry-all}
+use Rattle.integers.specs.Linear.{zz, ints}
+use Rattle.integers.specs.Machine.{back64, of-bits, natAbs-fits, words, machine}
+use Rattle.quadtree.specs.Levels.{start-suc, cell-lt, place-lt, row-place, column-place, place-row-column, row-lt, column-lt}
+use Rattle.survey.specs.Totals.{Total}
+use Rattle.survey.specs.Squares.{dot-none, dot-one}
+use Rattle.sound.specs.Asked.{CellAsked, GridAsked, NearAsked, NearPlace, OwingAsked, isNear, burntThere, boundedCell, boundedAt, onSide, nearAt, owingCell, owingAt}
+use Rattle.sound.specs.Places.{Every, held, failed, same-test, and-true, and-false}
+
+-- a test of each entry of a level is one of each of its places
+pub every-place : (k : ℕ) (test : ℕ → ℕ → Bool) → everyEntry k test ≡ allTo (2 ^ k * 2 ^ k) (λ i. test (rowAt k i) (columnAt k i))
+every-place k test =
+    let at : ℕ → Bool = λ i. test (rowAt k i) (columnAt k i) in
+    same-test (everyEntry k test) (allTo (2 ^ k * 2 ^ k) at)
+    (λ t. allTo-all (2 ^ k * 2 ^ k) at (λ i lt. everyEntry-at k test t (rowAt k i) (columnAt k i) (row-lt k i lt) (column-lt k i)))
+    (λ t. everyEntry-all k test (λ a b p q. rw (row-place k a b q, column-place k a b q) at (allTo-at (2 ^ k * 2 ^ k) at t (placeIn k a b) (place-lt k a b p q))))
+
+-- the entry at a place
+pub entry-place : (k : ℕ) (pyramid : List ℤ) (i : ℕ) → entry pyramid k (rowAt k i) (columnAt k i) ≡ getD pyramid (start k + i) (pos 0)
+unfolding entry
+entry-place k pyramid i = rw (place-row-column k i)
+
+burnt-place : (r : ℕ) (serials : List ℕ) (i : ℕ) → burntAt r serials (rowAt r i) (columnAt r i) ≡ burnt (getD serials i 0)
+unfolding burntAt placeIn
+burnt-place r serials i = ap (λ (n : ℕ). burnt (getD serials n 0)) (place-row-column r i)
+
+pub bounded-every : (r : ℕ) {cells off : ℕ} → cells ≡ cellCount r → off ≡ start r → (pyramid : List ℤ) (serials : List ℕ) → Every (bounded r pyramid serials) (boundedAt off pyramid serials) cells
+unfolding bounded
+bounded-every r e o pyramid serials =
+    record {
+      is = every-place r _ ∙ rw (e, o) (ap (allTo (cellCount r)) (fun-ext (λ i. rw (entry-place r pyramid i, burnt-place r serials i))));
+    }
+
+-- ════ one cell's bound from above
+
+lower : (residual : ℤ) → T (leZ residual (pos 0)) → T (leZ residual (pos oneDot))
+lower residual t = simp zz (omega ints)
+
+module _ (residual : ℤ) {serial : ℕ} (fits : mag residual < 2 ^ 63) where
+  pub bounded-free : serial ≡ 0 → leZ (toZ w64 (ofZ w64 residual)) (pos 65280) ≡ boundedCell residual serial
+  bounded-free e = rw (back64 residual fits, ← dot-none e .is) (and-true (leZ residual (pos oneDot)))
+
+  pub bounded-burnt : (serial ≡ 0 → ⊥) → leZ (toZ w64 (ofZ w64 residual)) (pos 0) ≡ boundedCell residual serial
+  bounded-burnt n =
+      let high = leZ residual (pos oneDot) in
+      let low = leZ residual (pos 0) in
+      rw (back64 residual fits, ← dot-one n .is) (same-test low (high && low) (λ t. and-T high low (lower residual t) t) (λ t. T-and high low t .1))
+
+pub cell-asked : (r : ℕ) {cells off pyramid serials i : ℕ} → GridAsked r pyramid serials → cells ≡ cellCount r → off ≡ start r → i < cells → CellAsked off pyramid serials i
+cell-asked r h e o lt = record { residual = omega (arith, h .whole, start-suc r); serial = omega (arith, h .cells) }
+
+-- ════ burnt neighbours
+
+pub off-side : (side : ℕ) {x : ℕ} → x ≡ 0 → false ≡ onSide side x
+off-side side e = rw e
+
+pub on-side-is : (side : ℕ) {x : ℕ} → (x ≡ 0 → ⊥) → leb x side ≡ onSide side x
+on-side-is side {x} n = rw (le-leb 1 x (omega arith))
+
+module _ {side serials x y : ℕ} where
+  pub near-place : {row column : ℕ} {a b : Bool} → NearAsked side serials row column → a ≡ onSide side x → not a ≡ false → b ≡ onSide side y → not b ≡ false → NearPlace side serials x y
+  near-place h e f g k =
+      let s = T-and (leb 1 x) (leb x side) (T-true _ (held e f)) in
+      let t = T-and (leb 1 y) (leb y side) (T-true _ (held g k)) in
+      let x₁ : 1 ≤ x = omega (tests, s .0) in
+      let y₁ : 1 ≤ y = omega (tests, t .0) in
+      let x₂ : x - 1 < side = omega (tests, s .1) in
+      let y₂ : y - 1 < side = omega (tests, t .1) in
+      record { down = x₁; across = y₁; inside = omega (arith, h .cells, cell-lt side (x - 1) (y - 1) x₂ y₂); few = omega (arith, h .cells, mul-le-mul (h .small) (h .small)) }
+
+module _ (side : ℕ) (serials : List ℕ) (row column p : ℕ) where
+  abbrev across : Bool
+  across = onSide side (columnNear column p)
+
+  abbrev down : Bool
+  down = onSide side (rowNear row p)
+
+  near-none : T (not (isNear side row column p)) → Total (nearAt side serials row column p) 1 0
+  near-none t = record { is = sym (cond-not (isNear side row column p) (burntThere side serials row column p) 0 t); small = omega arith }
+
+  pub near-self : p ≡ 4 → Total (nearAt side serials row column p) 1 0
+  near-self e = near-none (rw e tt)
+
+  pub near-row : {b : Bool} → b ≡ down → not b ≡ true → Total (nearAt side serials row column p) 1 0
+  near-row e f = near-none (rw (failed e f, and-false (not (eqb p 4))) tt)
+
+  pub near-column : {b : Bool} → b ≡ across → not b ≡ true → Total (nearAt side serials row column p) 1 0
+  near-column e f = near-none (rw (failed e f, and-false down, and-false (not (eqb p 4))) tt)
+
+  pub near-on : {a b : Bool} {n : ℕ} → (p ≡ 4 → ⊥) → a ≡ down → not a ≡ false → b ≡ across → not b ≡ false
+      → Total (burntThere side serials row column p) 1 n → Total (nearAt side serials row column p) 1 n
+  near-on q e f g k h =
+      record { is = h .is ∙ sym (cond-T (isNear side row column p) (burntThere side serials row column p) 0 (and-T (not (eqb p 4)) (down && across) (ne→neqb p 4 q) (and-T down across (T-true _ (held e f)) (T-true _ (held g k))))); small = h .small }
+
+-- ════ one cell's bound from below
+
+module _ (near : ℕ) (few : near ≤ 9) where
+  owed : pos 65280 *ℤ toZ w64 near ≡ pos (oneDot * near)
+  owed = rw (of-bits near (omega arith))
+
+  pub owed-fits : SFits w64 (pos 65280 *ℤ toZ w64 near)
+  owed-fits = rw owed (natAbs-fits (pos (oneDot * near)) (omega arith))
+
+  least : pos 0 -ℤ toZ w64 (ofZ w64 (pos 65280 *ℤ toZ w64 near)) ≡ negℤ (pos (oneDot * near))
+  least = rw (toZ-ofZ owed-fits, owed) (simp zz (omega arith))
+
+  pub least-fits : SFits w64 (pos 0 -ℤ toZ w64 (ofZ w64 (pos 65280 *ℤ toZ w64 near)))
+  least-fits = rw least (simp words (omega machine))
+
+  pub owing-is : (residual : ℤ) → mag residual < 2 ^ 63
+      → leZ (toZ w64 (ofZ w64 (pos 0 -ℤ toZ w64 (ofZ w64 (pos 65280 *ℤ toZ w64 near))))) (toZ w64 (ofZ w64 residual)) ≡ owingCell residual near
+  owing-is residual fits = rw (toZ-ofZ least-fits, least, back64 residual fits)
+
+pub near-asked : {side off pyramid serials i : ℕ} → OwingAsked side off pyramid serials i → NearAsked side serials (i / side) (i % side)
+near-asked {i = i} h = record { small = h .small; cells = h .cells; down = div-lt-iff-lt-mul (h .some) .1 (h .within); across = mod-lt i (h .some) }
+
+pub owing-near : (residual : ℤ) {near value most : ℕ} {b : Bool} → mag residual < 2 ^ 63 → Total value most near → b ≡ owingCell (toZ w64 (ofZ w64 residual)) near → b ≡ owingCell residual value
+owing-near residual fits h e = rw (back64 residual fits, h .is) at e
+
+pub owing-asked : (r : ℕ) {side off pyramid serials i cells : ℕ} → GridAsked r pyramid serials → side ≡ 2 ^ r → cells ≡ cellCount r → off ≡ start r → i < cells → OwingAsked side off pyramid serials i
+owing-asked r h e c o lt =
+    rw (e, o)
+    (record { some = pow-pos r; small = pow-mono {i = r} {j = 8} (h .most); cells = h .cells; whole = omega (arith, h .whole, start-suc r); within = omega arith })
+
+near-same : (r : ℕ) (serials : List ℕ) (i : ℕ) → burntNear r serials (rowAt r i) (columnAt r i) ≡ sumTo 9 (nearAt (2 ^ r) serials (i / 2 ^ r) (i % 2 ^ r))
+unfolding burntNear onMap within burntAt rowAt columnAt
+near-same r serials i = refl
+
+pub owing-every : (r : ℕ) {side cells off : ℕ} → side ≡ 2 ^ r → cells ≡ cellCount r → off ≡ start r → (pyramid : List ℤ) (serials : List ℕ) → Every (owing r pyramid serials) (owingAt side off pyramid serials) cells
+unfolding owing
+owing-every r e c o pyramid serials =
+    record {
+      is = every-place r _ ∙ rw (e, c, o) (ap (allTo (cellCount r)) (fun-ext (λ i. rw (entry-place r pyramid i, near-same r serials i))));
+    }

@@ -1,0 +1,6 @@
+pub mod Asked
+pub mod Places
+pub mod Cells
+pub mod Sums
+pub mod Upward
+pub mod Seven
