@@ -17,7 +17,7 @@ use Rattle.definition.specs.Diffusion.{plain}
 use Rattle.definition.specs.Model.{Halftone, topOf, step, steps}
 use Rattle.definition.specs.Advance.{dotsDue}
 use Rattle.integers.specs.Linear.{ints, up-or-dn}
-use Rattle.quadtree.specs.Levels.{start-suc}
+use Rattle.quadtree.specs.Levels.{start-suc, cells-few}
 use Rattle.shares.specs.Kernels.{plain-fit}
 use Rattle.dots.specs.Steps.{Sheet, due-is, steps-sheet, steps-due}
 use Rattle.dot.specs.Asked.{DotAsked}
@@ -70,7 +70,7 @@ module _ (r : ℕ) (p₀ : List ℤ) (s₀ o₀ : List ℕ) (dots budget : ℕ) 
     top-in = omega (arith, sheet .sized .pyramid, start-suc r, mul-le-mul big big)
 
     pub few : Fits w32 (dots + made)
-    few = let le : 2 ^ r ≤ 256 = pow-mono {i = r} {j = 8} (h .small) in record { fits = omega (arith, sheet .sound .few-dots, mul-le-mul le le) }
+    few = record { fits = omega (arith, sheet .sound .few-dots, cells-few r (h .small)) }
 
     -- what is due now is what of the dots due at the start has not been made
     rest : made + dotsDue (topOf p) ≡ dotsDue (topOf p₀)

@@ -45,7 +45,7 @@ pub record DiffuseAsked (cells : List ℤ) (r row column d : ℕ) : Type 0 where
   pub fair : d ≤ 2 ^ 41
 
 -- a dot to place at a cell, whose residual is at most one dot's worth
-pub record BurnAsked (cells : List ℤ) (r row column : ℕ) : Type 0 where
+pub record PlaceAsked (cells : List ℤ) (r row column : ℕ) : Type 0 where
   pub cell : CellAsked r row column
   pub whole : length cells ≡ cellCount r
   pub small : (i : ℕ) → Within (2 ^ 40) (getD cells i (pos 0))

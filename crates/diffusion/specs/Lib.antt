@@ -3,4 +3,4 @@ pub mod Places
 pub mod Weights
 pub mod Shares
 pub mod Turns
-pub mod Burning
+pub mod Placing

@@ -7,7 +7,7 @@ ghost use Rattle.definition.specs.Lists.{sumTo};
 ghost use Rattle.definition.specs.Pyramid.{placeIn, inLevel};
 ghost use Rattle.definition.specs.Model.{missing};
 ghost use Rattle.definition.specs.Diffusion.{plain, weightAt, diffuse};
-ghost use Rattle.diffusion.specs.Asked.{shareTaken, CellAsked, ShareAsked, DiffuseAsked, BurnAsked};
+ghost use Rattle.diffusion.specs.Asked.{shareTaken, CellAsked, ShareAsked, DiffuseAsked, PlaceAsked};
 
 // The weights of the nine places around a cell, by row then column: a straight neighbour weighs 2, a diagonal one 1.
 const WEIGHTS: [usize; 9] = [1, 2, 1, 2, 0, 2, 1, 2, 1];
@@ -93,8 +93,8 @@ pub fn diffuse(cells: &mut [i64], r: usize, row: usize, column: usize, d: usize)
 }
 
 // Places a dot: the cell's residual becomes 0, and what it lacks of a whole dot is taken from its neighbours.
-pub fn burn(cells: &mut [i64], r: usize, row: usize, column: usize)
-    requires { ⌜ BurnAsked (now cells) r row column ⌝ }
+pub fn place(cells: &mut [i64], r: usize, row: usize, column: usize)
+    requires { ⌜ PlaceAsked (now cells) r row column ⌝ }
     ensures { λ _. ⌜ now (cells .exit) ≡ diffuse plain r row column (missing (inLevel r (now (cells .entry)) row column)) 9 (set (now (cells .entry)) (placeIn r row column) (pos 0)) ⌝ }
 {
     let side = sizes::pow2(r);

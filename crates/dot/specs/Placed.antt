@@ -3,7 +3,7 @@ use mathlib.Core.Path.{_≡_, refl, sym, ap, _∙_}
 use mathlib.Core.List.{List, _++_}
 use Prim.Native.Nat.{ℕ, zero, suc, _+_, _*_, _-_, _^_, _≤_, _<_}
 use native.Mathlib.Omega.{arith}
-use native.Mathlib.Nat.{sub-zero, mul-le-mul}
+use native.Mathlib.Nat.{sub-zero}
 use native.Mathlib.Numerals.{add-one}
 use native.Mathlib.Decide.{ℕ-discrete}
 use lib.Pow.{pow-mono}
@@ -18,7 +18,7 @@ use Rattle.definition.specs.Descent.{firstOfEquals, descend}
 use Rattle.definition.specs.Diffusion.{Kernel, plain, weightAt, diffuse}
 use Rattle.definition.specs.Model.{Halftone, missing, placeDot, step}
 use Rattle.integers.specs.Tests.{true-T}
-use Rattle.quadtree.specs.Levels.{start-suc, start-mono, cell-lt}
+use Rattle.quadtree.specs.Levels.{start-suc, start-mono, cell-lt, cells-few}
 use Rattle.quadtree.specs.Pyramids.{entry-drop, pyramid-cells}
 use Rattle.shares.specs.Kernels.{plain-fit}
 use Rattle.dots.specs.Steps.{Sheet, target, step-made, row-in, column-in, next-sheet}
@@ -26,7 +26,7 @@ use Rattle.pyramid.specs.Asked.{Within, PyramidAsked}
 use Rattle.pyramid.specs.Four.{within-mono}
 use Rattle.pyramid.specs.Upward.{tail-lent, tail-back}
 use Rattle.descent.specs.Asked.{DescentAsked}
-use Rattle.diffusion.specs.Asked.{BurnAsked}
+use Rattle.diffusion.specs.Asked.{PlaceAsked}
 use Rattle.dot.specs.Asked.{DotAsked, NoteAsked}
 use Rattle.dot.specs.Small.{mostResidual, sound-small, places-small}
 
@@ -94,8 +94,8 @@ module _ (r : ℕ) (p : List ℤ) (ss o : List ℕ) (dots : ℕ) (h : DotAsked r
       lent-small : (i : ℕ) → Within mostResidual (getD lent i (pos 0))
       lent-small = places-small r mostResidual lent lent-long (λ x y a b. rw (lent-is, entry-drop p r x y) (sound-small r s (h .sheet .sound) x y a b))
 
-      pub burn-asked : BurnAsked lent r row column
-      burn-asked =
+      pub place-asked : PlaceAsked lent r row column
+      place-asked =
           record {
             cell = record { least = h .power; most = h .small; above = row-lt; left = column-lt };
             whole = lent-long;
@@ -132,7 +132,7 @@ module _ (r : ℕ) (p : List ℤ) (ss o : List ℕ) (dots : ℕ) (h : DotAsked r
               whole = omega (arith, length-append (take off p) e, head-long, e-long, start-suc r, ap start (add-one r));
               bound = mostResidual;
               small = λ i. rw (rw head-long at (getD-append-add (take off p) e i (pos 0))) (e-small i);
-              room = let le : 2 ^ r ≤ 256 = pow-mono {i = r} {j = 8} (h .small) in omega (arith, mul-le-mul le le);
+              room = omega (arith, cells-few r (h .small));
             })
 
         pub placed : {z : List ℤ} {s′ o′ : List ℕ} (side : ℕ) → side ≡ 2 ^ r → z ≡ pyramidOver r (drop (start r) back) → s′ ≡ set ss (row * side + column) (dots + 1) → o′ ≡ set o dots (row * side + column)
@@ -142,7 +142,7 @@ module _ (r : ℕ) (p : List ℤ) (ss o : List ℕ) (dots : ℕ) (h : DotAsked r
 
     module _ (side : ℕ) (es : side ≡ 2 ^ r) where
       cell-in : row * side + column < 65536
-      cell-in = let le : 2 ^ r ≤ 256 = pow-mono {i = r} {j = 8} (h .small) in rw es (omega (arith, cell-lt (2 ^ r) row column row-lt column-lt, mul-le-mul le le))
+      cell-in = rw es (omega (arith, cell-lt (2 ^ r) row column row-lt column-lt, cells-few r (h .small)))
 
       pub side-fits : Fits w64 (row * side)
       side-fits = record { fits = omega (arith, cell-in) }
@@ -152,12 +152,11 @@ module _ (r : ℕ) (p : List ℤ) (ss o : List ℕ) (dots : ℕ) (h : DotAsked r
 
       pub note-asked : NoteAsked (length ss) (length o) (row * side + column) dots
       note-asked =
-          let le : 2 ^ r ≤ 256 = pow-mono {i = r} {j = 8} (h .small) in
           record {
             at-in = rw es (omega (arith, cell-lt (2 ^ r) row column row-lt column-lt, h .sheet .sized .serials));
             dots-in = omega (arith, room, h .sheet .sized .order);
             at-most = cell-in;
-            dots-most = omega (arith, room, mul-le-mul le le);
+            dots-most = omega (arith, room, cells-few r (h .small));
           }
         where
           room : dots < cellCount r

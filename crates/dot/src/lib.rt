@@ -24,7 +24,7 @@ pub fn place_dot(pyramid: &mut [i64], serials: &mut [u32], order: &mut [u32], r:
     let row = cell.row;
     let column = cell.column;
     let cells = sizes::level_start(r);
-    diffusion::burn(&mut pyramid[cells..], r, row, column);
+    diffusion::place(&mut pyramid[cells..], r, row, column);
     pyramid::sum_up(pyramid, r);
     let side = sizes::pow2(r);
     note(serials, order, row * side + column, dots);

@@ -14,12 +14,13 @@ use Rattle.definition.specs.Pyramid.{oneDot}
 use Rattle.definition.specs.Blocks.{burntAt}
 use Rattle.definition.specs.Diffusion.{Kernel, rowNear, columnNear, within, onMap, weightAt, share}
 use Rattle.definition.specs.Sound.{burntNear}
-use Rattle.integers.specs.Sums.{sumTo-add, sumTo-ext<, sumTo-mono<, sumTo-zero, le-sumTo}
-use Rattle.integers.specs.Tests.{T-and, and-T, ne→neqb, cond-T}
+use Rattle.integers.specs.Sums.{sumTo-add, sumTo-ext<, sumTo-mono<, sumTo-zero, le-sumTo, sumTo-bound}
+use Rattle.integers.specs.Tests.{T-and, and-T, ne→neqb, cond-T, cond-both}
 use Rattle.quadtree.specs.Points.{δ, δ-le, hit, δδ-same}
 use Rattle.shares.specs.Shares.{share-sum, share-none}
 use Rattle.shares.specs.Kernels.{Fit}
 use Rattle.shares.specs.Neighbours.{weight-is, weight-on-map, spread}
+use Rattle.dots.specs.Marks.{burntAt-le}
 
 -- the places around (x, y) at which a sheet f counts: those of the eight that lie on the map
 unfoldable pub near : ℕ → (ℕ → ℕ → ℕ) → ℕ → ℕ → ℕ
@@ -28,6 +29,11 @@ near r f x y = sumTo 9 (λ p. cond (not (eqb p 4) && onMap r x y p) (f (rowNear 
 pub burntNear-is : (r : ℕ) (serials : List ℕ) (x y : ℕ) → burntNear r serials x y ≡ near r (burntAt r serials) x y
 unfolding burntNear near
 burntNear-is r serials x y = refl
+
+-- of the nine places around a cell, no more are burnt
+pub burntNear-most : (r : ℕ) (serials : List ℕ) (x y : ℕ) → burntNear r serials x y ≤ 9
+unfolding burntNear
+burntNear-most r serials x y = sumTo-bound 9 1 _ (λ p k. cond-both (λ m. m ≤ 1) (not (eqb p 4) && onMap r x y p) _ 0 (λ t. burntAt-le r serials _ _) (λ t. omega arith))
 
 -- a place on the map, as a row and a column
 pub on-map : (r x y p : ℕ) → T (onMap r x y p) → (1 ≤ rowNear x p) × (rowNear x p ≤ 2 ^ r) × (1 ≤ columnNear y p) × (columnNear y p ≤ 2 ^ r)

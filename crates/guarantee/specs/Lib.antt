@@ -1,5 +1,5 @@
 pub mod Demand3
-pub mod Panels
+pub mod Capped
 pub mod Lent
 pub mod Start
 pub mod OneCall

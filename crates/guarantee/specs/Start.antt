@@ -27,7 +27,7 @@ use Rattle.dots.specs.Placing.{Sized}
 use Rattle.dots.specs.Kept.{sound-summed}
 use Rattle.dots.specs.Steps.{Sheet, top-area}
 use Rattle.guarantee.specs.Demand3.{Each, Accepted}
-use Rattle.guarantee.specs.Panels.{Panels}
+use Rattle.guarantee.specs.Capped.{Capped}
 use Rattle.guarantee.specs.Lent.{heldOf}
 
 -- what holds of each element holds at each place, where it holds of the default
@@ -100,8 +100,8 @@ module _ (r : ℕ) (greys : List ℕ) (bytes : Each (λ grey. grey ≤ 255) grey
   unfolding modelStart
   start-dots = refl
 
-  pub start-panels : Panels r greys fresh
-  start-panels =
+  pub start-capped : Capped r greys fresh
+  start-capped =
       record {
         flow = λ p q n low wide. rw (fresh-residue p q n low wide, fresh-area p q n) (simp zz (omega arith));
         cap = λ j k a b e u v. omega (arith, fresh-area (a * 2 ^ j) (b * 2 ^ j) (2 ^ j));

@@ -26,8 +26,8 @@ use Rattle.quadtree.specs.Levels.{start-suc, cell-lt, block-side, block-on-map}
 use Rattle.shares.specs.Kernels.{Fit, plain-fit}
 use Rattle.dots.specs.Steps.{Sheet, due-is, steps-keep}
 use Rattle.guarantee.specs.Demand3.{Each, Accepted, totalOf, Ends, Holds, Demand3}
-use Rattle.guarantee.specs.Panels.{Panels, panels-kept}
-use Rattle.guarantee.specs.Start.{start-sheet, start-panels, accepted-loaded, loaded-held}
+use Rattle.guarantee.specs.Capped.{Capped, capped-kept}
+use Rattle.guarantee.specs.Start.{start-sheet, start-capped, accepted-loaded, loaded-held}
 use Rattle.guarantee.specs.Lent.{heldOf}
 use Rattle.guarantee.specs.OneCall.{call-same, held-same}
 use Rattle.guarantee.specs.ManyCalls.{call-sheet, calls-sheet, calls-keep, calls-held, calls-replies, calls-number, calls-first, reply-finished, call-due}
@@ -76,7 +76,7 @@ module _ (kernel : Kernel) (fit : Fit kernel) (r : ℕ) (big : 2 ≤ 2 ^ r) (pow
   start-due : fresh .dots + dotsDue (topOf (fresh .pyramid)) ≡ total
   start-due =
       let t = topOf (fresh .pyramid) in
-      let h = start-panels r greys bytes .total in
+      let h = start-capped r greys bytes .total in
       omega (ints, due-is t, up-or-dn t, no-dots, simp zz at h)
 
   -- ---- each call says finished exactly if all dots are made
@@ -111,10 +111,10 @@ module _ (kernel : Kernel) (fit : Fit kernel) (r : ℕ) (big : 2 ≤ 2 ^ r) (pow
     sheet : Sheet r last
     sheet = calls-sheet kernel fit r big power cs fresh (start-sheet r greys bytes)
 
-    panels : Panels r greys last
-    panels =
-        calls-keep kernel fit r big power (Panels r greys)
-        (λ n t sheet h. steps-keep kernel fit r big (Panels r greys) (λ u sheet due k. panels-kept kernel fit r big greys u sheet due k) n t sheet h) cs fresh (start-sheet r greys bytes) (start-panels r greys bytes)
+    capped : Capped r greys last
+    capped =
+        calls-keep kernel fit r big power (Capped r greys)
+        (λ n t sheet h. steps-keep kernel fit r big (Capped r greys) (λ u sheet due k. capped-kept kernel fit r big greys u sheet due k) n t sheet h) cs fresh (start-sheet r greys bytes) (start-capped r greys bytes)
 
     abbrev p : List ℤ
     p = drop (needed r) lentPyramid
@@ -162,9 +162,9 @@ module _ (kernel : Kernel) (fit : Fit kernel) (r : ℕ) (big : 2 ≤ 2 ^ r) (pow
                 dots-area r last sheet s (r - k) k a b (omega arith) u v,
                 grey-area r greys (r - k) k a b (omega arith),
                 block-side r (r - k) k (omega arith),
-                panels .cap (r - k) k a b (omega arith) u v,
+                capped .cap (r - k) k a b (omega arith) u v,
               );
-          debt = rw at-top (panels .total);
+          debt = rw at-top (capped .total);
           ends = ends-all p s o cs fresh (start-sheet r greys bytes) start-due;
         }
 

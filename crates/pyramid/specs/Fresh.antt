@@ -3,10 +3,8 @@ use mathlib.Core.Path.{_≡_, sym, ap, _∙_}
 use mathlib.Core.List.{List, _++_}
 use Prim.Native.Nat.{ℕ, _+_, _*_, _-_, _^_, _≤_, _<_}
 use native.Mathlib.Omega.{arith}
-use native.Mathlib.Nat.{mul-le-mul}
 use native.Mathlib.Numerals.{add-one}
 use native.Mathlib.Decide.{decLt}
-use lib.Pow.{pow-mono}
 use lib.ListN.{length, getD, take, drop, length-drop, length-append, List·getD-eq-default}
 use lib.Seq.{length-take-le, getD-append-add, drop-at}
 use lib.IntN.{ℤ, pos}
@@ -18,16 +16,13 @@ use Rattle.definition.specs.Blocks.{greyAt}
 use Rattle.integers.specs.Linear.{zz, ints}
 use Rattle.integers.specs.Fill.{filled, filled-all}
 use Rattle.integers.specs.Lists.{length-tabulate, getD-tabulate, tabulate-ext}
-use Rattle.quadtree.specs.Levels.{start-suc, place-row-column}
+use Rattle.quadtree.specs.Levels.{start-suc, place-row-column, cells-few}
 use Rattle.pyramid.specs.Asked.{residualOf, freshPyramid, Within, PyramidAsked, FillAsked}
 use Rattle.pyramid.specs.Upward.{tail-lent, tail-back}
 
 module _ (l : List ℤ) (greys : List ℕ) (r : ℕ) (h : FillAsked l (length greys) r) where
   long : length l ≡ start r + cellCount r
   long = h .whole ∙ start-suc r
-
-  size-le : cellCount r ≤ 65536
-  size-le = let le : 2 ^ r ≤ 256 = pow-mono {i = r} {j = 8} (h .most) in mul-le-mul le le
 
   pub cells-in : (off : ℕ) → off ≡ start r → off ≤ length l
   cells-in off eo = omega (arith, long)
@@ -68,7 +63,7 @@ module _ (l : List ℤ) (greys : List ℕ) (r : ℕ) (h : FillAsked l (length gr
         whole = omega (arith, length-append (take (start r) l) cells, head-long, length-tabulate 0 (cellCount r) (residualOf greys), long, start-suc r, ap start (add-one r));
         bound = 65280;
         small = λ i. rw (rw head-long at (getD-append-add (take (start r) l) cells i (pos 0))) (cell-within bytes i);
-        room = omega (arith, size-le);
+        room = omega (arith, cells-few r (h .most));
       }
 
   celled-fresh : pyramidOver r (drop (start r) celled) ≡ freshPyramid r greys

@@ -89,3 +89,7 @@ twice j a = rw (pow-succ' 2 j) (omega arith)
 
 pub twice-one : (j a : ℕ) → (2 * a + 1) * 2 ^ j ≡ a * 2 ^ suc j + 2 ^ j
 twice-one j a = rw (pow-succ' 2 j) (omega arith)
+
+-- no map has more than 65,536 cells
+pub cells-few : (r : ℕ) → r ≤ 8 → 2 ^ r * 2 ^ r ≤ 65536
+cells-few r h = let le : 2 ^ r ≤ 256 = pow-mono {i = r} {j = 8} h in mul-le-mul le le

@@ -1,5 +1,5 @@
 -- The checks of a sheet: its lengths, then whether it is sound.
-use mathlib.Core.Path.{_≡_, refl, sym, _∙_}
+use mathlib.Core.Path.{_≡_, refl, sym, ap, _∙_}
 use mathlib.Core.Bool.{Bool, true, false, not, cond}
 use mathlib.Core.List.{List}
 use Prim.Native.Nat.{ℕ, suc, _-_, _≤_, _<_}
@@ -30,20 +30,27 @@ pub record SheetLent (r pyramid serials order : ℕ) : Type 0 where
   pub serials-long : cellCount r ≤ serials
   pub order-long : cellCount r ≤ order
 
+not-false : (b : Bool) → not b ≡ false → b ≡ true
+not-false true e = ap not e
+not-false false e = sym e
+
 module _ (r p s o : ℕ) where
-  pub sheet-lent : advanceRefusal r p s o true ≡ 0 → SheetLent r p s o
+  pub sheet-lent : (sound : Bool) → advanceRefusal r p s o sound ≡ 0 → SheetLent r p s o × (sound ≡ true)
   unfolding advanceRefusal
-  sheet-lent e =
+  sheet-lent sound e =
       let r₁ = lowest-none 1 (eqb r 0) _ (omega arith) e in
       let r₂ = lowest-none 3 (ltb p (needed r)) _ (omega arith) (r₁ .1) in
       let r₃ = lowest-none 4 (ltb s (cellCount r)) _ (omega arith) (r₂ .1) in
       let r₄ = lowest-none 4 (ltb o (cellCount r)) _ (omega arith) (r₃ .1) in
-      record {
-        power = omega (arith, eqb-false r 0 (r₁ .0));
-        pyramid-long = ltb-false _ _ (r₂ .0);
-        serials-long = ltb-false _ _ (r₃ .0);
-        order-long = ltb-false _ _ (r₄ .0);
-      }
+      let r₅ = lowest-none 5 (not sound) _ (omega arith) (r₄ .1) in (
+        record {
+          power = omega (arith, eqb-false r 0 (r₁ .0));
+          pyramid-long = ltb-false _ _ (r₂ .0);
+          serials-long = ltb-false _ _ (r₃ .0);
+          order-long = ltb-false _ _ (r₄ .0);
+        },
+        not-false sound (r₅ .0),
+      )
 
   -- where the lengths are refused, soundness does not matter; where they are not, it alone does
   pub lengths-first : (n : ℕ) → advanceRefusal r p s o true ≡ suc n → (sound : Bool) → advanceRefusal r p s o sound ≡ suc n
@@ -76,7 +83,7 @@ module _ {r : ℕ} (small : r ≤ 8) (p : List ℤ) (s o : List ℕ) (dots : ℕ
 
   module _ (passed : lengths ≡ Passed) where
     lent : SheetLent r (length p) (length s) (length o)
-    lent = sheet-lent r (length p) (length s) (length o) (passed-none lengths e passed)
+    lent = sheet-lent r (length p) (length s) (length o) true (passed-none lengths e passed) .0
 
     module _ (n : ℕ) (en : n ≡ needed r) where
       pub pyramid-in : n ≤ length p

@@ -3,11 +3,9 @@
 use mathlib.Core.Path.{_≡_, refl, sym, _∙_}
 use mathlib.Core.Bool.{Bool, true, false, not, _&&_}
 use mathlib.Core.List.{List}
-use Prim.Native.Nat.{ℕ, _+_, _^_, _≤_, _<_}
+use Prim.Native.Nat.{ℕ, _+_, _≤_, _<_}
 use native.Mathlib.Numerals.{add-one}
 use native.Mathlib.Omega.{arith}
-use native.Mathlib.Nat.{mul-le-mul}
-use lib.Pow.{pow-mono}
 use borrow.Author.Tests.{lt-ltb, le-ltb}
 use lib.Dec.{T, leb, eqb}
 use lib.ListN.{getD}
@@ -84,9 +82,6 @@ module _ (r : ℕ) {cells : ℕ} (e : cells ≡ cellCount r) where
 pub few-dots-is : (r dots : ℕ) {cells : ℕ} → cells ≡ cellCount r → leb dots cells ≡ fewDots r dots
 unfolding fewDots
 few-dots-is r dots e = rw e
-
-pub cells-few : (r : ℕ) → r ≤ 8 → cellCount r ≤ 65536
-cells-few r h = let le : 2 ^ r ≤ 256 = pow-mono {i = r} {j = 8} h in mul-le-mul le le
 
 pub counted-is : (r : ℕ) (serials : List ℕ) (dots : ℕ) {cells i sum most : ℕ} → cells ≡ cellCount r → i ≤ cells → cells ≤ i → Total (sumTo i (λ m. burnt (getD serials m 0))) most sum → eqb sum dots ≡ counted r serials dots
 unfolding counted

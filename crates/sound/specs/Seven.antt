@@ -2,23 +2,21 @@
 use mathlib.Core.Path.{_≡_, _∙_}
 use mathlib.Core.Bool.{Bool, true, false, not, _&&_, _||_}
 use mathlib.Core.List.{List}
-use Prim.Native.Nat.{ℕ, _*_, _-_, _^_, _≤_, _<_}
-use native.Mathlib.Omega.{arith}
+use Prim.Native.Nat.{ℕ, _*_, _^_, _≤_, _<_}
 use lib.Dec.{T, eqb}
 use lib.ListN.{length}
 use lib.IntN.{ℤ, pos, negℤ}
 use lib.Signed.{leZ, leZ-yes}
 use Rattle.definition.specs.Pyramid.{oneDot, cellCount, entry}
-use Rattle.definition.specs.Blocks.{burnt, burntAt}
-use Rattle.definition.specs.Diffusion.{rowNear, columnNear, onMap}
+use Rattle.definition.specs.Blocks.{burntAt}
 use Rattle.definition.specs.Model.{Halftone}
 use Rattle.definition.specs.Sound.{burntNear, fewDots, numbered, counted, unused, summed, bounded, owing, isSound}
-use Rattle.integers.specs.Tests.{T-true, T-and, cond-both, everyEntry-at, tests}
+use Rattle.integers.specs.Tests.{T-true, T-and, everyEntry-at, tests}
 use Rattle.integers.specs.Linear.{neg-le-up, zz, ints}
-use Rattle.integers.specs.Sums.{sumTo-bound}
 use Rattle.pyramid.specs.Asked.{Within}
 use Rattle.sound.specs.Asked.{SoundAsked, NumberedAsked, SummedAsked}
 use Rattle.sound.specs.Places.{held, and-true, and-false}
+use Rattle.dots.specs.Near.{burntNear-most}
 
 -- ════ what a test that holds tells the next
 
@@ -28,16 +26,6 @@ few r dots e f = omega (tests, held e f)
 
 pub numbered-asked : {r pyramid serials order dots : ℕ} {b : Bool} → SoundAsked r pyramid serials order → b ≡ fewDots r dots → not b ≡ false → NumberedAsked r serials order dots
 numbered-asked {r} {dots = dots} h e f = record { most = h .most; cells = h .cells; places = h .places; few = few r dots e f }
-
-burnt-few : (n : ℕ) → burnt n ≤ 1
-unfolding burnt
-burnt-few n = cond-both (λ m. m ≤ 1) (eqb n 0) 0 1 (λ t. omega arith) (λ t. omega arith)
-
-near-few : (r : ℕ) (serials : List ℕ) (x y : ℕ) → burntNear r serials x y ≤ 9
-unfolding burntNear burntAt
-near-few r serials x y =
-    sumTo-bound 9 1 _
-    (λ p lt. cond-both (λ m. m ≤ 1) (not (eqb p 4) && onMap r x y p) (burntAt r serials (rowNear x p - 1) (columnNear y p - 1)) 0 (λ t. burnt-few _) (λ t. omega arith))
 
 -- a residual between the two bounds
 cell-within : (z : ℤ) (near : ℕ) → near ≤ 9 → T (leZ z (pos oneDot)) → T (leZ (negℤ (pos (oneDot * near))) z) → Within (2 ^ 20) z
@@ -49,7 +37,7 @@ module _ (r : ℕ) (pyramid : List ℤ) (serials : List ℕ) where
   cells-within s t x y p q =
       let high = leZ (entry pyramid r x y) (pos oneDot) in
       let spent = eqb (burntAt r serials x y) 0 || leZ (entry pyramid r x y) (pos 0) in
-      cell-within (entry pyramid r x y) (burntNear r serials x y) (near-few r serials x y) (T-and high spent (everyEntry-at r _ s x y p q) .0) (everyEntry-at r _ t x y p q)
+      cell-within (entry pyramid r x y) (burntNear r serials x y) (burntNear-most r serials x y) (T-and high spent (everyEntry-at r _ s x y p q) .0) (everyEntry-at r _ t x y p q)
 
   pub summed-asked : {order : ℕ} {a b : Bool} → SoundAsked r (length pyramid) (length serials) order → a ≡ bounded r pyramid serials → not a ≡ false → b ≡ owing r pyramid serials → not b ≡ false → SummedAsked pyramid r
   summed-asked h e f g k = record { most = h .most; whole = h .whole; small = cells-within (T-true _ (held e f)) (T-true _ (held g k)) }

@@ -12,11 +12,11 @@ use lib.IntN.{ℤ}
 use Rattle.definition.specs.Pyramid.{rowAt, columnAt, entry, four}
 use Rattle.definition.specs.Sound.{everyEntry, summed}
 use Rattle.integers.specs.Tests.{T-true, T-false, true-T, false-T, allTo-all, not-allTo, everyEntry-at, eqZ-eq}
-use Rattle.quadtree.specs.Levels.{quadruple, start-mono, row-lt, column-lt}
+use Rattle.quadtree.specs.Levels.{quadruple, start-mono, row-lt, column-lt, cells-few}
 use Rattle.pyramid.specs.Asked.{Within}
 use Rattle.pyramid.specs.Four.{within-four, within-mono}
 use Rattle.sound.specs.Asked.{LevelAsked, SummedAsked, levelSummed}
-use Rattle.sound.specs.Places.{held, failed, cells-few}
+use Rattle.sound.specs.Places.{held, failed}
 use Rattle.sound.specs.Cells.{entry-place}
 
 -- the levels from k on hold, and the entries of level k are small

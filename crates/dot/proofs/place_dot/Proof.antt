@@ -1,6 +1,6 @@
 -- `dot::place_dot`: the walk, the cells, the sums over them, the number noted.
 use borrow.Author.Needs.{needs}
-use Rattle.dot.specs.Placed.{off-bytes, off-in, burn-asked, sums-asked, side-fits, cell-fits, note-asked, placed}
+use Rattle.dot.specs.Placed.{off-bytes, off-in, place-asked, sums-asked, side-fits, cell-fits, note-asked, placed}
 use Rattle.dot.proofs.place_dot.Statement.{statement}
 use Rattle.dot.proofs.place_dot.Tie as tie
 
@@ -14,7 +14,7 @@ place-dot-spec =
     (λ c. search (off-in, needs))
     (λ c. search (off-in, needs))
     (λ c. search needs)
-    (λ c κs. search (burn-asked, needs))
+    (λ c κs. search (place-asked, needs))
     (λ c κs. search (sums-asked, needs))
     (λ c κs. search needs)
     (λ c. search (side-fits, needs))

@@ -6,9 +6,10 @@ use lib.ListN.{getD}
 use Rattle.definition.specs.Blocks.{burnt}
 use Rattle.definition.specs.Lists.{sumTo}
 use Rattle.survey.specs.Totals.{Total, none, turn}
-use Rattle.sound.specs.Places.{cells-few, counted-is}
+use Rattle.sound.specs.Places.{counted-is}
 use Rattle.sound.proofs.counted.Statement.{statement}
 use Rattle.sound.proofs.counted.Tie as tie
+use Rattle.quadtree.specs.Levels.{cells-few}
 
 abbrev Inv-loop : tie.InvT-loop
 Inv-loop r serials dots cells sum₀ cell₀ sum cell = (cell ≤ cells) × Total (sumTo cell (λ m. burnt (getD serials m 0))) (cell * 1) sum

@@ -34,7 +34,7 @@ Flow r greys s p q n =
 abbrev Cap : ℕ → List ℕ → Halftone → ℕ → ℕ → ℕ → Type 0
 Cap r greys s p q n = oneDot * area p q n (burntAt r (s .serials)) < 256 * area p q n (greyAt r greys) + oneDot + 87040 * n
 
-pub record Panels (r : ℕ) (greys : List ℕ) (s : Halftone) : Type 0 where
+pub record Capped (r : ℕ) (greys : List ℕ) (s : Halftone) : Type 0 where
   pub flow : (p q n : ℕ) → p + n ≤ 2 ^ r → q + n ≤ 2 ^ r → Flow r greys s p q n
   pub cap : (j k a b : ℕ) → j + k ≡ r → a < 2 ^ k → b < 2 ^ k → Cap r greys s (a * 2 ^ j) (b * 2 ^ j) (2 ^ j)
   pub total : pos (oneDot * s .dots) +ℤ topOf (s .pyramid) ≡ pos (256 * greyTotal r greys)
@@ -111,8 +111,8 @@ module _ (kernel : Kernel) (fit : Fit kernel) (r : ℕ) (big : 2 ≤ 2 ^ r) (gre
             omega (ints, simp zz at h, some-sides p q n some (burntAt r (s .serials)) (λ x y k l. burntAt-le r (s .serials) x y))
         go (outside e) = let b = rw e at burnt-area in omega arith
 
-  pub panels-kept : Panels r greys s → Panels r greys after
-  panels-kept h =
+  pub capped-kept : Capped r greys s → Capped r greys after
+  capped-kept h =
       record {
         flow = λ p q n low wide. flow-kept p q n low wide (h .flow p q n low wide);
         cap = λ l k a b e u v.

@@ -16,10 +16,10 @@ use Rattle.definition.specs.Diffusion.{plain, diffuse}
 use Rattle.integers.specs.Linear.{zz, ints, natAbs-within}
 use Rattle.integers.specs.Machine.{words, machine, cast-asks64}
 use Rattle.pyramid.specs.Asked.{Within}
-use Rattle.diffusion.specs.Asked.{DiffuseAsked, BurnAsked}
+use Rattle.diffusion.specs.Asked.{DiffuseAsked, PlaceAsked}
 use Rattle.diffusion.specs.Shares.{set-within}
 
-module _ {cells : List ℤ} {r row column side : ℕ} (h : BurnAsked cells r row column) (e : side ≡ 2 ^ r) where
+module _ {cells : List ℤ} {r row column side : ℕ} (h : PlaceAsked cells r row column) (e : side ≡ 2 ^ r) where
   abbrev at : ℕ
   at = row * side + column
 

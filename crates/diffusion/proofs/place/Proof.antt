@@ -1,14 +1,14 @@
--- `diffusion::burn`: by the laws on what a cell lacks of a dot.
+-- `diffusion::place`: by the laws on what a cell lacks of a dot.
 use mathlib.Core.Path.{_∙_}
 use borrow.Author.Needs.{needs}
 use lib.ListN.{length-set}
 use Rattle.diffusion.specs.Places.{places}
-use Rattle.diffusion.specs.Burning.{lack-fits, lack-sign, lack-word, lack-asked, burnt}
-use Rattle.diffusion.proofs.burn.Statement.{statement}
-use Rattle.diffusion.proofs.burn.Tie as tie
+use Rattle.diffusion.specs.Placing.{lack-fits, lack-sign, lack-word, lack-asked, burnt}
+use Rattle.diffusion.proofs.place.Statement.{statement}
+use Rattle.diffusion.proofs.place.Tie as tie
 
-pub burn-spec : {M : Type 1} → statement M
-burn-spec =
+pub place-spec : {M : Type 1} → statement M
+place-spec =
     tie.close
     (tie.spec
     (λ c κs. search needs)
