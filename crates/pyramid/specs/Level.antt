@@ -3,7 +3,7 @@ use mathlib.Core.Path.{_≡_, refl, sym, ap, ap₂, _∙_}
 use mathlib.Core.List.{List, _++_}
 use Prim.Native.Nat.{ℕ, suc, _+_, _*_, _/_, _%_, _^_, _≤_, _<_}
 use native.Mathlib.Omega.{arith}
-use native.Mathlib.Nat.{div-lt-iff-lt-mul, mod-lt, mul-le-mul-right, add-mul, add-assoc, pow-succ'}
+use native.Mathlib.Nat.{div-lt-iff-lt-mul, mod-lt, mul-le-mul-right, mul-pos, add-mul, add-assoc, pow-succ'}
 use lib.ListN.{length, getD, drop}
 use lib.Seq.{getD-drop}
 use lib.IntN.{ℤ, pos, _+ℤ_}
@@ -38,6 +38,10 @@ module _ (part : List ℤ) (side : ℕ) (h : LevelAsked part side) (i : ℕ) (lt
 
 pub asked-side : {part : List ℤ} {n side : ℕ} → side ≡ n → LevelAsked part n → LevelAsked part side
 asked-side e h = rw e h
+
+-- the first level has a place
+pub some-place : {part : List ℤ} {side : ℕ} → LevelAsked part side → 0 < side * side
+some-place h = mul-pos (h .some) (h .some)
 
 -- a place of the first level is one of the part's, however far it is filled
 pub in-filled : (part : List ℤ) (side : ℕ) → LevelAsked part side → (f : ℕ → ℤ) (n : ℕ) → n < side * side → n < length (filled f n part)

@@ -7,7 +7,7 @@ use lib.IntN.{ℤ}
 use Rattle.integers.specs.Fill.{filled, filled-none, filled-store, length-filled}
 use Rattle.integers.specs.Machine.{back64}
 use Rattle.pyramid.specs.Asked.{parentOf}
-use Rattle.pyramid.specs.Level.{asked-side, asked-filled, in-filled, parent-filled, filled-level}
+use Rattle.pyramid.specs.Level.{asked-side, some-place, asked-filled, in-filled, parent-filled, filled-level}
 use Rattle.pyramid.proofs.fill_level.Statement.{statement}
 use Rattle.pyramid.proofs.fill_level.Tie as tie
 use Rattle.pyramid.proofs.fill_level.Reads as reads
@@ -33,19 +33,19 @@ fill-level-spec =
     (λ c κs.
     let h = asked-side (c .before .before .before .pow2 .ensures) (c .before .before .before .before .pre .1) in
     let inv = c .before .before .loop .inv in
-    (rw (inv .1) (asked-filled _ _ h _ _ (inv .0)), c .before .loop-test .taken))
+    (rw (inv .1) (asked-filled _ _ h _ _ (inv .0)), omega (arith, some-place h)))
     (λ c. omega (arith, asked-side (c .before .before .before .before .pow2 .ensures) (c .before .before .before .before .before .pre .1) .whole))
     (λ c.
     let h = asked-side (c .before .before .before .before .pow2 .ensures) (c .before .before .before .before .before .pre .1) in
     let inv = c .before .before .before .loop .inv in
-    rw (inv .1) (in-filled _ _ h _ _ (c .before .before .loop-test .taken)))
+    rw (inv .1) (in-filled _ _ h _ _ (omega (arith, some-place h))))
     (λ c. omega (arith, asked-side (c .before .before .before .before .pow2 .ensures) (c .before .before .before .before .before .pre .1) .whole))
-    (λ c. omega arith)
+    (λ c. omega (arith, some-place (asked-side (c .before .before .before .before .pow2 .ensures) (c .before .before .before .before .before .pre .1))))
     (λ c.
     let h = asked-side (c .before .before .before .before .pow2 .ensures) (c .before .before .before .before .before .pre .1) in
     let inv = c .before .before .before .loop .inv in (
-      omega arith,
-      filled-store _ _ _ (omega (arith, h .whole)) (inv .1)
+      omega (arith, some-place h),
+      filled-store _ _ _ (omega (arith, h .whole, some-place h)) (inv .1)
           (back64 (c .parent-sum .result) (c .parent-sum .ok)
           ∙ c .parent-sum .ensures
           ∙ ap (λ (l : List ℤ). parentOf l (c .before .before .before .before .pow2 .result) (c .before .before .before .loop .i)) (inv .1)
