@@ -7,6 +7,7 @@
 
 mod answers;
 mod calls;
+mod case_text;
 mod diffusion;
 mod drill_list;
 mod map_text;
@@ -18,6 +19,7 @@ mod run_cases;
 mod shape;
 mod sound;
 mod survey_cases;
+mod text_cases;
 
 pub mod maps;
 pub mod stored;

@@ -1,9 +1,8 @@
 //! The cases of the program crate `panel_run`: its standard input, and what it ought to write.
 
-use std::fmt::Display;
-
 use crate::answers::{AdvanceAnswer, Ended, Progress, Refusal};
 use crate::calls::{advance, load};
+use crate::case_text::{self, fields, line, refusal, InputAndOutput, BEFORE};
 use crate::maps::generated;
 use crate::shape::{cell_count, power, pyramid_length, SIDES};
 
@@ -27,33 +26,19 @@ struct Call {
     amount: i64,
 }
 
-/// What the pyramid's places hold before the load, and those of the two others.
-const BEFORE: (i64, u32) = (-1, 9);
-
-/// In the program's input this number stands for the largest budget; and a number above half of it is so much less
-/// than a million.
-const LARGEST: u32 = 999_999;
-
 /// Longer than any buffer: the whole of it is lent.
 const WHOLE: [usize; 3] = [99_999; 3];
 
 /// Standard input and standard output.
-pub fn input_and_output() -> Result<(String, String), Refusal> {
-    let cases = cases();
-    let mut input = format!("{} cases\n", cases.len());
-    let mut output = String::new();
-    for (place, case) in cases.iter().enumerate() {
-        input.push_str(&written(case));
-        output.push_str(&format!("case,{}\n{}", place + 1, answers(case)?));
-    }
-    Ok((input, output))
+pub fn input_and_output() -> Result<InputAndOutput, Refusal> {
+    case_text::input_and_output(&cases(), |case| written(case).into_bytes(), |case| Ok(answers(case).into_bytes()))
 }
 
 fn cases() -> Vec<Case> {
     let mut cases = plates();
     for (place, side) in SIDES.into_iter().enumerate() {
         let seed = place as u32 + 1;
-        cases.push(Case { side, seed, greys: Vec::new(), spare: 0, calls: vec![whole(LARGEST)] });
+        cases.push(Case { side, seed, greys: Vec::new(), spare: 0, calls: vec![whole(u32::MAX)] });
         cases.push(Case { side, seed, greys: Vec::new(), spare: place + 1, calls: many(side) });
     }
     for side in [0, 3, 257] {
@@ -73,7 +58,7 @@ fn plates() -> Vec<Case> {
     fifteen[15] = 82;
     let mut sixteen = [20; 16];
     sixteen[15] = 83;
-    let one_call = |side: u32, greys: &[u8]| listed(side, greys, vec![whole(LARGEST)]);
+    let one_call = |side: u32, greys: &[u8]| listed(side, greys, vec![whole(u32::MAX)]);
     vec![
         one_call(2, &[0; 4]),
         one_call(2, &[255; 4]),
@@ -88,7 +73,7 @@ fn plates() -> Vec<Case> {
         one_call(2, &[255, 128, 0, 0]),
         one_call(4, &fifteen),
         one_call(4, &sixteen),
-        listed(2, &[128; 4], vec![added(LARGEST, 0, 1), added(LARGEST, 0, -1)]),
+        listed(2, &[128; 4], vec![added(u32::MAX, 0, 1), added(u32::MAX, 0, -1)]),
     ]
 }
 
@@ -117,34 +102,41 @@ fn many(side: u32) -> Vec<Call> {
     vec![
         lent(1, [pyramid - 1, cells, cells]),
         lent(1, [pyramid, cells, cells]),
-        lent(LARGEST, [pyramid, cells - 1, cells]),
-        lent(LARGEST, [pyramid, cells, cells - 1]),
+        lent(u32::MAX, [pyramid, cells - 1, cells]),
+        lent(u32::MAX, [pyramid, cells, cells - 1]),
         lent(0, [pyramid, cells, cells]),
         added(3, pyramid - 1, 1),
         added(3, pyramid - 1, -1),
         lent(2, [0, 0, 0]),
         lent(side * side / 8, [pyramid + 1, cells + 1, cells]),
-        whole(LARGEST),
+        whole(u32::MAX),
         whole(5),
     ]
 }
 
-/// A case as the program reads it.
+/// A case as the program reads it: a line with the side, the seed and the places to spare; the greys, if the seed is
+/// 0; the count of calls; a line for each call.
 fn written(case: &Case) -> String {
-    let mut text = format!("\nside {}, seed {}, spare {}\n", case.side, case.seed, case.spare);
+    let mut text = line(&[case.side as usize, case.seed as usize, case.spare]);
     if case.seed == 0 {
-        text.push_str(&format!("greys{}\n", row(&case.greys, " ")));
+        text.push_str(&line(&case.greys));
     }
-    text.push_str(&format!("{} calls\n", case.calls.len()));
+    text.push_str(&line(&[case.calls.len()]));
     for call in &case.calls {
-        let amount = (call.amount + 1_000_000) % 1_000_000;
-        text.push_str(&format!("{}{} {} {amount}\n", call.budget, row(&call.lent, " "), call.place));
+        text.push_str(&written_call(call));
     }
     text
 }
 
+/// A call as the program reads it: the budget, the lengths lent, the place, and what is added there and taken away.
+fn written_call(call: &Call) -> String {
+    let plus = call.amount.max(0);
+    let minus = plus - call.amount;
+    format!("{}{},{},{plus},{minus}\n", call.budget, fields(&call.lent), call.place)
+}
+
 /// What the calls answer, and the three buffers after the last.
-fn answers(case: &Case) -> Result<String, Refusal> {
+fn answers(case: &Case) -> String {
     let side = case.side.min(256);
     let cells = cell_count(side);
     let length = power(side).map_or(1, pyramid_length);
@@ -156,7 +148,7 @@ fn answers(case: &Case) -> Result<String, Refusal> {
     let mut progress = loaded.progress;
     let mut text = format!("load{}{}\n", record(progress), refusal(loaded.status.err()));
     for call in &case.calls {
-        let budget = if call.budget == LARGEST { u32::MAX } else { call.budget };
+        let budget = call.budget;
         pyramid[call.place] += call.amount;
         let lent = [pyramid.len().min(call.lent[0]), serials.len().min(call.lent[1]), order.len().min(call.lent[2])];
         let answer = advance(progress, budget, &mut pyramid[..lent[0]], &mut serials[..lent[1]], &mut order[..lent[2]]);
@@ -164,12 +156,7 @@ fn answers(case: &Case) -> Result<String, Refusal> {
         text.push_str(&format!("call,{budget}{},{}{}\n", record(progress), answer.made, said(answer)));
     }
     if case.side <= 8 {
-        text.push_str(&format!(
-            "pyramid{}\nserials{}\norder{}\n",
-            row(&pyramid, ","),
-            row(&serials, ","),
-            row(&order, ",")
-        ));
+        text.push_str(&format!("pyramid{}\nserials{}\norder{}\n", fields(&pyramid), fields(&serials), fields(&order)));
     } else {
         let serials: Vec<i64> = serials.into_iter().map(i64::from).collect();
         let order: Vec<i64> = order.into_iter().map(i64::from).collect();
@@ -180,7 +167,7 @@ fn answers(case: &Case) -> Result<String, Refusal> {
             checksum(&order)
         ));
     }
-    Ok(text)
+    text
 }
 
 fn record(progress: Progress) -> String {
@@ -193,16 +180,6 @@ fn said(answer: AdvanceAnswer) -> String {
         Ok(Ended::More) => ",more".to_string(),
         Err(why) => refusal(Some(why)),
     }
-}
-
-/// The end of a line that says no.
-fn refusal(why: Option<Refusal>) -> String {
-    why.map_or(String::new(), |why| format!(",refused,{}", why.number()))
-}
-
-/// Items in decimal, each after a mark.
-fn row<T: Display>(items: &[T], mark: &str) -> String {
-    items.iter().map(|item| format!("{mark}{item}")).collect()
 }
 
 /// A checksum over numbers, modulo 2^32.

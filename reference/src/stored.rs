@@ -3,6 +3,7 @@
 use std::fmt::Display;
 
 use crate::answers::Refusal;
+use crate::case_text::{joined, InputAndOutput};
 use crate::map_text::write_map_text;
 use crate::maps::{generated, named, NAMES};
 use crate::measures::levels;
@@ -10,6 +11,7 @@ use crate::run::run;
 use crate::run_cases;
 use crate::shape::SIDES;
 use crate::survey_cases;
+use crate::text_cases;
 
 /// "Larger maps are run against a reference in another language and the outputs matched." All stored files, each
 /// with its path from the top of the repository.
@@ -20,13 +22,15 @@ pub fn files() -> Result<Vec<(String, Vec<u8>)>, Refusal> {
     }
     let expected = "crates/definition/specs/Expected.antt".to_string();
     files.push((expected, expected_values()?.into_bytes()));
-    let (input, output) = survey_cases::input_and_output()?;
-    files.push(("crates/panel_survey/stdin".to_string(), input.into_bytes()));
-    files.push(("crates/panel_survey/stdout".to_string(), output.into_bytes()));
-    let (input, output) = run_cases::input_and_output()?;
-    files.push(("crates/panel_run/stdin".to_string(), input.into_bytes()));
-    files.push(("crates/panel_run/stdout".to_string(), output.into_bytes()));
+    files.extend(program_files("panel_survey", survey_cases::input_and_output()?));
+    files.extend(program_files("panel_run", run_cases::input_and_output()?));
+    files.extend(program_files("panel_texts", text_cases::input_and_output()?));
     Ok(files)
+}
+
+/// The two files of a program crate.
+fn program_files(name: &str, (input, output): InputAndOutput) -> [(String, Vec<u8>); 2] {
+    [(format!("crates/{name}/stdin"), input), (format!("crates/{name}/stdout"), output)]
 }
 
 /// One line for each side and map: its figures, and checksums of what the run leaves.
@@ -45,14 +49,14 @@ fn runs_csv() -> Result<String, Refusal> {
                 grey_sum.to_string(),
                 run.progress.dots.to_string(),
                 run.buffers.pyramid[0].to_string(),
-                joined(&levels(side, &greys, &run.buffers.serials)?, ","),
+                joined(&levels(side, &greys, &run.buffers.serials)?),
                 adler32(&lines(&run.buffers.pyramid)).to_string(),
                 adler32(&lines(&run.buffers.serials)).to_string(),
                 adler32(&lines(&run.buffers.order)).to_string(),
                 run.list.len().to_string(),
                 adler32(&run.list).to_string(),
             ];
-            text.push_str(&joined(&fields, ","));
+            text.push_str(&joined(&fields));
             text.push('\n');
         }
     }
@@ -122,12 +126,6 @@ fn integer(z: i64) -> String {
     } else {
         format!("negsuc {}", -z - 1)
     }
-}
-
-/// Items in decimal with a mark between them.
-fn joined<T: Display>(items: &[T], mark: &str) -> String {
-    let texts: Vec<String> = items.iter().map(|item| item.to_string()).collect();
-    texts.join(mark)
 }
 
 /// Numbers in decimal, each followed by byte 10.

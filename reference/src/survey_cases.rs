@@ -1,9 +1,8 @@
 //! The cases of the program crate `panel_survey`: its standard input, and what it ought to write.
 
-use std::fmt::Display;
-
 use crate::answers::Refusal;
 use crate::calls::load;
+use crate::case_text::{self, fields, line, refusal, InputAndOutput, BEFORE};
 use crate::maps::named;
 use crate::measures::{levels, tally};
 use crate::run::run;
@@ -21,19 +20,9 @@ struct Case {
     blocks: Vec<[u32; 3]>,
 }
 
-/// What the pyramid's places hold before the load, and those of the two others.
-const BEFORE: (i64, u32) = (-1, 9);
-
 /// Standard input and standard output.
-pub fn input_and_output() -> Result<(String, String), Refusal> {
-    let cases = cases()?;
-    let mut input = format!("{} cases\n", cases.len());
-    let mut output = String::new();
-    for (place, case) in cases.iter().enumerate() {
-        input.push_str(&written(case));
-        output.push_str(&format!("case,{}\n{}", place + 1, answers(case)));
-    }
-    Ok((input, output))
+pub fn input_and_output() -> Result<InputAndOutput, Refusal> {
+    case_text::input_and_output(&cases()?, |case| written(case).into_bytes(), |case| Ok(answers(case).into_bytes()))
 }
 
 /// Whole maps with buffers of just the needed length and with longer ones, then all that is refused.
@@ -94,22 +83,16 @@ fn lent(side: u32, short: [usize; 4]) -> Case {
     }
 }
 
-/// A case as the program reads it.
+/// A case as the program reads it, in four lines: the side and the lengths lent; the greys; the count of marks and the
+/// marks; the count of blocks and the blocks.
 fn written(case: &Case) -> String {
-    let blocks: Vec<u32> = case.blocks.concat();
-    format!(
-        "\nside {}, lent {} {} {} {}\ngreys{}\n{} marks{}\n{} blocks{}\n",
-        case.side,
-        case.greys.len(),
-        case.pyramid,
-        case.serials,
-        case.order,
-        row(&case.greys, " "),
-        case.marks.len(),
-        row(&case.marks, " "),
-        case.blocks.len(),
-        row(&blocks, " "),
-    )
+    [
+        line(&[case.side as usize, case.greys.len(), case.pyramid, case.serials, case.order]),
+        line(&case.greys),
+        format!("{}{}\n", case.marks.len(), fields(&case.marks)),
+        format!("{}{}\n", case.blocks.len(), fields(&case.blocks.concat())),
+    ]
+    .concat()
 }
 
 /// What the three calls answer, and the three buffers after the load.
@@ -119,8 +102,8 @@ fn answers(case: &Case) -> String {
     let mut order = vec![BEFORE.1; case.order];
     let loaded = load(case.side, &case.greys, &mut pyramid, &mut serials, &mut order);
     let mut text = format!("load,{},{}{}\n", loaded.progress.side, loaded.progress.dots, refusal(loaded.status.err()));
-    text.push_str(&format!("pyramid{}\n", row(&pyramid, ",")));
-    text.push_str(&format!("serials{}\norder{}\n", row(&serials, ","), row(&order, ",")));
+    text.push_str(&format!("pyramid{}\n", fields(&pyramid)));
+    text.push_str(&format!("serials{}\norder{}\n", fields(&serials), fields(&order)));
     for (place, cell) in case.marks.iter().enumerate() {
         if let Some(serial) = serials.get_mut(*cell as usize) {
             *serial = place as u32 + 1;
@@ -129,19 +112,9 @@ fn answers(case: &Case) -> String {
     for block in &case.blocks {
         let answer = tally(case.side, &serials, block[0], block[1], block[2]);
         let dots: Vec<u32> = answer.into_iter().collect();
-        text.push_str(&format!("tally{}{}{}\n", row(block, ","), row(&dots, ","), refusal(answer.err())));
+        text.push_str(&format!("tally{}{}{}\n", fields(block), fields(&dots), refusal(answer.err())));
     }
     let sums = levels(case.side, &case.greys, &serials);
-    text.push_str(&format!("levels{}{}\n", row(&sums.unwrap_or([0; 9]), ","), refusal(sums.err())));
+    text.push_str(&format!("levels{}{}\n", fields(&sums.unwrap_or([0; 9])), refusal(sums.err())));
     text
-}
-
-/// The end of a line that says no.
-fn refusal(why: Option<Refusal>) -> String {
-    why.map_or(String::new(), |why| format!(",refused,{}", why.number()))
-}
-
-/// Items in decimal, each after a mark.
-fn row<T: Display>(items: &[T], mark: &str) -> String {
-    items.iter().map(|item| format!("{mark}{item}")).collect()
 }

@@ -1,6 +1,5 @@
 -- Advance's two ways out: refused, with nothing changed, and advanced.
 use mathlib.Core.Path.{_≡_, sym, _∙_}
-use mathlib.Core.Bool.{true}
 use mathlib.Core.List.{List, _++_}
 use Prim.Native.Nat.{ℕ, suc, _+_, _-_, _^_, _≤_, _<_, min}
 use native.Mathlib.Omega.{arith}
@@ -33,17 +32,11 @@ use Rattle.dots.specs.SoundTest.{test-sound}
 use Rattle.checks.specs.Checks.{checked, passed-none, failed-number}
 use Rattle.checks.specs.declared.Check.{Check}
 use Rattle.checks.specs.declared.Check.the-variants.{Passed, Failed}
-use Rattle.sheet.specs.Sheets.{SheetLent, sheet-lent}
+use Rattle.sheet.specs.Sheets.{SheetAsked, sheet-asked}
 use Rattle.advance.specs.Running.{RunAsked, Ran}
 
--- a sheet that is not refused
-pub record AdvanceAsked (r dots : ℕ) (p : List ℤ) (s o : List ℕ) : Type 0 where
-  pub small : r ≤ 8
-  pub lent : SheetLent r (length p) (length s) (length o)
-  pub sound : isSound r (sheetIn r dots p s o) ≡ true
-
 -- ---- the sheet's parts lent; n and c are what the code has worked out for the needed length and the number of cells
-module _ {r dots : ℕ} (p : List ℤ) (s o : List ℕ) (h : AdvanceAsked r dots p s o) {n c : ℕ} (en : n ≡ needed r) (ec : c ≡ cellCount r) where
+module _ {r dots : ℕ} (p : List ℤ) (s o : List ℕ) (h : SheetAsked r dots p s o) {n c : ℕ} (en : n ≡ needed r) (ec : c ≡ cellCount r) where
   pyramid-in : n ≤ length p
   pyramid-in = omega (arith, h .lent .pyramid-long)
 
@@ -118,10 +111,8 @@ module _ (progress : Progress) (p : List ℤ) (s o : List ℕ) {r : ℕ} (er : r
       rw (ea, n, advanceOf, ← number-positive why)
 
   module _ (passed : check ≡ Passed) where
-    pub advance-asked : AdvanceAsked r (progress .dots) p s o
-    advance-asked =
-        let q = sheet-lent r (length p) (length s) (length o) (isSound r (sheetIn r (progress .dots) p s o)) (passed-none check e passed) in
-        record { small = power-small (progress .side) er; lent = q .0; sound = q .1 }
+    pub advance-asked : SheetAsked r (progress .dots) p s o
+    advance-asked = sheet-asked (power-small (progress .side) er) (progress .dots) p s o check e passed
 
     pub passed-is : (budget : ℕ) {out : AdvanceOutcome} → out ≡ advanced plain r progress budget p s o → out ≡ advanceOf plain progress budget p s o
     unfolding advanceOf

@@ -10,7 +10,7 @@ ghost use Prim.Native.Nat.{_+_};
 ghost use Rattle.definition.specs.Diffusion.{plain};
 ghost use Rattle.definition.specs.Advance.{saidAt, advanced, advanceOf};
 ghost use Rattle.advance.specs.Running.{RunAsked, Ran};
-ghost use Rattle.advance.specs.Advancing.{AdvanceAsked};
+ghost use Rattle.sheet.specs.Sheets.{SheetAsked};
 
 // What is said with this top: "finished exactly if the top is then below 32,640, else more".
 fn ended(top: i64) -> AdvanceStatus
@@ -75,7 +75,7 @@ fn advance_sheet(
     serials: &mut [u32],
     order: &mut [u32],
 ) -> AdvanceAnswer
-    requires { ⌜ AdvanceAsked r (progress .dots) (now pyramid) (now serials) (now order) ⌝ }
+    requires { ⌜ SheetAsked r (progress .dots) (now pyramid) (now serials) (now order) ⌝ }
     ensures { λ a. ⌜ record { reply = record { progress = a .progress; made = a .made; said = advanceSays (a .status) }; pyramid = now (pyramid .exit); serials = now (serials .exit); order = now (order .exit) } ≡ advanced plain r progress budget (now (pyramid .entry)) (now (serials .entry)) (now (order .entry)) ⌝ }
 {
     let dots = progress.dots;

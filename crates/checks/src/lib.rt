@@ -1,7 +1,26 @@
 // What a call's check finds before anything is read or written: nothing, or the first row of document 01's table that applies.
 use definition::Refusal;
+ghost use mathlib.Core.Path.{_≡_};
+ghost use Rattle.definition.specs.Answers.{numberOf};
 
 pub enum Check {
     Passed,
     Failed(Refusal),
+}
+
+// Document 01's number of a refusal.
+pub fn number_of(why: Refusal) -> u32
+    ensures { λ n. ⌜ n ≡ numberOf why ⌝ }
+{
+    match why {
+        Refusal::SideUnknown => 1,
+        Refusal::GreysShort => 2,
+        Refusal::PyramidShort => 3,
+        Refusal::SheetShort => 4,
+        Refusal::SheetUnsound => 5,
+        Refusal::BlockUnknown => 6,
+        Refusal::TextMalformed => 7,
+        Refusal::OutputShort => 8,
+        Refusal::InputLong => 9,
+    }
 }

@@ -30,10 +30,11 @@ pub record NextDigit (most v b : ℕ) : Type 0 where
   pub small : 10 * v + (b - 48) ≤ most
 
 -- the reader's test of this
-abbrev pub isNextDigit : ℕ → ℕ → ℕ → Bool
+unfoldable pub isNextDigit : ℕ → ℕ → ℕ → Bool
 isNextDigit most v b = isDigit b && not (eqb v 0) && leb (10 * v + (b - 48)) most
 
 pub isNextDigit-iff : (most v b : ℕ) → (isNextDigit most v b ≡ true) ↔ NextDigit most v b
+unfolding isNextDigit
 isNextDigit-iff most v b = (
   λ e.
       let s = and-eq-true-iff (isDigit b && not (eqb v 0)) (leb (10 * v + (b - 48)) most) .0 e in
@@ -50,11 +51,11 @@ module _ (most end : ℕ) where
 
   module _ (v b : ℕ) (rest : List ℕ) (n : b ≡ end → ⊥) where
     pub digitsThen-digit : isNextDigit most v b ≡ true → digitsThen most end v (b ∷ rest) ≡ digitsThen most end (10 * v + (b - 48)) rest
-    unfolding digitsThen
+    unfolding digitsThen isNextDigit
     digitsThen-digit t = rw (ne-eqb b end n, t, digitsThen)
 
     pub digitsThen-other : isNextDigit most v b ≡ false → digitsThen most end v (b ∷ rest) ≡ malformed
-    unfolding digitsThen
+    unfolding digitsThen isNextDigit
     digitsThen-other t = rw (ne-eqb b end n, t, digitsThen)
 
   module _ (b : ℕ) (rest : List ℕ) where

@@ -1,140 +1,20 @@
-// Reads cases on standard input, as decimal numbers, and writes what Load and then Advance, call after call, answer to each.
-// A case is: the side, a seed and the places to spare; the greys, if the seed is 0; the count of calls and, for each of them,
-// the budget, the three lengths lent (pyramid, serials, order), and a place of the pyramid with an amount that is added there before the call.
+// Reads cases on standard input and writes what Load and then Advance, call after call, answer to each.
+// The input is lines of decimal numbers parted by commas. The first line is the count of cases. A case is: a line with the side, a seed and
+// the places to spare; a line with the greys, if the seed is 0; a line with the count of calls; and a line for each of them: the budget, the
+// three lengths lent (pyramid, serials, order), a place of the pyramid, and what is added there and what is taken away before the call.
+use console::end_line;
+use console::end_refused;
+use console::field;
+use console::field_u32;
+use console::fields_i64;
+use console::fields_u32;
+use console::folded;
+use console::limit;
+use console::next;
 use definition::AdvanceAnswer;
 use definition::AdvanceStatus;
-use definition::LoadAnswer;
-use definition::LoadStatus;
 use definition::Progress;
-use definition::Refusal;
-ghost use Prim.Native.Nat.{_≤_, _<_, _^_};
-
-// A number that was read, and the place behind it.
-struct Number {
-    value: u32,
-    at: usize,
-}
-
-// The value of a digit, or 10 for another byte.
-fn digit(b: u8) -> u32 {
-    if b < 48 {
-        return 10;
-    }
-    if 57 < b {
-        return 10;
-    }
-    (b - 48) as u32
-}
-
-// The place of the first digit from a place on, or the text's end.
-fn skip(text: &[u8], from: usize) -> usize {
-    let mut at = from;
-    while at < text.len() {
-        if digit(text[at]) < 10 {
-            return at;
-        }
-        at += 1;
-    }
-    at
-}
-
-// The next number from a place on, modulo 1,000,000, or 0 where there is none.
-fn next(text: &[u8], from: usize) -> Number {
-    let mut at = skip(text, from);
-    let mut value = 0;
-    while at < text.len() {
-        let d = digit(text[at]);
-        if 9 < d {
-            return Number { value, at };
-        }
-        value = (value * 10 + d) % 1000000;
-        at += 1;
-    }
-    Number { value, at }
-}
-
-// A length that was read, but no more than there are places.
-fn limit(length: u32, most: usize) -> usize
-    ensures { λ n. ⌜ n ≤ most ⌝ }
-{
-    let n = length as usize;
-    if n <= most { n } else { most }
-}
-
-fn end_line() {
-    io::write_all(1, b"\n");
-}
-
-// Writes a comma and a number.
-fn field(n: u64) {
-    io::write_all(1, b",");
-    io::print_decimal(1, n);
-}
-
-fn field_u32(n: u32) {
-    field(n as u64);
-}
-
-// n itself, or -1 - n for a number n below 0.
-fn folded(n: i64) -> u64
-    ensures { λ m. ⌜ m < 2 ^ 63 ⌝ }
-{
-    if n < 0 {
-        return -(n + 1) as u64;
-    }
-    n as u64
-}
-
-fn field_i64(n: i64) {
-    if n < 0 {
-        io::write_all(1, b",-");
-        io::print_decimal(1, folded(n) + 1);
-        return;
-    }
-    field(folded(n));
-}
-
-// Document 01's number of a refusal.
-fn number_of(why: Refusal) -> u32 {
-    match why {
-        Refusal::SideUnknown => 1,
-        Refusal::GreysShort => 2,
-        Refusal::PyramidShort => 3,
-        Refusal::SheetShort => 4,
-        Refusal::SheetUnsound => 5,
-        Refusal::BlockUnknown => 6,
-        Refusal::TextMalformed => 7,
-        Refusal::OutputShort => 8,
-        Refusal::InputLong => 9,
-    }
-}
-
-// Ends a line with a refusal.
-fn end_refused(why: Refusal) {
-    io::write_all(1, b",refused");
-    field_u32(number_of(why));
-    end_line();
-}
-
-// Writes a field for each value, and ends the line.
-fn fields_u32(values: &[u32]) {
-    let mut i = 0;
-    while i < values.len() {
-        field_u32(values[i]);
-        i += 1;
-    }
-    end_line();
-}
-
-// The same for signed values.
-fn fields_i64(values: &[i64]) {
-    let mut i = 0;
-    while i < values.len() {
-        field_i64(values[i]);
-        i += 1;
-    }
-    end_line();
-}
+ghost use Prim.Native.Nat.{_≤_};
 
 // A checksum with one more value.
 fn mix(sum: u64, value: u64) -> u64 {
@@ -206,18 +86,6 @@ fn write_places(n: usize, pyramid: &[i64], serials: &[u32], order: &[u32]) {
     write_u32(n, order);
 }
 
-fn print_load(answer: LoadAnswer) {
-    let progress = answer.progress;
-    io::write_all(1, b"load");
-    field_u32(progress.side);
-    field_u32(progress.dots);
-    let status = answer.status;
-    match status {
-        LoadStatus::Loaded => end_line(),
-        LoadStatus::Refused(why) => end_refused(why),
-    }
-}
-
 fn print_call(budget: u32, answer: AdvanceAnswer) {
     let progress = answer.progress;
     io::write_all(1, b"call");
@@ -237,19 +105,6 @@ fn print_call(budget: u32, answer: AdvanceAnswer) {
         }
         AdvanceStatus::Refused(why) => end_refused(why),
     }
-}
-
-// Reads a grey for each place, and returns the place behind the last.
-fn read_greys(text: &[u8], from: usize, greys: &mut [u8]) -> usize {
-    let mut at = from;
-    let mut i = 0;
-    while i < greys.len() {
-        let n = next(text, at);
-        greys[i] = (n.value % 256) as u8;
-        at = n.at;
-        i += 1;
-    }
-    at
 }
 
 // The state that follows one of the generator.
@@ -276,39 +131,10 @@ fn generate_greys(seed: u32, greys: &mut [u8]) {
 // Reads the greys of seed 0, or generates those of another, and returns the place behind what was read.
 fn make_greys(text: &[u8], from: usize, seed: u32, greys: &mut [u8]) -> usize {
     if seed == 0 {
-        return read_greys(text, from, greys);
+        return console::read_bytes(text, from, greys);
     }
     generate_greys(seed, greys);
     from
-}
-
-// Adds one number to an entry and subtracts another, if there is such an entry and it isn't too large.
-fn shift_entry(pyramid: &mut [i64], place: usize, plus: u32, minus: u32) {
-    if pyramid.len() <= place {
-        return;
-    }
-    let entry = pyramid[place];
-    if entry < -1000000000000 {
-        return;
-    }
-    if 1000000000000 < entry {
-        return;
-    }
-    pyramid[place] = entry + plus as i64 - minus as i64;
-}
-
-// Adds an amount to an entry; a number from 500000 on stands for so much less than a million.
-fn add_amount(pyramid: &mut [i64], place: usize, amount: u32) {
-    if amount < 500000 {
-        shift_entry(pyramid, place, amount, 0);
-        return;
-    }
-    shift_entry(pyramid, place, amount, 1000000);
-}
-
-// The budget that a number stands for: 999999 is the largest.
-fn budget_of(n: u32) -> u32 {
-    if n == 999999 { 4294967295 } else { n }
 }
 
 // Lends Advance the first places of each buffer, as many as the lengths say.
@@ -354,10 +180,11 @@ fn run_call(
     let s = next(text, p.at);
     let o = next(text, s.at);
     let entry = next(text, o.at);
-    let amount = next(text, entry.at);
-    let budget = budget_of(b.value);
+    let plus = next(text, entry.at);
+    let minus = next(text, plus.at);
+    let budget = b.value;
     let place = entry.value as usize;
-    add_amount(pyramid, place, amount.value);
+    console::shift_entry(pyramid, place, plus.value, minus.value);
     let answer = advance_on(
         progress,
         budget,
@@ -372,7 +199,7 @@ fn run_call(
     let after = answer.progress;
     Called {
         progress: after,
-        at: amount.at,
+        at: minus.at,
     }
 }
 
@@ -413,7 +240,7 @@ fn run(
 ) -> usize {
     let calls = make_greys(text, from, seed, greys);
     let answer = load::load(side, greys, pyramid, serials, order);
-    print_load(answer);
+    console::print_load(answer);
     let progress = answer.progress;
     let end = run_calls(text, calls, progress, pyramid, serials, order);
     write_places(n, pyramid, serials, order);
@@ -480,9 +307,7 @@ fn run_cases(text: &[u8]) {
     let mut j = 0;
     while j < cases {
         j += 1;
-        io::write_all(1, b"case");
-        field_u32(j);
-        end_line();
+        console::print_case(j);
         at = run_case(text, at);
     }
 }

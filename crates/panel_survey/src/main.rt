@@ -1,130 +1,18 @@
-// Reads cases on standard input, as decimal numbers, and writes what Load, Tally and Levels answer to each.
-// A case is: the side; the four lengths lent (greys, pyramid, serials, order); the greys; the count of marks and the cells
-// to mark; the count of tallies and a level, row and column for each.
+// Reads cases on standard input and writes what Load, Tally and Levels answer to each.
+// The input is lines of decimal numbers parted by commas. The first line is the count of cases. A case is four lines: the side and the four
+// lengths lent (greys, pyramid, serials, order); the greys; the count of marks and the cells to mark; the count of tallies, and a level, row
+// and column for each.
+use console::end_line;
+use console::end_refused;
+use console::field;
+use console::field_u32;
+use console::fields_i64;
+use console::fields_u32;
+use console::limit;
+use console::next;
 use definition::LevelsAnswer;
 use definition::LevelsStatus;
-use definition::LoadAnswer;
-use definition::LoadStatus;
-use definition::Refusal;
 use definition::TallyAnswer;
-ghost use Prim.Native.Nat.{_≤_};
-
-// A number that was read, and the place behind it.
-struct Number {
-    value: u32,
-    at: usize,
-}
-
-// The value of a digit, or 10 for another byte.
-fn digit(b: u8) -> u32 {
-    if b < 48 {
-        return 10;
-    }
-    if 57 < b {
-        return 10;
-    }
-    (b - 48) as u32
-}
-
-// The place of the first digit from a place on, or the text's end.
-fn skip(text: &[u8], from: usize) -> usize {
-    let mut at = from;
-    while at < text.len() {
-        if digit(text[at]) < 10 {
-            return at;
-        }
-        at += 1;
-    }
-    at
-}
-
-// The next number from a place on, modulo 1,000,000, or 0 where there is none.
-fn next(text: &[u8], from: usize) -> Number {
-    let mut at = skip(text, from);
-    let mut value = 0;
-    while at < text.len() {
-        let d = digit(text[at]);
-        if 9 < d {
-            return Number { value, at };
-        }
-        value = (value * 10 + d) % 1000000;
-        at += 1;
-    }
-    Number { value, at }
-}
-
-// A length that was read, but no more than there are places.
-fn limit(length: u32, most: usize) -> usize
-    ensures { λ n. ⌜ n ≤ most ⌝ }
-{
-    let n = length as usize;
-    if n <= most { n } else { most }
-}
-
-fn end_line() {
-    io::write_all(1, b"\n");
-}
-
-// Writes a comma and a number.
-fn field(n: u64) {
-    io::write_all(1, b",");
-    io::print_decimal(1, n);
-}
-
-fn field_u32(n: u32) {
-    field(n as u64);
-}
-
-fn field_i64(n: i64) {
-    if n < 0 {
-        io::write_all(1, b",-");
-        io::print_decimal(1, -(n + 1) as u64 + 1);
-        return;
-    }
-    field(n as u64);
-}
-
-// Document 01's number of a refusal.
-fn number_of(why: Refusal) -> u32 {
-    match why {
-        Refusal::SideUnknown => 1,
-        Refusal::GreysShort => 2,
-        Refusal::PyramidShort => 3,
-        Refusal::SheetShort => 4,
-        Refusal::SheetUnsound => 5,
-        Refusal::BlockUnknown => 6,
-        Refusal::TextMalformed => 7,
-        Refusal::OutputShort => 8,
-        Refusal::InputLong => 9,
-    }
-}
-
-// Ends a line with a refusal.
-fn end_refused(why: Refusal) {
-    io::write_all(1, b",refused");
-    field_u32(number_of(why));
-    end_line();
-}
-
-// Writes a field for each value, and ends the line.
-fn fields_u32(values: &[u32]) {
-    let mut i = 0;
-    while i < values.len() {
-        field_u32(values[i]);
-        i += 1;
-    }
-    end_line();
-}
-
-// The same for signed values.
-fn fields_i64(values: &[i64]) {
-    let mut i = 0;
-    while i < values.len() {
-        field_i64(values[i]);
-        i += 1;
-    }
-    end_line();
-}
 
 // Writes a field for each of nine values.
 fn nine_fields(values: &[u64; 9]) {
@@ -132,18 +20,6 @@ fn nine_fields(values: &[u64; 9]) {
     while i < 9 {
         field(values[i]);
         i += 1;
-    }
-}
-
-fn print_load(answer: LoadAnswer) {
-    let progress = answer.progress;
-    io::write_all(1, b"load");
-    field_u32(progress.side);
-    field_u32(progress.dots);
-    let status = answer.status;
-    match status {
-        LoadStatus::Loaded => end_line(),
-        LoadStatus::Refused(why) => end_refused(why),
     }
 }
 
@@ -166,19 +42,6 @@ fn print_levels(answer: LevelsAnswer) {
         LevelsStatus::Summed => end_line(),
         LevelsStatus::Refused(why) => end_refused(why),
     }
-}
-
-// Reads a grey for each place, and returns the place behind the last.
-fn read_greys(text: &[u8], from: usize, greys: &mut [u8]) -> usize {
-    let mut at = from;
-    let mut i = 0;
-    while i < greys.len() {
-        let n = next(text, at);
-        greys[i] = (n.value % 256) as u8;
-        at = n.at;
-        i += 1;
-    }
-    at
 }
 
 // Reads the cells to mark, stores 1, 2, .. at those that there are, and returns the place behind the last.
@@ -233,7 +96,7 @@ fn load_places(
     serials: &mut [u32],
     order: &mut [u32],
 ) {
-    print_load(load::load(side, greys, pyramid, serials, order));
+    console::print_load(load::load(side, greys, pyramid, serials, order));
     io::write_all(1, b"pyramid");
     fields_i64(pyramid);
     io::write_all(1, b"serials");
@@ -252,7 +115,7 @@ fn run(
     serials: &mut [u32],
     order: &mut [u32],
 ) -> usize {
-    let marks = read_greys(text, from, greys);
+    let marks = console::read_bytes(text, from, greys);
     load_places(side, greys, pyramid, serials, order);
     let tallies = read_marks(text, marks, serials);
     let end = tally_blocks(text, tallies, side, serials);
@@ -294,9 +157,7 @@ fn run_cases(text: &[u8]) {
     let mut j = 0;
     while j < cases {
         j += 1;
-        io::write_all(1, b"case");
-        field_u32(j);
-        end_line();
+        console::print_case(j);
         at = run_case(text, at);
     }
 }

@@ -1,5 +1,5 @@
 -- The checks of a sheet: its lengths, then whether it is sound.
-use mathlib.Core.Path.{_≡_, refl, sym, ap, _∙_}
+use mathlib.Core.Path.{_≡_, refl, sym, _∙_}
 use mathlib.Core.Bool.{Bool, true, false, not, cond}
 use mathlib.Core.List.{List}
 use Prim.Native.Nat.{ℕ, suc, _-_, _≤_, _<_}
@@ -8,7 +8,7 @@ use lib.Dec.{ltb, eqb}
 use lib.ListN.{length, take}
 use lib.Seq.{length-take-le}
 use lib.IntN.{ℤ}
-use borrow.Author.Tests.{ltb-false, le-ltb, eqb-false, ne-eqb}
+use borrow.Author.Tests.{ltb-false, le-ltb, eqb-false, ne-eqb, not-false}
 use Rattle.definition.specs.Answers.{numberOf}
 use Rattle.definition.specs.Pyramid.{needed, cellCount}
 use Rattle.definition.specs.Refusals.{lowest}
@@ -29,10 +29,6 @@ pub record SheetLent (r pyramid serials order : ℕ) : Type 0 where
   pub pyramid-long : needed r ≤ pyramid
   pub serials-long : cellCount r ≤ serials
   pub order-long : cellCount r ≤ order
-
-not-false : (b : Bool) → not b ≡ false → b ≡ true
-not-false true e = ap not e
-not-false false e = sym e
 
 module _ (r p s o : ℕ) where
   pub sheet-lent : (sound : Bool) → advanceRefusal r p s o sound ≡ 0 → SheetLent r p s o × (sound ≡ true)
@@ -72,6 +68,18 @@ module _ (r p s o : ℕ) where
       go : (b : Bool) → _≡_ {A = ℕ} (cond (not b) 5 0) (cond b 0 5)
       go true = refl
       go false = refl
+
+-- a sheet that is not refused
+pub record SheetAsked (r dots : ℕ) (p : List ℤ) (s o : List ℕ) : Type 0 where
+  pub small : r ≤ 8
+  pub lent : SheetLent r (length p) (length s) (length o)
+  pub sound : isSound r (sheetIn r dots p s o) ≡ true
+
+pub sheet-asked : {r : ℕ} → r ≤ 8 → (dots : ℕ) (p : List ℤ) (s o : List ℕ) (check : Check)
+    → checked check ≡ advanceRefusal r (length p) (length s) (length o) (isSound r (sheetIn r dots p s o)) → check ≡ Passed → SheetAsked r dots p s o
+sheet-asked {r} small dots p s o check e passed =
+    let q = sheet-lent r (length p) (length s) (length o) (isSound r (sheetIn r dots p s o)) (passed-none check e passed) in
+    record { small = small; lent = q .0; sound = q .1 }
 
 -- ---- the code's way: the lengths are checked first; n and c are what it has worked out for the needed length and the number of cells
 module _ {r : ℕ} (small : r ≤ 8) (p : List ℤ) (s o : List ℕ) (dots : ℕ) (lengths : Check) (e : checked lengths ≡ advanceRefusal r (length p) (length s) (length o) true) where

@@ -10,10 +10,6 @@ use Rattle.pyramid.specs.Asked.{parentOf}
 use Rattle.pyramid.specs.Level.{asked-side, some-place, asked-filled, in-filled, parent-filled, filled-level}
 use Rattle.pyramid.proofs.fill_level.Statement.{statement}
 use Rattle.pyramid.proofs.fill_level.Tie as tie
-use Rattle.pyramid.proofs.fill_level.Reads as reads
-use Rattle.pyramid.proofs.fill_level.Lts as lts
-use Rattle.sizes.proofs.pow2.Reads as pow2-reads
-use Rattle.pyramid.proofs.parent_sum.Reads as parent-sum-reads
 
 abbrev Inv-loop : tie.InvT-loop
 Inv-loop part₀ k side size i₀ part i = (i ≤ size) × (part ≡ filled (parentOf part₀ side) i part₀)

@@ -4,8 +4,6 @@ use borrow.Author.Needs.{needs}
 use Rattle.integers.specs.Machine.{of-bits, back64, ok64}
 use Rattle.pyramid.proofs.residual.Statement.{statement}
 use Rattle.pyramid.proofs.residual.Tie as tie
-use Rattle.pyramid.proofs.residual.Reads as reads
-use Rattle.pyramid.proofs.residual.Lts as lts
 
 pub residual-spec : {M : Type 1} → statement M
 residual-spec =

@@ -1,0 +1,86 @@
+-- Drill List's ways out: refused before the list is made, with nothing changed; and the list, written or refused for its length.
+use mathlib.Core.Path.{_≡_, sym, _∙_}
+use mathlib.Core.Bool.{Bool, true, false}
+use mathlib.Core.List.{List, [], _∷_, _++_}
+use Prim.Native.Nat.{ℕ, suc, _-_, _≤_}
+use native.Mathlib.Omega.{arith}
+use borrow.Author.Tests.{ne-eqb, le-ltb}
+use lib.ListN.{length}
+use lib.Seq.{take-take}
+use lib.IntN.{ℤ}
+use Rattle.definition.specs.Answers.{drillListSays, numberOf}
+use Rattle.definition.specs.Pyramid.{needed, cellCount}
+use Rattle.definition.specs.Refusals.{Row, powerOf, outputShort, lowest}
+use Rattle.definition.specs.Sound.{isSound}
+use Rattle.definition.specs.Advance.{sheetIn, advanceRefusal}
+use Rattle.definition.specs.DrillList.{drillText, DrillListOutcome, drillListRefusal, drillListOf}
+use Rattle.definition.specs.declared.Progress.{Progress}
+use Rattle.definition.specs.declared.Refusal.{Refusal}
+use Rattle.definition.specs.declared.DrillListAnswer.the-variants.{Refused}
+use Rattle.integers.specs.Tests.{T-true}
+use Rattle.quadtree.specs.Levels.{cells-few}
+use Rattle.refusals.specs.Powers.{power-small}
+use Rattle.refusals.specs.Numbers.{number-positive}
+use Rattle.dots.specs.SoundTest.{test-sound}
+use Rattle.checks.specs.Checks.{checked, failed-number}
+use Rattle.checks.specs.declared.Check.{Check}
+use Rattle.checks.specs.declared.Check.the-variants.{Passed, Failed}
+use Rattle.sheet.specs.Sheets.{SheetLent, SheetAsked, sheet-asked}
+use Rattle.drill_list.specs.Listing.{listText, listedIn, ListAsked}
+
+-- a row that applies comes before all that are added behind
+lowest-before : (rows more : List Row) (n : ℕ) → lowest rows ≡ suc n → lowest (rows ++ more) ≡ suc n
+unfolding lowest
+lowest-before [] more n e = absurd (omega arith)
+lowest-before ((k, true) ∷ rows) more n e = e
+lowest-before ((k, false) ∷ rows) more n e = lowest-before rows more n e
+
+module _ (r p s o list output : ℕ) where
+  sheet-first : (sound : Bool) (n : ℕ) → advanceRefusal r p s o sound ≡ suc n → drillListRefusal r p s o sound list output ≡ suc n
+  unfolding advanceRefusal drillListRefusal
+  sheet-first sound n e = lowest-before _ (outputShort list output ∷ []) n e
+
+  length-then : SheetLent r p s o → drillListRefusal r p s o true list output ≡ lowest (outputShort list output ∷ [])
+  unfolding drillListRefusal lowest
+  length-then h = rw (ne-eqb r 0 (λ e. omega arith), le-ltb p (needed r) (h .pyramid-long), le-ltb s (cellCount r) (h .serials-long), le-ltb o (cellCount r) (h .order-long))
+
+module _ (progress : Progress) (p : List ℤ) (s o : List ℕ) {r : ℕ} (er : r ≡ powerOf (progress .side)) (check : Check)
+    (e : checked check ≡ advanceRefusal r (length p) (length s) (length o) (isSound r (sheetIn r (progress .dots) p s o))) where
+  pub refused-is : (output : List ℕ) {why : Refusal} → check ≡ Failed why
+      → record { said = drillListSays (Refused why); output = output } ≡ drillListOf progress p s o output
+  unfolding drillListOf drillListSays
+  refused-is output {why} failed =
+      let k = powerOf (progress .side) in
+      let sheet = sheetIn k (progress .dots) p s o in
+      let n : advanceRefusal k (length p) (length s) (length o) (isSound k sheet) ≡ suc (numberOf why - 1) = rw (← er) (failed-number check e why failed) in
+      rw (sheet-first k (length p) (length s) (length o) (length (drillText k sheet)) (length output) (isSound k sheet) (numberOf why - 1) n, drillListOf, ← number-positive why)
+
+  module _ (passed : check ≡ Passed) where
+    asked : SheetAsked r (progress .dots) p s o
+    asked = sheet-asked (power-small (progress .side) er) (progress .dots) p s o check e passed
+
+    few : progress .dots ≤ cellCount r
+    unfolding sheetIn
+    few = test-sound r (sheetIn r (progress .dots) p s o) (T-true _ (asked .sound)) .few-dots
+
+    pub list-asked : ListAsked r (progress .dots) (length o)
+    list-asked = record { small = asked .small; few = omega (arith, few, cells-few r (asked .small)); listed = omega (arith, few, asked .lent .order-long) }
+
+    -- the sheet's order list is the part of the buffer that has a place for each cell
+    list-is : drillText r (sheetIn r (progress .dots) p s o) ≡ listText r (progress .dots) o
+    unfolding drillText sheetIn listText
+    list-is = rw (take-take (progress .dots) (cellCount r) o few)
+
+    module _ (output : List ℕ) where
+      list-then : drillListOf progress p s o output ≡ listedIn (drillText (powerOf (progress .side)) (sheetIn (powerOf (progress .side)) (progress .dots) p s o)) output
+      unfolding drillListOf listedIn
+      list-then =
+          let k = powerOf (progress .side) in
+          let sheet = sheetIn k (progress .dots) p s o in
+          let list = drillText k sheet in
+          let z : drillListRefusal k (length p) (length s) (length o) (isSound k sheet) (length list) (length output) ≡ lowest (outputShort (length list) (length output) ∷ []) =
+          rw (← er, asked .sound) (length-then r (length p) (length s) (length o) _ (length output) (asked .lent)) in
+          rw (z, drillListOf, listedIn)
+
+      pub listed-is : {out : DrillListOutcome} → out ≡ listedIn (listText r (progress .dots) o) output → out ≡ drillListOf progress p s o output
+      listed-is q = q ∙ sym (list-then ∙ rw (← er, list-is))

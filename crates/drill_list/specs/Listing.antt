@@ -1,0 +1,151 @@
+-- The list written line by line, and into a buffer that has room for it or not.
+use mathlib.Core.Path.{_≡_, refl, sym, ap, _∙_}
+use mathlib.Core.Bool.{Bool, true, false}
+use mathlib.Core.List.{List, [], _∷_, _++_, append-assoc, append-nil}
+use Prim.Native.Nat.{ℕ, zero, suc, _+_, _/_, _%_, _^_, _<_, _≤_}
+use native.Mathlib.Nat.{zero-add, add-zero, div-le-self, mod-le}
+use native.Mathlib.Numerals.{add-one}
+use native.Mathlib.Omega.{arith}
+use borrow.Author.Tests.{ltb-false}
+use lib.Dec.{ltb}
+use lib.Pow.{pow-pos, pow-mono}
+use lib.ListN.{length, getD, take, drop, length-append}
+use lib.Seq.{sets, sets-eq, take-suc, length-take-le, append-snoc}
+use Rattle.definition.specs.Answers.{returned, refused, drillListSays, numberOf}
+use Rattle.definition.specs.Refusals.{outputShort, lowest}
+use Rattle.definition.specs.Text.{comma, newline, decimal, line}
+use Rattle.definition.specs.DrillList.{dotLines, DrillListOutcome}
+use Rattle.definition.specs.declared.Refusal.the-variants.{OutputShort}
+use Rattle.definition.specs.declared.DrillListAnswer.the-variants.{Length, Refused}
+use Rattle.decimals.specs.Writing.{fieldText, length-fieldText, Wrote, wrote-none, wrote-append}
+
+-- the list of the first `dots` cells of an order list
+unfoldable pub listText : ℕ → ℕ → List ℕ → List ℕ
+listText r dots order = line (dots ∷ 2 ^ r ∷ []) ++ dotLines r 1 (take dots order)
+
+-- a list into a buffer that has room for it; or a refusal
+unfoldable pub listedIn : List ℕ → List ℕ → DrillListOutcome
+listedIn list output =
+    elim (lowest (outputShort (length list) (length output) ∷ [])) [
+      | zero ↦ record { said = returned (length list ∷ []); output = list ++ drop (length list) output }
+      | suc n ↦ record { said = refused (suc n); output = output }
+    ]
+
+-- a power, and so many cells in an order list
+pub record ListAsked (r dots order : ℕ) : Type 0 where
+  pub small : r ≤ 8
+  pub few : dots ≤ 65536
+  pub listed : dots ≤ order
+
+-- ---- lines
+line-two : (a b : ℕ) → line (a ∷ b ∷ []) ≡ fieldText a comma ++ fieldText b newline
+unfolding line fieldText
+line-two a b = sym (append-snoc (decimal a) comma (decimal b ++ newline ∷ []))
+
+line-three : (a b c : ℕ) → line (a ∷ b ∷ c ∷ []) ≡ fieldText a comma ++ (fieldText b comma ++ fieldText c newline)
+unfolding line fieldText
+line-three a b c = rw (append-snoc (decimal a) comma _, append-snoc (decimal b) comma _)
+
+-- `side` is what the code has worked out for 2 ^ r
+module _ {side : ℕ} (r : ℕ) (e : side ≡ 2 ^ r) where
+  pub some-side : 0 < side
+  some-side = omega (arith, pow-pos r)
+
+  module _ {l l₁ l₂ : List ℕ} {at a b : ℕ} where
+    pub head-wrote : (dots : ℕ) → Wrote l at (fieldText dots comma) a l₁ → Wrote l₁ a (fieldText side newline) b l₂ → Wrote l at (line (dots ∷ 2 ^ r ∷ [])) b l₂
+    head-wrote dots x y = rw (← e, line-two dots side) (wrote-append x y)
+
+    pub dot-wrote : {l₃ : List ℕ} {c : ℕ} (serial cell : ℕ) → Wrote l at (fieldText serial comma) a l₁ → Wrote l₁ a (fieldText (cell / side) comma) b l₂
+        → Wrote l₂ b (fieldText (cell % side) newline) c l₃ → Wrote l at (line (serial ∷ cell / 2 ^ r ∷ cell % 2 ^ r ∷ [])) c l₃
+    dot-wrote serial cell x y z = rw (← e, line-three serial (cell / side) (cell % side)) (wrote-append x (wrote-append y z))
+
+-- ---- the lines of dots
+dotLines-snoc : (r j : ℕ) (cells : List ℕ) (cell : ℕ)
+    → dotLines r j (cells ++ cell ∷ []) ≡ dotLines r j cells ++ line ((j + length cells) ∷ cell / 2 ^ r ∷ cell % 2 ^ r ∷ [])
+unfolding dotLines
+dotLines-snoc r j [] cell = rw (add-zero j, append-nil)
+dotLines-snoc r j (x ∷ cells) cell =
+    let e : suc j + length cells ≡ j + suc (length cells) = omega arith in
+    rw (dotLines-snoc r (suc j) cells cell, e, append-assoc)
+
+pub no-dots : {l : List ℕ} {at : ℕ} (r : ℕ) → Wrote l at (dotLines r 1 []) at l
+unfolding dotLines
+no-dots r = wrote-none
+
+module _ {l l₁ l₂ : List ℕ} {at a b : ℕ} (r : ℕ) (order : List ℕ) (j : ℕ) (h : j < length order) where
+  pub one-more-dot : Wrote l at (dotLines r 1 (take j order)) a l₁ → Wrote l₁ a (line ((j + 1) ∷ getD order j 0 / 2 ^ r ∷ getD order j 0 % 2 ^ r ∷ [])) b l₂
+      → Wrote l at (dotLines r 1 (take (j + 1) order)) b l₂
+  one-more-dot x y = rw taken (wrote-append x y)
+    where
+      taken : dotLines r 1 (take (j + 1) order) ≡ dotLines r 1 (take j order) ++ line ((j + 1) ∷ getD order j 0 / 2 ^ r ∷ getD order j 0 % 2 ^ r ∷ [])
+      taken =
+          let e : 1 + j ≡ j + 1 = omega arith in
+          ap (λ (k : ℕ). dotLines r 1 (take k order)) (add-one j)
+          ∙ ap (dotLines r 1) (take-suc order j 0 h)
+          ∙ dotLines-snoc r 1 (take j order) (getD order j 0)
+          ∙ rw (length-take-le j order (omega arith), e)
+
+-- ---- where a line ends
+module _ {l l₁ : List ℕ} {at next : ℕ} (r : ℕ) where
+  pub head-end : (dots : ℕ) → dots < 2 ^ 64 → r ≤ 8 → Wrote l at (line (dots ∷ 2 ^ r ∷ [])) next l₁ → next ≤ at + 42
+  head-end dots p small w =
+      omega (
+        arith,
+        w .place,
+        ap length (line-two dots (2 ^ r)),
+        length-append (fieldText dots comma) (fieldText (2 ^ r) newline),
+        length-fieldText dots p comma,
+        length-fieldText (2 ^ r) (omega (arith, pow-mono {i = r} {j = 8} small)) newline,
+      )
+
+  pub dot-end : (serial cell : ℕ) → serial < 2 ^ 64 → cell < 2 ^ 64 → Wrote l at (line (serial ∷ cell / 2 ^ r ∷ cell % 2 ^ r ∷ [])) next l₁ → next ≤ at + 63
+  dot-end serial cell p q w =
+      let x = fieldText serial comma in
+      let y = fieldText (cell / 2 ^ r) comma in
+      let z = fieldText (cell % 2 ^ r) newline in
+      omega (
+        arith,
+        w .place,
+        ap length (line-three serial (cell / 2 ^ r) (cell % 2 ^ r)),
+        length-append x (y ++ z),
+        length-append y z,
+        length-fieldText serial p comma,
+        length-fieldText (cell / 2 ^ r) (omega (arith, div-le-self cell (2 ^ r))) comma,
+        length-fieldText (cell % 2 ^ r) (omega (arith, mod-le cell (2 ^ r))) newline,
+      )
+
+-- ---- the whole list
+pub list-wrote : {l l₁ l₂ : List ℕ} {a b : ℕ} (r dots : ℕ) (order : List ℕ) → Wrote l 0 (line (dots ∷ 2 ^ r ∷ [])) a l₁ → Wrote l₁ a (dotLines r 1 (take dots order)) b l₂
+    → Wrote l 0 (listText r dots order) b l₂
+unfolding listText
+list-wrote r dots order x y = wrote-append x y
+
+-- first into none of the buffer's places, which tells its length; then into all of them
+sets-nil : (i : ℕ) (bytes : List ℕ) → sets [] i bytes ≡ []
+sets-nil i [] = refl
+sets-nil i (b ∷ bytes) = sets-nil (suc i) bytes
+
+module _ (list output : List ℕ) {n : ℕ} {part : List ℕ} (w : Wrote (take 0 output) 0 list n part) where
+  untouched : part ++ drop 0 output ≡ output
+  untouched = rw (w .stored, sets-nil 0 list)
+
+  long : n ≡ length list
+  long = w .place ∙ zero-add (length list)
+
+  module _ {short : Bool} (e : short ≡ ltb (length (part ++ drop 0 output)) n) where
+    -- the code's test is the table's
+    short-is : ltb (length output) (length list) ≡ short
+    short-is = sym (e ∙ rw (untouched, long))
+
+    pub list-short : short ≡ true → record { said = drillListSays (Refused OutputShort); output = part ++ drop 0 output } ≡ listedIn list output
+    unfolding listedIn lowest drillListSays numberOf
+    list-short h = rw (untouched, short-is, h, listedIn)
+
+    pub list-written : short ≡ false → {m : ℕ} {after : List ℕ} → Wrote (part ++ drop 0 output) 0 list m after
+        → record { said = drillListSays (Length m); output = after } ≡ listedIn list output
+    unfolding listedIn lowest drillListSays
+    list-written h {m} {after} v =
+        let room : length list ≤ length output = ltb-false (length output) (length list) (short-is ∙ h) in
+        let e : after ≡ list ++ drop (length list) output =
+        v .stored ∙ ap (λ (x : List ℕ). sets x 0 list) untouched ∙ sets-eq list output 0 (omega arith) ∙ rw (zero-add (length list)) in
+        rw (e, v .place, zero-add (length list), short-is, h, listedIn)

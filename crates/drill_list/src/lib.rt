@@ -1,0 +1,96 @@
+// Drill List: "a line holes,side; then for each hole in order serial,row,column; same ending. It returns its length; bytes past it stay."
+use checks::Check;
+use definition::DrillListAnswer;
+use definition::Progress;
+use definition::Refusal;
+ghost use mathlib.Core.Path.{_≡_};
+ghost use mathlib.Core.List.{[], _∷_};
+ghost use Prim.Native.Nat.{_/_, _%_, _^_, _≤_};
+ghost use lib.Dec.{ltb};
+ghost use lib.ListN.{length, take};
+ghost use Rattle.definition.specs.Answers.{drillListSays};
+ghost use Rattle.definition.specs.Text.{line};
+ghost use Rattle.definition.specs.DrillList.{dotLines, drillListOf};
+ghost use Rattle.decimals.specs.Writing.{Wrote};
+ghost use Rattle.drill_list.specs.Listing.{listText, listedIn, ListAsked};
+
+// The first line.
+fn put_head(out: &mut [u8], dots: u64, r: usize) -> usize
+    requires { ⌜ r ≤ 8 ⌝ }
+    ensures { λ next. ⌜ Wrote (now (out .entry)) 0 (line (dots ∷ 2 ^ r ∷ [])) next (now (out .exit)) ⌝ }
+{
+    let side = sizes::pow2(r) as u64;
+    let at = decimals::put_field(out, 0, dots, 44);
+    decimals::put_field(out, at, side, 10)
+}
+
+// The line of one dot.
+fn put_dot(out: &mut [u8], at: usize, serial: u64, cell: u64, r: usize) -> usize
+    requires { ⌜ (at ≤ 2 ^ 61) × (r ≤ 8) ⌝ }
+    ensures { λ next. ⌜ Wrote (now (out .entry)) at (line (serial ∷ cell / 2 ^ r ∷ cell % 2 ^ r ∷ [])) next (now (out .exit)) ⌝ }
+{
+    let side = sizes::pow2(r) as u64;
+    let row = decimals::put_field(out, at, serial, 44);
+    let column = decimals::put_field(out, row, cell / side, 44);
+    decimals::put_field(out, column, cell % side, 10)
+}
+
+// The lines of the first `dots` cells of the order list.
+fn put_dots(out: &mut [u8], from: usize, order: &[u32], dots: usize, r: usize) -> usize
+    requires { ⌜ (from ≤ 2 ^ 60) × ListAsked r dots (length (now order)) ⌝ }
+    ensures { λ next. ⌜ Wrote (now (out .entry)) from (dotLines r 1 (take dots (now (order .entry)))) next (now (out .exit)) ⌝ }
+{
+    let mut at = from;
+    let mut j = 0;
+    while j < dots {
+        at = put_dot(out, at, (j + 1) as u64, order[j] as u64, r);
+        j += 1;
+    }
+    at
+}
+
+// The whole list, as far as the buffer has places; returns its length.
+fn put_list(out: &mut [u8], order: &[u32], dots: usize, r: usize) -> usize
+    requires { ⌜ ListAsked r dots (length (now order)) ⌝ }
+    ensures { λ next. ⌜ Wrote (now (out .entry)) 0 (listText r dots (now (order .entry))) next (now (out .exit)) ⌝ }
+{
+    let at = put_head(out, dots as u64, r);
+    put_dots(out, at, order, dots, r)
+}
+
+// Whether a buffer of `room` places is too short for a list.
+fn is_short(room: usize, length: usize) -> bool
+    ensures { λ b. ⌜ b ≡ ltb room length ⌝ }
+{
+    room < length
+}
+
+// Works out the list's length, then writes it where there is room.
+fn write_list(out: &mut [u8], order: &[u32], dots: usize, r: usize) -> DrillListAnswer
+    requires { ⌜ ListAsked r dots (length (now order)) ⌝ }
+    ensures { λ a. ⌜ record { said = drillListSays a; output = now (out .exit) } ≡ listedIn (listText r dots (now (order .entry))) (now (out .entry)) ⌝ }
+{
+    let length = put_list(&mut out[..0], order, dots, r);
+    if is_short(out.len(), length) {
+        return DrillListAnswer::Refused(Refusal::OutputShort);
+    }
+    let written = put_list(out, order, dots, r);
+    DrillListAnswer::Length(written)
+}
+
+pub fn drill_list(
+    progress: Progress,
+    pyramid: &[i64],
+    serials: &[u32],
+    order: &[u32],
+    out: &mut [u8],
+) -> DrillListAnswer
+    ensures { λ a. ⌜ record { said = drillListSays a; output = now (out .exit) } ≡ drillListOf progress (now (pyramid .entry)) (now (serials .entry)) (now (order .entry)) (now (out .entry)) ⌝ }
+{
+    let r = sizes::power_of(progress.side);
+    let dots = progress.dots;
+    match sheet::check_sheet(r, dots, pyramid, serials, order) {
+        Check::Failed(why) => DrillListAnswer::Refused(why),
+        Check::Passed => write_list(out, order, dots as usize, r),
+    }
+}

@@ -1,0 +1,30 @@
+-- The grammar law for the code: any answer that keeps the call's promise is a side exactly if the text is that of a map which fits, and its
+-- greys are then those of the map.
+use mathlib.Core.Path.{_≡_, sym, ap, _∙_}
+use mathlib.Core.List.{List, [], _∷_, _++_}
+use mathlib.Core.Logic.{_↔_}
+use Prim.Native.Nat.{ℕ, _*_}
+use native.Mathlib.Nat.{suc-ne-zero}
+use lib.ListN.{length, drop}
+use Rattle.definition.specs.Answers.{returned, mapTextSays}
+use Rattle.definition.specs.MapText.{MapTextOutcome, mapTextOf}
+use Rattle.definition.specs.declared.MapTextAnswer.{MapTextAnswer}
+use Rattle.definition.specs.declared.MapTextAnswer.the-variants.{Side, Refused}
+use Rattle.grammar.specs.Grammar.{MapOf, map-text-outcome, map-text-returned-iff}
+
+returned-side : (a : MapTextAnswer) (side : ℕ) → mapTextSays a ≡ returned (side ∷ []) → a ≡ Side side
+unfolding mapTextSays
+returned-side (Side n) side e = let n-is : n ≡ side = cc in ap Side n-is
+returned-side (Refused why) side e = absurd (suc-ne-zero 0 (cc))
+
+module _ (text buffer after : List ℕ) (a : MapTextAnswer) (promise : record { said = mapTextSays a; greys = after } ≡ mapTextOf text buffer) where
+  pub accepts-iff : (side : ℕ) → (a ≡ Side side) ↔ ((greys : List ℕ) × MapOf text (length buffer) side greys)
+  unfolding mapTextSays
+  accepts-iff side =
+      let said = ap (λ (o : MapTextOutcome). o .said) promise in (
+        λ e. map-text-returned-iff text buffer side .0 (sym said ∙ ap mapTextSays e),
+        λ m. returned-side a side (said ∙ map-text-returned-iff text buffer side .1 m),
+      )
+
+  pub leaves-greys : (side : ℕ) (greys : List ℕ) → MapOf text (length buffer) side greys → after ≡ greys ++ drop (side * side) buffer
+  leaves-greys side greys m = ap (λ (o : MapTextOutcome). o .greys) (promise ∙ map-text-outcome text buffer side greys m)

@@ -1,0 +1,153 @@
+-- The greys of a map's text, one by one: the byte that ends each, and what a buffer holds once those from one on are read and stored.
+use mathlib.Core.Path.{_≡_, refl, sym, ap, _∙_}
+use mathlib.Core.Bool.{Bool, false, cond}
+use mathlib.Core.List.{List, [], _∷_, _++_}
+use mathlib.Core.Option.{Option, some, none, Option·map}
+use Prim.Native.Nat.{ℕ, zero, suc, _+_, _-_, _*_, _%_, _<_, _≤_}
+use native.Mathlib.Decide.{decLt, decLe, ℕ-discrete}
+use native.Mathlib.Nat.{mul-le-mul, suc-mul, mod-eq-of-lt, mod-self, add-mod-left}
+use native.Mathlib.Numerals.{add-one}
+use native.Mathlib.Omega.{arith}
+use lib.Dec.{leb, eqb}
+use lib.ListN.{length, getD, drop, set, length-set, replicate, length-replicate, getD-replicate, List·getD-append, drop-of-length-le}
+use lib.Seq.{sets, drop-cons, getD-at, getD-append-add}
+use borrow.Author.Tests.{eq-eqb, ne-eqb, le-leb, lt-leb}
+use Rattle.definition.specs.Lists.{repeated}
+use Rattle.definition.specs.Text.{comma, newline, lineEnds, field, malformed, fieldOf}
+use Rattle.definition.specs.MapText.{valuesOf}
+use Rattle.grammar.specs.Fields.{text-of-field}
+use Rattle.grammar.specs.Lines.{length-lineEnds, length-repeated-lineEnds}
+use Rattle.decimals.specs.Reading.{fieldIn}
+use Rattle.decimals.specs.declared.Number.{Number}
+use Rattle.decimals.specs.declared.Number.the-variants.{Read, Malformed}
+
+-- the bytes behind the greys of a map
+abbrev pub mapEnds : ℕ → List ℕ
+mapEnds side = repeated side (lineEnds side)
+
+-- the one behind grey i: a comma, or byte 10 at the end of a row
+unfoldable pub endAt : ℕ → ℕ → ℕ
+endAt side i = cond (eqb ((i + 1) % side) 0) newline comma
+
+module _ (side i : ℕ) where
+  pub end-of-row : (i + 1) % side ≡ 0 → 10 ≡ endAt side i
+  unfolding endAt
+  end-of-row e = rw (eq-eqb ((i + 1) % side) 0 e)
+
+  pub end-in-row : ((i + 1) % side ≡ 0 → ⊥) → 44 ≡ endAt side i
+  unfolding endAt
+  end-in-row n = rw (ne-eqb ((i + 1) % side) 0 n)
+
+-- ---- the i-th end is this one
+lineEnds-at : (side i : ℕ) → i < side → getD (lineEnds side) i 0 ≡ endAt side i
+unfolding lineEnds
+lineEnds-at side i h =
+    elim (ℕ-discrete (i + 1) side) [
+      | yes e ↦
+          getD-at (replicate (side - 1) comma) newline [] 0 i (length-replicate (side - 1) comma ∙ omega arith)
+          ∙ end-of-row side i (rw e (mod-self side))
+      | no n ↦
+          List·getD-append (replicate (side - 1) comma) (newline ∷ []) 0 i (omega (arith, length-replicate (side - 1) comma))
+          ∙ getD-replicate (side - 1) i comma 0 (omega arith)
+          ∙ end-in-row side i (λ z. let k : (i + 1) % side ≡ i + 1 = mod-eq-of-lt (omega arith) in omega arith)
+    ]
+
+endAt-next-row : (side i : ℕ) → endAt side (side + i) ≡ endAt side i
+unfolding endAt
+endAt-next-row side i = let e : side + i + 1 ≡ side + (i + 1) = omega arith in rw (e, add-mod-left side (i + 1))
+
+rows-ends-at : (side rows i : ℕ) → 0 < side → i < rows * side → getD (repeated rows (lineEnds side)) i 0 ≡ endAt side i
+unfolding repeated
+rows-ends-at side zero i p h = absurd (omega arith)
+rows-ends-at side (suc rows) i p h =
+    let l = length-lineEnds side p in
+    elim (decLt i side) [
+      | yes k ↦ List·getD-append (lineEnds side) (repeated rows (lineEnds side)) 0 i (omega arith) ∙ lineEnds-at side i k
+      | no k ↦
+          let j = i - side in
+          let e : i ≡ length (lineEnds side) + j = omega arith in
+          let f : i ≡ side + j = omega arith in
+          ap (λ (m : ℕ). getD (lineEnds side ++ repeated rows (lineEnds side)) m 0) e
+          ∙ getD-append-add (lineEnds side) (repeated rows (lineEnds side)) j 0
+          ∙ rows-ends-at side rows j p (omega (arith, suc-mul rows side))
+          ∙ sym (endAt-next-row side j)
+          ∙ sym (ap (endAt side) f)
+    ]
+
+-- what the buffer holds once the greys from grey i on are read from a place of the text on and stored: none unless they are all there,
+-- with nothing behind them
+unfoldable pub greysFrom : List ℕ → ℕ → ℕ → ℕ → List ℕ → Option (List ℕ)
+greysFrom text side i at buffer = Option·map (sets buffer i) (valuesOf 255 (drop i (mapEnds side)) (drop at text))
+
+-- from the first grey on: `all` tells whether they are there, and then the buffer is left as `after`
+pub record GreysRead (text : List ℕ) (from side : ℕ) (before : List ℕ) (all : Bool) (after : List ℕ) : Type 0 where
+  pub read : greysFrom text side 0 from before ≡ cond all (some after) none
+
+-- `number` is what the code has read, up to `end`
+pub grey-small : (text left : List ℕ) (end : ℕ) {number : Number} {grey next : ℕ} → fieldIn text number ≡ fieldOf 255 end left
+    → number ≡ Read grey next → grey ≤ 255
+unfolding fieldIn
+grey-small text left end {grey = grey} {next = next} f e = text-of-field 255 end left grey (drop next text) (omega arith) (sym f ∙ ap (fieldIn text) e) .1
+
+stored-cons : (buffer : List ℕ) (i v : ℕ) (rest : Option (List ℕ))
+    → Option·map (sets buffer i) (elim rest [ none ↦ none | some values ↦ some (v ∷ values) ]) ≡ Option·map (sets (set buffer i v) (suc i)) rest
+stored-cons buffer i v none = refl
+stored-cons buffer i v (some values) = refl
+
+pub size-small : (side : ℕ) → side ≤ 256 → side * side ≤ 65536
+size-small side h = mul-le-mul h h
+
+-- ---- the loop: grey i is next, at the place `at`, and what is left to read leaves the buffer as the whole does
+pub record GreysLeft (text : List ℕ) (from side : ℕ) (before : List ℕ) (at i : ℕ) (buffer : List ℕ) : Type 0 where
+  pub size : side * side ≤ 65536
+  pub most : i ≤ side * side
+  pub kept : length buffer ≡ length before
+  pub rest : greysFrom text side 0 from before ≡ greysFrom text side i at buffer
+
+pub left-whole : (text : List ℕ) (from side : ℕ) (before : List ℕ) → side ≤ 256 → GreysLeft text from side before from 0 before
+left-whole text from side before h = record { size = size-small side h; most = omega arith; kept = refl; rest = refl }
+
+module _ {text : List ℕ} {from side : ℕ} {before : List ℕ} {at i : ℕ} {buffer : List ℕ} (p : 0 < side)
+    (l : GreysLeft text from side before at i buffer) where
+  module _ (h : i < side * side) {end : ℕ} (is-end : end ≡ endAt side i) where
+    ends-from : drop i (mapEnds side) ≡ end ∷ drop (suc i) (mapEnds side)
+    ends-from =
+        drop-cons (mapEnds side) i 0 (omega (arith, length-repeated-lineEnds side side p))
+        ∙ rw (rows-ends-at side side i p h, is-end)
+
+    module _ (number : Number) (f : fieldIn text number ≡ fieldOf 255 end (drop at text)) where
+      pub left-broken : number ≡ Malformed → GreysRead text from side before false buffer
+      unfolding greysFrom valuesOf fieldIn
+      left-broken e =
+          let m : fieldOf 255 end (drop at text) ≡ malformed = sym f ∙ ap (fieldIn text) e in
+          record { read = l .rest ∙ rw (ends-from, valuesOf, m) }
+
+      pub left-less : {grey next : ℕ} {stored : List ℕ} → number ≡ Read grey next → stored ≡ set buffer i grey
+          → GreysLeft text from side before next (i + 1) stored
+      unfolding greysFrom valuesOf fieldIn
+      left-less {grey} {next} e s =
+          let m : fieldOf 255 end (drop at text) ≡ field grey (drop next text) = sym f ∙ ap (fieldIn text) e in
+          record {
+            size = l .size;
+            most = omega arith;
+            kept = rw (s, length-set) (l .kept);
+            rest =
+                l .rest
+                ∙ rw (s, ends-from, valuesOf, m, add-one i)
+                (stored-cons buffer i grey (valuesOf 255 (drop (suc i) (mapEnds side)) (drop next text)));
+          }
+
+  -- past the last grey nothing may be left
+  pub left-none : side * side ≤ i → GreysRead text from side before (leb (length text) at) buffer
+  unfolding greysFrom valuesOf
+  left-none h =
+      let k : length (mapEnds side) ≤ i = omega (arith, length-repeated-lineEnds side side p) in
+      record {
+        read =
+            l .rest
+            ∙ rw (drop-of-length-le (mapEnds side) k)
+            (elim (decLe (length text) at) [
+              | yes e ↦ rw (drop-of-length-le text e, le-leb (length text) at e)
+              | no e ↦ rw (drop-cons text at 0 (omega arith), lt-leb (length text) at (omega arith))
+            ]);
+      }

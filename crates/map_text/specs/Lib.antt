@@ -1,0 +1,3 @@
+pub mod Greys
+pub mod Calls
+pub mod Accepted

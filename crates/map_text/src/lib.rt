@@ -1,0 +1,97 @@
+// Map Text: "The call returns the side and writes the N² greys by row; places past them stay."
+use checks::Check;
+use decimals::Number;
+use definition::MapTextAnswer;
+use definition::Refusal;
+ghost use mathlib.Core.Path.{_≡_};
+ghost use Prim.Native.Nat.{_*_, _≤_, _<_};
+ghost use lib.ListN.{length, set};
+ghost use Rattle.definition.specs.Answers.{mapTextSays};
+ghost use Rattle.definition.specs.MapText.{mapTextRefusal, mapTextOf};
+ghost use Rattle.checks.specs.Checks.{checked};
+ghost use Rattle.map_text.specs.Greys.{endAt, GreysRead};
+ghost use Rattle.map_text.specs.Calls.{FirstLine};
+
+// The byte that ends grey i of a map: a comma, or byte 10 at the end of a row.
+fn end_at(side: usize, i: usize) -> u8
+    requires { ⌜ (0 < side) × (i < 65536) ⌝ }
+    ensures { λ b. ⌜ b ≡ endAt side i ⌝ }
+{
+    if (i + 1) % side == 0 {
+        return 10;
+    }
+    44
+}
+
+// Stores a grey, if the buffer has the place.
+fn put_grey(greys: &mut [u8], i: usize, grey: u8)
+    ensures { λ _. ⌜ now (greys .exit) ≡ set (now (greys .entry)) i grey ⌝ }
+{
+    if i < greys.len() {
+        greys[i] = grey;
+        return;
+    }
+}
+
+// Reads the greys of a map from a place of the text on, and stores those for which the part lent has a place: none in an empty one.
+// Tells whether they are all there, with nothing behind them.
+fn read_greys(text: &[u8], from: usize, side: usize, greys: &mut [u8]) -> bool
+    requires { ⌜ (0 < side) × (side ≤ 256) ⌝ }
+    ensures { λ all. ⌜ GreysRead (now (text .entry)) from side (now (greys .entry)) all (now (greys .exit)) ⌝ }
+{
+    let size = side * side;
+    let mut at = from;
+    let mut i = 0;
+    while i < size {
+        let Number::Read(grey, next) = decimals::read_number(text, at, 255, end_at(side, i)) else {
+            return false;
+        };
+        put_grey(greys, i, grey as u8);
+        at = next;
+        i += 1;
+    }
+    text.len() <= at
+}
+
+// "then 1; then 2": from the side's power and the places of the greys buffer.
+fn check_map(r: usize, room: usize) -> Check
+    requires { ⌜ r ≤ 8 ⌝ }
+    ensures { λ c. ⌜ checked c ≡ mapTextRefusal r room ⌝ }
+{
+    let cells = sizes::cell_count(r);
+    if r == 0 {
+        return Check::Failed(Refusal::SideUnknown);
+    }
+    if room < cells {
+        return Check::Failed(Refusal::GreysShort);
+    }
+    Check::Passed
+}
+
+// The greys behind a first line that says a good side: tested, then stored.
+fn read_map(text: &[u8], from: usize, side: u32, greys: &mut [u8]) -> MapTextAnswer
+    requires { ⌜ FirstLine (now text) (length (now greys)) side from ⌝ }
+    ensures { λ a. ⌜ record { said = mapTextSays a; greys = now (greys .exit) } ≡ mapTextOf (now (text .entry)) (now (greys .entry)) ⌝ }
+{
+    let n = side as usize;
+    if !read_greys(text, from, n, &mut greys[..0]) {
+        return MapTextAnswer::Refused(Refusal::TextMalformed);
+    }
+    read_greys(text, from, n, greys);
+    MapTextAnswer::Side(side)
+}
+
+pub fn map_text(text: &[u8], greys: &mut [u8]) -> MapTextAnswer
+    ensures { λ a. ⌜ record { said = mapTextSays a; greys = now (greys .exit) } ≡ mapTextOf (now (text .entry)) (now (greys .entry)) ⌝ }
+{
+    match decimals::read_number(text, 0, 999, 10) {
+        Number::Malformed => MapTextAnswer::Refused(Refusal::TextMalformed),
+        Number::Read(side, at) => {
+            let r = sizes::power_of(side);
+            match check_map(r, greys.len()) {
+                Check::Failed(why) => MapTextAnswer::Refused(why),
+                Check::Passed => read_map(text, at, side, greys),
+            }
+        }
+    }
+}

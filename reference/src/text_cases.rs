@@ -1,0 +1,383 @@
+//! The cases of the program crate `panel_texts`: texts for Map Text, most of them broken, and Drill List on the maps
+//! that are read.
+
+use std::fmt::Display;
+
+use crate::answers::{Progress, Refusal};
+use crate::case_text::{self, fields, line, InputAndOutput};
+use crate::drill_list::list_room;
+use crate::map_text::{map_text, write_map_text};
+use crate::maps::named;
+use crate::run::{run, Buffers};
+use crate::shape::cell_count;
+
+/// One case: the text, the places lent of the greys buffer and of Drill List's output, and the number of what is
+/// damaged before Drill List.
+struct Case {
+    text: Vec<u8>,
+    greys: usize,
+    output: usize,
+    damage: u32,
+}
+
+/// What every place of the greys buffer and of the output holds before the calls.
+const BEFORE: (u8, u8) = (9, b'.');
+
+/// The numbers of the damages; 0 is none.
+const DAMAGES: u32 = 6;
+
+/// The rows of the small map of side 2, and of that of side 4.
+const ROWS_2: &str = "0,127\n128,255\n";
+const ROWS_4: &str = "0,9,10,99\n100,127,128,199\n200,249,250,255\n1,20,64,254\n";
+
+/// Standard input and standard output.
+pub fn input_and_output() -> Result<InputAndOutput, Refusal> {
+    case_text::input_and_output(&cases()?, written, answers)
+}
+
+/// Whole maps first, then all kinds of broken texts.
+fn cases() -> Result<Vec<Case>, Refusal> {
+    let mut cases = whole_maps()?;
+    cases.extend(outputs()?);
+    cases.extend(damages());
+    cases.extend(greys_lengths());
+    let texts = [truncated(), changed(), left_out(), doubled(), first_lines(), odd_greys(), layouts(), long_runs()];
+    cases.extend(texts.concat().into_iter().map(plain));
+    Ok(cases)
+}
+
+/// A text with a greys buffer of 18 places, which is enough for side 4, and an output that is enough for side 2.
+fn plain(text: Vec<u8>) -> Case {
+    Case { text, greys: 18, output: 30, damage: 0 }
+}
+
+/// A named map with two spare places of greys, and so much room that any list of its side fits.
+fn roomy(side: u32, name: &str) -> Case {
+    let text = write_map_text(side, &named(name, side));
+    Case { text, greys: cell_count(side) + 2, output: list_room(side).min(4_000), damage: 0 }
+}
+
+/// The length of the list of a named map.
+fn list_length(side: u32, name: &str) -> Result<usize, Refusal> {
+    Ok(run(side, &named(name, side))?.list.len())
+}
+
+/// Named maps of four sides, with buffers of just the needed length.
+fn whole_maps() -> Result<Vec<Case>, Refusal> {
+    let mut cases = Vec::new();
+    for side in [2, 4, 8, 16] {
+        for name in ["flat-0", "flat-128", "flat-255", "gradient-diagonal", "random"] {
+            cases.push(Case { greys: cell_count(side), output: list_length(side, name)?, ..roomy(side, name) });
+        }
+    }
+    Ok(cases)
+}
+
+/// Outputs that are too short, and ones that are longer than needed.
+fn outputs() -> Result<Vec<Case>, Refusal> {
+    let mut cases = Vec::new();
+    for (side, name) in [(2, "flat-0"), (2, "random"), (4, "random"), (8, "random"), (16, "flat-255")] {
+        let length = list_length(side, name)?;
+        for output in [0, 1, length - 1, length + 1, length + 100] {
+            cases.push(Case { output, ..roomy(side, name) });
+        }
+    }
+    Ok(cases)
+}
+
+/// Every damage, on a plate with room for the list and on one with no output at all.
+fn damages() -> Vec<Case> {
+    let mut cases = Vec::new();
+    for damage in 1..=DAMAGES {
+        for side in [2, 8] {
+            cases.push(Case { damage, ..roomy(side, "random") });
+        }
+        cases.push(Case { damage, output: 0, ..roomy(4, "random") });
+    }
+    cases.push(Case { damage: 2, ..roomy(2, "flat-255") });
+    cases.push(Case { damage: 2, ..roomy(4, "flat-0") });
+    cases
+}
+
+/// Greys buffers around the needed length; a side that there isn't comes before the buffer, and the buffer before the
+/// rows.
+fn greys_lengths() -> Vec<Case> {
+    let mut cases = Vec::new();
+    for side in [2, 4, 8, 16] {
+        let cells = cell_count(side);
+        for greys in [0, 1, cells - 1, cells, cells + 1] {
+            cases.push(Case { greys, ..roomy(side, "random") });
+        }
+    }
+    for text in ["3\n", "x\n", "", "0\n0,127\n", "2\n", "2\nx", "2\n0,127\n128,256\n", "256\n", "32\n1,2\n", "02\n"] {
+        for greys in [0, 3, 4] {
+            cases.push(Case { greys, ..plain(text.into()) });
+        }
+    }
+    cases
+}
+
+/// The text of the small map of side 2.
+fn small() -> Vec<u8> {
+    format!("2\n{ROWS_2}").into_bytes()
+}
+
+/// The beginnings of the texts of the two small maps, from the empty one to the one without the last line end; and
+/// both texts whole.
+fn truncated() -> Vec<Vec<u8>> {
+    let mut texts = Vec::new();
+    for text in [small(), format!("4\n{ROWS_4}").into_bytes()] {
+        for length in 0..=text.len() {
+            texts.push(text[..length].to_vec());
+        }
+    }
+    texts
+}
+
+/// The small text with each byte changed to others.
+fn changed() -> Vec<Vec<u8>> {
+    let mut texts = Vec::new();
+    for place in 0..small().len() {
+        for byte in [b'0', b'7', b',', b'\n', b'\r', b' ', b'-', b'+', 0, 255] {
+            if small()[place] != byte {
+                texts.push(with(place..place + 1, &[byte]));
+            }
+        }
+    }
+    texts
+}
+
+/// The small text without each of its bytes.
+fn left_out() -> Vec<Vec<u8>> {
+    (0..small().len()).map(|place| with(place..place + 1, &[])).collect()
+}
+
+/// The small text with each of its bytes twice.
+fn doubled() -> Vec<Vec<u8>> {
+    (0..small().len()).map(|place| with(place..place, &[small()[place]])).collect()
+}
+
+/// The small text with other bytes for some of its own.
+fn with(places: std::ops::Range<usize>, bytes: &[u8]) -> Vec<u8> {
+    let mut text = small();
+    text.splice(places, bytes.iter().copied());
+    text
+}
+
+/// First lines that name no side, or one that the rows don't have.
+fn first_lines() -> Vec<Vec<u8>> {
+    let lines = [
+        "",
+        "0",
+        "1",
+        "3",
+        "4",
+        "5",
+        "12",
+        "64",
+        "256",
+        "257",
+        "512",
+        "998",
+        "999",
+        "1000",
+        "2000",
+        "02",
+        "002",
+        "00",
+        "000",
+        "65538",
+        "4294967295",
+        "4294967296",
+        "4294967298",
+        "18446744073709551618",
+        "2 ",
+        " 2",
+        "2\t",
+        "+2",
+        "-2",
+        "2,",
+        ",2",
+        "2.0",
+        "0x2",
+        "2e0",
+        "two",
+        "2\r",
+        "2\u{0}",
+        "\u{feff}2",
+        "\u{ff12}",
+        "2\n",
+        "2,2",
+    ];
+    lines.map(|first| format!("{first}\n{ROWS_2}").into_bytes()).to_vec()
+}
+
+/// Other texts in the place of a grey: the first of the map, and the last.
+fn odd_greys() -> Vec<Vec<u8>> {
+    let greys = [
+        "",
+        "00",
+        "000",
+        "01",
+        "0255",
+        "254",
+        "256",
+        "257",
+        "260",
+        "300",
+        "999",
+        "1000",
+        "2550",
+        "4294967296",
+        "4294967551",
+        "18446744073709551616",
+        "18446744073709551871",
+        "-1",
+        "+1",
+        "-0",
+        " 1",
+        "1 ",
+        "1.",
+        "1.0",
+        "0x1",
+        "1e1",
+        "a",
+        "\u{661}",
+        "\"1\"",
+        "1;2",
+    ];
+    greys.into_iter().flat_map(odd_grey).collect()
+}
+
+fn odd_grey(grey: &str) -> [Vec<u8>; 2] {
+    [format!("2\n{grey},127\n128,255\n").into_bytes(), format!("2\n0,127\n128,{grey}\n").into_bytes()]
+}
+
+/// Rows too many or too few, too long or too short, other line ends and other marks between the greys.
+fn layouts() -> Vec<Vec<u8>> {
+    let texts = [
+        "\n",
+        "\n\n\n",
+        ",",
+        ",\n,\n",
+        "2\r\n0,127\r\n128,255\r\n",
+        "2\n0,127\r\n128,255\n",
+        "2\r0,127\r128,255\r",
+        "2\n0,127\n",
+        "2\n0,127\n128,255\n1,2\n",
+        "2\n0,127\n128,255\n\n",
+        "2\n0,127\n128,255\n ",
+        "2\n0,127\n128,255\n0",
+        "2\n0,127\n128,255\n\u{0}",
+        "2\n0,127\n128,255\n2\n0,127\n128,255\n",
+        "2\n0\n128,255\n",
+        "2\n0,127,3\n128,255\n",
+        "2\n0,127\n128\n",
+        "2\n0,127\n128,255,3\n",
+        "2\n\n128,255\n",
+        "2\n0,127\n\n128,255\n",
+        "2\n0,127\n\n",
+        "2\n\n\n",
+        "2\n,\n,\n",
+        "2\n0,127,\n128,255\n",
+        "2\n,0,127\n128,255\n",
+        "2\n0,,127\n128,255\n",
+        "2\n0,127,128,255\n",
+        "2\n0\n127\n128\n255\n",
+        "2\n0 127\n128 255\n",
+        "2\n0, 127\n128, 255\n",
+        "2\n0\t127\n128\t255\n",
+        "2\n0;127\n128;255\n",
+        "2\n0,127 \n128,255\n",
+        "0,127\n128,255\n",
+        "2,0,127\n128,255\n",
+        "2\n\n0,127\n128,255\n",
+        "\n2\n0,127\n128,255\n",
+        " \n2\n0,127\n128,255\n",
+        "4\n0,9,10,99\n100,127,128,199\n200,249,250,255\n",
+        "4\n0,9,10,99\n100,127,128,199\n200,249,250\n1,20,64,254\n",
+        "4\n0,9,10,99\n100,127,128,199\n200,249,250,255\n1,20,64,254,2\n",
+    ];
+    let mut texts: Vec<Vec<u8>> = texts.map(|text| text.into()).to_vec();
+    texts.push(format!("2\n{ROWS_4}").into_bytes());
+    texts
+}
+
+/// Numbers of very many digits, and as many commas and line ends.
+fn long_runs() -> Vec<Vec<u8>> {
+    vec![
+        "2".repeat(3_000).into_bytes(),
+        format!("{}\n{ROWS_2}", "2".repeat(1_000)).into_bytes(),
+        format!("{}2\n{ROWS_2}", "0".repeat(1_000)).into_bytes(),
+        format!("2{}\n{ROWS_2}", "0".repeat(1_000)).into_bytes(),
+        format!("2\n{},127\n128,255\n", "1".repeat(4_000)).into_bytes(),
+        format!("2\n{}1,127\n128,255\n", "0".repeat(4_000)).into_bytes(),
+        format!("2\n0,127\n128,{}\n", "9".repeat(300)).into_bytes(),
+        format!("2\n0,127\n128,{}", "9".repeat(300)).into_bytes(),
+        format!("2\n0,127{}\n128,255\n", ",0".repeat(1_000)).into_bytes(),
+        format!("2\n0,127\n128,255{}", "\n".repeat(1_000)).into_bytes(),
+        "\n".repeat(1_000).into_bytes(),
+        ",".repeat(1_000).into_bytes(),
+        vec![0; 300],
+        vec![255; 300],
+    ]
+}
+
+/// A case as the program reads it: a line with the text's length, the two lengths lent and the damage, and then the
+/// text itself.
+fn written(case: &Case) -> Vec<u8> {
+    let mut bytes = line(&[case.text.len(), case.greys, case.output, case.damage as usize]).into_bytes();
+    bytes.extend(&case.text);
+    bytes
+}
+
+/// What Map Text answers, the whole greys buffer after it, and Drill List where a map was read.
+fn answers(case: &Case) -> Result<Vec<u8>, Refusal> {
+    let mut greys = vec![BEFORE.0; case.greys];
+    let read = map_text(&case.text, &mut greys);
+    let mut bytes = answer("side", read).into_bytes();
+    bytes.extend(format!("greys{}\n", fields(&greys)).into_bytes());
+    if let Ok(side) = read {
+        bytes.extend(list_answers(case, side, &greys)?);
+    }
+    Ok(bytes)
+}
+
+/// What Drill List answers on the finished plate, the list itself, and the count of places of the output that hold
+/// what they held before, from the list's end on.
+fn list_answers(case: &Case, side: u32, greys: &[u8]) -> Result<Vec<u8>, Refusal> {
+    let run = run(side, greys)?;
+    let mut out = vec![BEFORE.1; case.output];
+    let listed = damaged_list(case.damage, run.progress, run.buffers, &mut out);
+    let length = listed.unwrap_or(0);
+    let spare = out[length..].iter().filter(|byte| **byte == BEFORE.1).count();
+    let mut bytes = answer("list", listed).into_bytes();
+    bytes.extend(&out[..length]);
+    bytes.extend(format!("spare,{spare}\n").into_bytes());
+    Ok(bytes)
+}
+
+/// Drill List after a damage: 1 adds 1 to the pyramid's top, 2 says one hole more than were made, 3 says side 3, and
+/// 4, 5 and 6 lend one place less of the pyramid, the serial sheet and the order list.
+fn damaged_list(damage: u32, record: Progress, whole: Buffers, out: &mut [u8]) -> Result<usize, Refusal> {
+    let mut progress = record;
+    let mut buffers = whole;
+    match damage {
+        1 => buffers.pyramid[0] += 1,
+        2 => progress.dots += 1,
+        3 => progress.side = 3,
+        4 => drop(buffers.pyramid.pop()),
+        5 => drop(buffers.serials.pop()),
+        6 => drop(buffers.order.pop()),
+        _ => (),
+    }
+    buffers.drill_list(progress, out)
+}
+
+/// A line with what a call returns, or with its refusal.
+fn answer<T: Display>(name: &str, value: Result<T, Refusal>) -> String {
+    match value {
+        Ok(value) => format!("{name},{value}\n"),
+        Err(why) => format!("refused,{}\n", why.number()),
+    }
+}
