@@ -16,6 +16,7 @@ mod plate;
 mod pyramid;
 mod run;
 mod run_cases;
+mod samples;
 mod shape;
 mod sound;
 mod survey_cases;

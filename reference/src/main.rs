@@ -48,7 +48,7 @@ fn write() -> Result<ExitCode, String> {
     Ok(ExitCode::SUCCESS)
 }
 
-/// Compares every stored file byte for byte, and looks for files in vectors/ that are none of them.
+/// Compares every stored file byte for byte, and looks for files in vectors/ and samples/ that are none of them.
 fn check() -> Result<ExitCode, String> {
     let files = stored_files()?;
     let mut wrong = 0;
@@ -65,7 +65,7 @@ fn check() -> Result<ExitCode, String> {
             }
         }
     }
-    for path in found_in("vectors")? {
+    for path in found_in("vectors")?.into_iter().chain(found_in("samples")?) {
         if !files.iter().any(|(stored, _)| *stored == path) {
             println!("{path}: not written by the reference");
             wrong += 1;

@@ -7,8 +7,10 @@ use crate::case_text::{joined, InputAndOutput};
 use crate::map_text::write_map_text;
 use crate::maps::{generated, named, NAMES};
 use crate::measures::levels;
+use crate::plate::plate;
 use crate::run::run;
 use crate::run_cases;
+use crate::samples::{samples, SIDE};
 use crate::shape::SIDES;
 use crate::survey_cases;
 use crate::text_cases;
@@ -25,12 +27,21 @@ pub fn files() -> Result<Vec<(String, Vec<u8>)>, Refusal> {
     files.extend(program_files("panel_survey", survey_cases::input_and_output()?));
     files.extend(program_files("panel_run", run_cases::input_and_output()?));
     files.extend(program_files("panel_texts", text_cases::input_and_output()?));
+    files.extend(sample_files());
     Ok(files)
 }
 
 /// The two files of a program crate.
 fn program_files(name: &str, (input, output): InputAndOutput) -> [(String, Vec<u8>); 2] {
     [(format!("crates/{name}/stdin"), input), (format!("crates/{name}/stdout"), output)]
+}
+
+/// The sample maps; the first of them is also what the program crate `plate` is run on.
+fn sample_files() -> Vec<(String, Vec<u8>)> {
+    let texts = samples().map(|(name, greys)| (name, write_map_text(SIDE, &greys)));
+    let mut files = program_files("plate", (texts[0].1.clone(), plate(&texts[0].1))).to_vec();
+    files.extend(texts.map(|(name, text)| (format!("samples/{name}.map"), text)));
+    files
 }
 
 /// One line for each side and map: its figures, and checksums of what the run leaves.

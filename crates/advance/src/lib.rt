@@ -12,11 +12,14 @@ ghost use Rattle.definition.specs.Advance.{saidAt, advanced, advanceOf};
 ghost use Rattle.advance.specs.Running.{RunAsked, Ran};
 ghost use Rattle.sheet.specs.Sheets.{SheetAsked};
 
+// From this top on a dot is due.
+const HALF_DOT: i64 = 32640;
+
 // What is said with this top: "finished exactly if the top is then below 32,640, else more".
 fn ended(top: i64) -> AdvanceStatus
     ensures { λ a. ⌜ advanceSays a ≡ saidAt top ⌝ }
 {
-    if top < 32640 {
+    if top < HALF_DOT {
         return AdvanceStatus::Finished;
     }
     AdvanceStatus::More
@@ -47,7 +50,7 @@ fn run(
     let mut made = 0;
     while made < budget {
         let top = pyramid[0];
-        if top < 32640 {
+        if top < HALF_DOT {
             return made;
         }
         dot::place_dot(pyramid, serials, order, r, dots + made);

@@ -13,7 +13,7 @@ ghost use Rattle.diffusion.specs.Asked.{shareTaken, CellAsked, ShareAske
 const WEIGHTS: [usize; 9] = [1, 2, 1, 2, 0, 2, 1, 2, 1];
 
 // What one dot is worth.
-const ONE_DOT: i64 = 65280;
+const DOT: i64 = 65280;
 
 // The weight of place p of the nine around a cell: 0 at the cell itself and off the map.
 fn weight(r: usize, row: usize, column: usize, p: usize) -> usize
@@ -99,7 +99,7 @@ pub fn place(cells: &mut [i64], r: usize, row: usize, column: usize)
 {
     let side = sizes::pow2(r);
     let at = row * side + column;
-    let d = ONE_DOT - cells[at];
+    let d = DOT - cells[at];
     cells[at] = 0;
     diffuse(cells, r, row, column, d as usize);
 }

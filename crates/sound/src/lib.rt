@@ -8,6 +8,9 @@ ghost use Rattle.definition.specs.Sound.{fewDots, numbered, counted, unused, su
 ghost use Rattle.survey.specs.Totals.{Total};
 ghost use Rattle.sound.specs.Asked.{SoundAsked, CellsAsked, NumberedAsked, NextAsked, CellAsked, GridAsked, NearAsked, NearPlace, OwingAsked, nextAt, freeAt, boundedAt, onSide, nearAt, owingCell, owingAt, SumAsked, SidesAsked, LevelAsked, SummedAsked, sumHolds, sumAt, levelSummed};
 
+// What one dot is worth.
+const DOT: i64 = 65280;
+
 // Whether there are at most as many dots as cells.
 fn few_dots(r: usize, dots: u32) -> bool
     requires { ⌜ r ≤ 8 ⌝ }
@@ -94,7 +97,7 @@ fn cell_bounded(off: usize, pyramid: &[i64], serials: &[u32], i: usize) -> bool
 {
     let residual = pyramid[off + i];
     if serials[i] == 0 {
-        return residual <= 65280;
+        return residual <= DOT;
     }
     residual <= 0
 }
@@ -173,7 +176,7 @@ fn is_owing(residual: i64, near: u32) -> bool
     requires { ⌜ near ≤ 9 ⌝ }
     ensures { λ b. ⌜ b ≡ owingCell residual near ⌝ }
 {
-    0 - 65280 * (near as i64) <= residual
+    0 - DOT * (near as i64) <= residual
 }
 
 // Whether this holds of cell i, the cells beginning at place `off`.

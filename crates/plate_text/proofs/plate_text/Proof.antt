@@ -1,0 +1,13 @@
+-- `plate_text::plate_text`.
+use borrow.Author.Needs.{needs}
+use Rattle.plate_text.specs.Printing.{printed-text, printed-in}
+use Rattle.plate_text.proofs.plate_text.Statement.{statement}
+use Rattle.plate_text.proofs.plate_text.Tie as tie
+
+pub plate-text-spec : {M : Type 1} → statement M
+plate-text-spec =
+    tie.close
+    (tie.spec
+    (λ c. search needs)
+    (λ c κs. search needs)
+    (λ c. (printed-text (c .before .put-plate .ensures), printed-in (c .before .put-plate .ensures))))

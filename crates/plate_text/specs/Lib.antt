@@ -1,0 +1,6 @@
+pub mod Printing
+pub mod Lengths
+pub mod Greys
+pub mod Finished
+pub mod Listing
+pub mod Outputs

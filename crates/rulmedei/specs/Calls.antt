@@ -1,0 +1,65 @@
+-- From what a call ensures and the case of its answer: what its function for C returns and writes. `t` is that case.
+use mathlib.Core.Path.{_≡_}
+use mathlib.Core.List.{List}
+use Prim.Native.Nat.{ℕ}
+use lib.IntN.{ℤ}
+use lib.Seq.{sets}
+use Rattle.definition.specs.Answers.{loadSays, advanceSays, tallySays, levelsSays, mapTextSays, drillListSays}
+use Rattle.definition.specs.Load.{loadOf}
+use Rattle.definition.specs.Diffusion.{plain}
+use Rattle.definition.specs.Advance.{advanceOf}
+use Rattle.definition.specs.Survey.{tallyOf, levelsOf}
+use Rattle.definition.specs.MapText.{mapTextOf}
+use Rattle.definition.specs.DrillList.{drillListOf}
+use Rattle.definition.specs.declared.LoadAnswer.{LoadAnswer}
+use Rattle.definition.specs.declared.LoadStatus.{LoadStatus}
+use Rattle.definition.specs.declared.AdvanceAnswer.{AdvanceAnswer}
+use Rattle.definition.specs.declared.AdvanceStatus.{AdvanceStatus}
+use Rattle.definition.specs.declared.TallyAnswer.{TallyAnswer}
+use Rattle.definition.specs.declared.LevelsAnswer.{LevelsAnswer}
+use Rattle.definition.specs.declared.LevelsStatus.{LevelsStatus}
+use Rattle.definition.specs.declared.MapTextAnswer.{MapTextAnswer}
+use Rattle.definition.specs.declared.DrillListAnswer.{DrillListAnswer}
+use Rattle.rulmedei.specs.Codes.{codeOf, valueOf, loadCode, advanceCode, tallyCode, levelsCode, mapTextCode, drillListCode}
+
+-- ---- the calls that answer a record with a status
+pub load-coded : (side : ℕ) (g : List ℕ) (p : List ℤ) (s o : List ℕ) (a : LoadAnswer) {p′ : List ℤ} {s′ o′ : List ℕ}
+    → record { progress = a .progress; said = loadSays (a .status); pyramid = p′; serials = s′; order = o′ } ≡ loadOf side g p s o
+    → {t : LoadStatus} → a .status ≡ t → {n : ℕ} → n ≡ codeOf (loadSays t)
+    → record { code = n; side = a .progress .side; dots = a .progress .dots; pyramid = p′; serials = s′; order = o′ } ≡ loadCode side g p s o
+unfolding loadCode
+load-coded side g p s o a h is n = rw (← h, is, n)
+
+pub advance-coded : (side dots budget : ℕ) (p : List ℤ) (s o : List ℕ) (a : AdvanceAnswer) {p′ : List ℤ} {s′ o′ : List ℕ}
+    → record { reply = record { progress = a .progress; made = a .made; said = advanceSays (a .status) }; pyramid = p′; serials = s′; order = o′ }
+    ≡ advanceOf plain (record { side = side; dots = dots }) budget p s o
+    → {t : AdvanceStatus} → a .status ≡ t → {n : ℕ} → n ≡ codeOf (advanceSays t)
+    → record { code = n; dots = a .progress .dots; made = a .made; pyramid = p′; serials = s′; order = o′ } ≡ advanceCode side dots budget p s o
+unfolding advanceCode
+advance-coded side dots budget p s o a h is n = rw (← h, is, n)
+
+pub levels-coded : (side : ℕ) (g s sums : List ℕ) (a : LevelsAnswer) → record { sums = a .sums; said = levelsSays (a .status) } ≡ levelsOf side g s
+    → {stored : List ℕ} → stored ≡ sets sums 0 (a .sums) → {t : LevelsStatus} → a .status ≡ t → {n : ℕ} → n ≡ codeOf (levelsSays t)
+    → record { code = n; sums = stored } ≡ levelsCode side g s sums
+unfolding levelsCode
+levels-coded side g s sums a h e is n = rw (← h, e, is, n)
+
+-- ---- the calls that answer a value or a number
+pub tally-coded : (side : ℕ) (s : List ℕ) (k row column : ℕ) (a : TallyAnswer) → tallySays a ≡ tallyOf side s k row column
+    → {t : TallyAnswer} → a ≡ t → {n v : ℕ} → n ≡ codeOf (tallySays t) → v ≡ valueOf (tallySays t)
+    → record { code = n; value = v } ≡ tallyCode side s k row column
+unfolding tallyCode
+tally-coded side s k row column a h is n v = rw (← h, is, n, v)
+
+pub map-text-coded : (text greys : List ℕ) {after : List ℕ} (a : MapTextAnswer) → record { said = mapTextSays a; greys = after } ≡ mapTextOf text greys
+    → {t : MapTextAnswer} → a ≡ t → {n v : ℕ} → n ≡ codeOf (mapTextSays t) → v ≡ valueOf (mapTextSays t)
+    → record { code = n; side = v; greys = after } ≡ mapTextCode text greys
+unfolding mapTextCode
+map-text-coded text greys a h is n v = rw (← h, is, n, v)
+
+pub drill-list-coded : (side dots : ℕ) (p : List ℤ) (s o out : List ℕ) {after : List ℕ} (a : DrillListAnswer)
+    → record { said = drillListSays a; output = after } ≡ drillListOf (record { side = side; dots = dots }) p s o out
+    → {t : DrillListAnswer} → a ≡ t → {n v : ℕ} → n ≡ codeOf (drillListSays t) → v ≡ valueOf (drillListSays t)
+    → record { code = n; length = v; output = after } ≡ drillListCode side dots p s o out
+unfolding drillListCode
+drill-list-coded side dots p s o out a h is n v = rw (← h, is, n, v)

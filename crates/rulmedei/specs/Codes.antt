@@ -1,0 +1,86 @@
+-- What the functions for C return and write, from what the calls' definitions say.
+use mathlib.Core.List.{List, [], _∷_}
+use Prim.Native.Nat.{ℕ}
+use lib.IntN.{ℤ}
+use lib.Seq.{sets}
+use Rattle.definition.specs.Answers.{Said, returned, finished, more, refused}
+use Rattle.definition.specs.Load.{loadOf}
+use Rattle.definition.specs.Diffusion.{plain}
+use Rattle.definition.specs.Advance.{advanceOf}
+use Rattle.definition.specs.Survey.{tallyOf, levelsOf}
+use Rattle.definition.specs.MapText.{mapTextOf}
+use Rattle.definition.specs.DrillList.{drillListOf}
+
+-- 0 where the call did its work, 100 for "more", else the number of the refusal
+unfoldable pub codeOf : Said → ℕ
+codeOf (returned values) = 0
+codeOf finished = 0
+codeOf more = 100
+codeOf (refused n) = n
+
+-- the first value returned; 0 where there is none
+unfoldable pub valueOf : Said → ℕ
+valueOf (returned []) = 0
+valueOf (returned (v ∷ values)) = v
+valueOf finished = 0
+valueOf more = 0
+valueOf (refused n) = 0
+
+pub record LoadCode : Type 0 where
+  pub code : ℕ
+  pub side : ℕ
+  pub dots : ℕ
+  pub pyramid : List ℤ
+  pub serials : List ℕ
+  pub order : List ℕ
+
+unfoldable pub loadCode : ℕ → List ℕ → List ℤ → List ℕ → List ℕ → LoadCode
+loadCode side greys pyramid serials order =
+    let o = loadOf side greys pyramid serials order in
+    record { code = codeOf (o .said); side = o .progress .side; dots = o .progress .dots; pyramid = o .pyramid; serials = o .serials; order = o .order }
+
+pub record AdvanceCode : Type 0 where
+  pub code : ℕ
+  pub dots : ℕ
+  pub made : ℕ
+  pub pyramid : List ℤ
+  pub serials : List ℕ
+  pub order : List ℕ
+
+unfoldable pub advanceCode : ℕ → ℕ → ℕ → List ℤ → List ℕ → List ℕ → AdvanceCode
+advanceCode side dots budget pyramid serials order =
+    let o = advanceOf plain (record { side = side; dots = dots }) budget pyramid serials order in
+    record { code = codeOf (o .reply .said); dots = o .reply .progress .dots; made = o .reply .made; pyramid = o .pyramid; serials = o .serials; order = o .order }
+
+pub record TallyCode : Type 0 where
+  pub code : ℕ
+  pub value : ℕ
+
+unfoldable pub tallyCode : ℕ → List ℕ → ℕ → ℕ → ℕ → TallyCode
+tallyCode side serials level row column = let said = tallyOf side serials level row column in record { code = codeOf said; value = valueOf said }
+
+pub record LevelsCode : Type 0 where
+  pub code : ℕ
+  pub sums : List ℕ
+
+-- the nine sums are stored in the first places, as far as there are places
+unfoldable pub levelsCode : ℕ → List ℕ → List ℕ → List ℕ → LevelsCode
+levelsCode side greys serials sums = let o = levelsOf side greys serials in record { code = codeOf (o .said); sums = sets sums 0 (o .sums) }
+
+pub record MapTextCode : Type 0 where
+  pub code : ℕ
+  pub side : ℕ
+  pub greys : List ℕ
+
+unfoldable pub mapTextCode : List ℕ → List ℕ → MapTextCode
+mapTextCode text greys = let o = mapTextOf text greys in record { code = codeOf (o .said); side = valueOf (o .said); greys = o .greys }
+
+pub record DrillListCode : Type 0 where
+  pub code : ℕ
+  pub length : ℕ
+  pub output : List ℕ
+
+unfoldable pub drillListCode : ℕ → ℕ → List ℤ → List ℕ → List ℕ → List ℕ → DrillListCode
+drillListCode side dots pyramid serials order output =
+    let o = drillListOf (record { side = side; dots = dots }) pyramid serials order output in
+    record { code = codeOf (o .said); length = valueOf (o .said); output = o .output }

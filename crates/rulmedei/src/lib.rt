@@ -1,0 +1,165 @@
+// The calls for programs in C and Rust: numbers and slices only. Each returns a code: 0 where the call did its work, 100 where Advance says
+// more, or else document 01's number of the refusal. A slice is a pointer and a length (include/rulmedei.h says what a caller must ensure).
+use definition::AdvanceStatus;
+use definition::DrillListAnswer;
+use definition::LevelsStatus;
+use definition::LoadStatus;
+use definition::MapTextAnswer;
+use definition::Progress;
+use definition::TallyAnswer;
+ghost use mathlib.Core.Path.{_≡_};
+ghost use lib.ListN.{set};
+ghost use lib.Seq.{sets};
+ghost use Rattle.rulmedei.specs.Codes.{loadCode, advanceCode, tallyCode, levelsCode, mapTextCode, drillListCode};
+
+// Load. The record is written to `record_side` and `record_dots`.
+#[no_mangle]
+pub extern "C" fn rulmedei_load(
+    side: u32,
+    greys: &[u8],
+    pyramid: &mut [i64],
+    serials: &mut [u32],
+    order: &mut [u32],
+    record_side: &mut u32,
+    record_dots: &mut u32,
+) -> u32
+    ensures { λ n. ⌜ record { code = n; side = now (record_side .exit); dots = now (record_dots .exit); pyramid = now (pyramid .exit); serials = now (serials .exit); order = now (order .exit) } ≡ loadCode side (now (greys .entry)) (now (pyramid .entry)) (now (serials .entry)) (now (order .entry)) ⌝ }
+{
+    let answer = load::load(side, greys, pyramid, serials, order);
+    let progress = answer.progress;
+    *record_side = progress.side;
+    *record_dots = progress.dots;
+    let status = answer.status;
+    match status {
+        LoadStatus::Loaded => 0,
+        LoadStatus::Refused(why) => checks::number_of(why),
+    }
+}
+
+// Advance, with the record (side, dots). The holes afterwards are written to `after`, those made in this call to `made`.
+#[no_mangle]
+pub extern "C" fn rulmedei_advance(
+    side: u32,
+    dots: u32,
+    budget: u32,
+    pyramid: &mut [i64],
+    serials: &mut [u32],
+    order: &mut [u32],
+    after: &mut u32,
+    made: &mut u32,
+) -> u32
+    ensures { λ n. ⌜ record { code = n; dots = now (after .exit); made = now (made .exit); pyramid = now (pyramid .exit); serials = now (serials .exit); order = now (order .exit) } ≡ advanceCode side dots budget (now (pyramid .entry)) (now (serials .entry)) (now (order .entry)) ⌝ }
+{
+    let answer = advance::advance(Progress { side, dots }, budget, pyramid, serials, order);
+    let progress = answer.progress;
+    *after = progress.dots;
+    *made = answer.made;
+    let status = answer.status;
+    match status {
+        AdvanceStatus::Finished => 0,
+        AdvanceStatus::More => 100,
+        AdvanceStatus::Refused(why) => checks::number_of(why),
+    }
+}
+
+// Tally. The holes of the square are written to `dots`, 0 where it refuses.
+#[no_mangle]
+pub extern "C" fn rulmedei_tally(
+    side: u32,
+    serials: &[u32],
+    level: u32,
+    row: u32,
+    column: u32,
+    dots: &mut u32,
+) -> u32
+    ensures { λ n. ⌜ record { code = n; value = now (dots .exit) } ≡ tallyCode side (now (serials .entry)) level row column ⌝ }
+{
+    match survey::tally(side, serials, level, row, column) {
+        TallyAnswer::Dots(n) => {
+            *dots = n;
+            0
+        }
+        TallyAnswer::Refused(why) => {
+            *dots = 0;
+            checks::number_of(why)
+        }
+    }
+}
+
+// Stores a sum, if there is the place.
+fn put_sum(sums: &mut [u64], i: usize, sum: u64)
+    ensures { λ _. ⌜ now (sums .exit) ≡ set (now (sums .entry)) i sum ⌝ }
+{
+    if i < sums.len() {
+        sums[i] = sum;
+        return;
+    }
+}
+
+// Stores nine sums in the first places, as far as there are places.
+fn put_sums(nine: [u64; 9], sums: &mut [u64])
+    ensures { λ _. ⌜ now (sums .exit) ≡ sets (now (sums .entry)) 0 nine ⌝ }
+{
+    let mut i = 0;
+    while i < 9 {
+        put_sum(sums, i, nine[i]);
+        i += 1;
+    }
+}
+
+// Levels. The nine sums are written to the first places of `sums`, as far as there are places; nine zeros where it refuses.
+#[no_mangle]
+pub extern "C" fn rulmedei_levels(side: u32, greys: &[u8], serials: &[u32], sums: &mut [u64]) -> u32
+    ensures { λ n. ⌜ record { code = n; sums = now (sums .exit) } ≡ levelsCode side (now (greys .entry)) (now (serials .entry)) (now (sums .entry)) ⌝ }
+{
+    let answer = survey::levels(side, greys, serials);
+    let nine = answer.sums;
+    put_sums(nine, sums);
+    let status = answer.status;
+    match status {
+        LevelsStatus::Summed => 0,
+        LevelsStatus::Refused(why) => checks::number_of(why),
+    }
+}
+
+// Map Text. The side is written to `side`, 0 where it refuses.
+#[no_mangle]
+pub extern "C" fn rulmedei_map_text(text: &[u8], greys: &mut [u8], side: &mut u32) -> u32
+    ensures { λ n. ⌜ record { code = n; side = now (side .exit); greys = now (greys .exit) } ≡ mapTextCode (now (text .entry)) (now (greys .entry)) ⌝ }
+{
+    match map_text::map_text(text, greys) {
+        MapTextAnswer::Side(n) => {
+            *side = n;
+            0
+        }
+        MapTextAnswer::Refused(why) => {
+            *side = 0;
+            checks::number_of(why)
+        }
+    }
+}
+
+// Drill List, with the record (side, dots). The list's length is written to `length`, 0 where it refuses.
+#[no_mangle]
+pub extern "C" fn rulmedei_drill_list(
+    side: u32,
+    dots: u32,
+    pyramid: &[i64],
+    serials: &[u32],
+    order: &[u32],
+    out: &mut [u8],
+    length: &mut usize,
+) -> u32
+    ensures { λ n. ⌜ record { code = n; length = now (length .exit); output = now (out .exit) } ≡ drillListCode side dots (now (pyramid .entry)) (now (serials .entry)) (now (order .entry)) (now (out .entry)) ⌝ }
+{
+    match drill_list::drill_list(Progress { side, dots }, pyramid, serials, order, out) {
+        DrillListAnswer::Length(n) => {
+            *length = n;
+            0
+        }
+        DrillListAnswer::Refused(why) => {
+            *length = 0;
+            checks::number_of(why)
+        }
+    }
+}

@@ -1,0 +1,127 @@
+/*
+ * Rulmedei: grey maps to ordered lists of holes. The six calls for C.
+ *
+ * `rt staticlib rulmedei` writes target/staticlib/librulmedei.a, for x86-64 Linux. It needs the C library and nothing else.
+ *
+ * What a caller must ensure. The proofs assume it, and nothing tests it at run time:
+ *
+ * - Every pointer is valid for its length: for that many elements of its type, or for one where no length follows it. It is aligned for
+ *   its type, and it is not null, even where the length is 0.
+ * - Every element lent is initialised, also one that is only written.
+ * - No part that a call may write (a pointer without const) overlaps another part of the same call, written or read.
+ * - During a call nothing else writes what is lent, and nothing else reads a part that the call may write.
+ * - All parts lent to a call take fewer than 2^63 bytes together.
+ *
+ * Nothing else is asked. Numbers may have any value, parts any length and buffers any contents: what does not fit is refused. A call keeps
+ * no pointer and has no state of its own, so calls on different buffers may run at the same time.
+ *
+ * A slice is two arguments: a pointer to its first element, then the number of its elements.
+ */
+#ifndef RULMEDEI_H
+#define RULMEDEI_H
+
+#include <stddef.h>
+#include <stdint.h>
+
+#ifdef __cplusplus
+extern "C" {
+#endif
+
+/*
+ * What a call returns: RULMEDEI_DONE, for rulmedei_advance also RULMEDEI_MORE, or the number of a refusal. A refused call leaves pyramid,
+ * serials, order, greys and out as they were. The lowest number that applies is returned; rulmedei_map_text has an order of its own.
+ */
+#define RULMEDEI_DONE 0
+#define RULMEDEI_MORE 100           /* rulmedei_advance: further holes are due */
+#define RULMEDEI_SIDE_UNKNOWN 1     /* the side is not one of 2, 4, 8, 16, 32, 64, 128, 256 */
+#define RULMEDEI_GREYS_SHORT 2      /* the greys buffer is shorter than N * N */
+#define RULMEDEI_PYRAMID_SHORT 3    /* the pyramid is shorter than needed */
+#define RULMEDEI_SHEET_SHORT 4      /* the serial sheet, or the order list where it is lent, is shorter than N * N */
+#define RULMEDEI_SHEET_UNSOUND 5    /* the sheet is not sound: Load and Advance leave no such buffers with this record */
+#define RULMEDEI_BLOCK_UNKNOWN 6    /* the level is past the map's last, or the row or column not below 2^level */
+#define RULMEDEI_TEXT_MALFORMED 7   /* the text does not fit the grammar of map texts */
+#define RULMEDEI_OUTPUT_SHORT 8     /* the output is shorter than the list */
+#define RULMEDEI_INPUT_LONG 9       /* the input is longer than 4,099 bytes: the program plate only, no call here returns it */
+
+/*
+ * The lengths that a map of side N needs, in elements: N * N for greys, serials and order, and (4 * N * N - 1) / 3 for the pyramid. A
+ * longer buffer will do; what lies past the needed length is neither read nor written.
+ *
+ *     N               2    4    8    16    32    64    128    256
+ *     cells           4   16   64   256  1024  4096  16384  65536
+ *     pyramid         5   21   85   341  1365  5461  21845  87381
+ */
+#define RULMEDEI_CELLS(n) ((size_t)(n) * (size_t)(n))
+#define RULMEDEI_PYRAMID(n) ((4 * (size_t)(n) * (size_t)(n) - 1) / 3)
+
+/*
+ * Load: fills the pyramid from the greys (by row, then column) and sets the cells of serials and order to 0. The record is written to
+ * record_side and record_dots: the side and 0 holes, or 0 and 0 where it refuses. Refusals: 1, 2, 3, 4.
+ */
+uint32_t rulmedei_load(uint32_t side,
+                       const uint8_t *greys, size_t greys_length,
+                       int64_t *pyramid, size_t pyramid_length,
+                       uint32_t *serials, size_t serials_length,
+                       uint32_t *order, size_t order_length,
+                       uint32_t *record_side,
+                       uint32_t *record_dots);
+
+/*
+ * Advance: makes the holes that are due, at most `budget` of them, from the record (side, dots) that the call before returned, on the same
+ * buffers. The holes so far are written to after and those of this call to made; the side stays. RULMEDEI_DONE says that none are due
+ * any more. A refused call writes `dots` and 0. Refusals: 1, 3, 4, 5.
+ */
+uint32_t rulmedei_advance(uint32_t side,
+                          uint32_t dots,
+                          uint32_t budget,
+                          int64_t *pyramid, size_t pyramid_length,
+                          uint32_t *serials, size_t serials_length,
+                          uint32_t *order, size_t order_length,
+                          uint32_t *after,
+                          uint32_t *made);
+
+/*
+ * Tally: writes to dots how many holes the aligned square (row, column) of a level has; level 0 is the whole map, and level k has 2^k by
+ * 2^k squares. A refused call writes 0. Refusals: 1, 4, 6.
+ */
+uint32_t rulmedei_tally(uint32_t side,
+                        const uint32_t *serials, size_t serials_length,
+                        uint32_t level,
+                        uint32_t row,
+                        uint32_t column,
+                        uint32_t *dots);
+
+/*
+ * Levels: for each level, level 0 first, the sum over its squares of the square of their summed errors. The nine sums, 0 past the map's last
+ * level, are written to the first nine places of sums, or as many as there are; nine zeros where it refuses. Refusals: 1, 2, 4.
+ */
+uint32_t rulmedei_levels(uint32_t side,
+                         const uint8_t *greys, size_t greys_length,
+                         const uint32_t *serials, size_t serials_length,
+                         uint64_t *sums, size_t sums_length);
+
+/*
+ * Map Text: reads the text of a map, a line with the side and then a line of greys, parted by commas, for each row. The greys are written by
+ * row and the side to side, 0 where it refuses. Refusals, in this order: 7 for the first line, 1, 2, 7 for the rest.
+ */
+uint32_t rulmedei_map_text(const uint8_t *text, size_t text_length,
+                           uint8_t *greys, size_t greys_length,
+                           uint32_t *side);
+
+/*
+ * Drill List: writes a line "holes,side", then for each hole in order a line "serial,row,column", and the number of bytes to length, 0 where
+ * it refuses. Bytes past the list stay. No zero byte ends it. Refusals: 1, 3, 4, 5, 8.
+ */
+uint32_t rulmedei_drill_list(uint32_t side,
+                             uint32_t dots,
+                             const int64_t *pyramid, size_t pyramid_length,
+                             const uint32_t *serials, size_t serials_length,
+                             const uint32_t *order, size_t order_length,
+                             uint8_t *out, size_t out_length,
+                             size_t *length);
+
+#ifdef __cplusplus
+}
+#endif
+
+#endif

@@ -1,0 +1,149 @@
+//! The team's own implementation in Rust of the same work: plain indexing, so every access is bounds-checked, and no
+//! unsafe code. Load fills the pyramid; Advance tests the sheet, then descends, burns, spreads and renews all sums.
+
+const DOT: i64 = 65_280;
+const HALF_DOT: i64 = 32_640;
+const WEIGHTS: [[i64; 3]; 3] = [[1, 2, 1], [2, 0, 2], [1, 2, 1]];
+
+fn level_start(level: usize) -> usize {
+    ((1 << (2 * level)) - 1) / 3
+}
+
+pub fn load(power: usize, greys: &[u8], pyramid: &mut [i64], serials: &mut [u32], order: &mut [u32]) {
+    let side = 1 << power;
+    let cells = level_start(power);
+    for place in 0..side * side {
+        pyramid[cells + place] = 256 * i64::from(greys[place]);
+        serials[place] = 0;
+        order[place] = 0;
+    }
+    renew(power, pyramid);
+}
+
+/// All coarser sums, from the finest level up.
+fn renew(power: usize, pyramid: &mut [i64]) {
+    for level in (0..power).rev() {
+        for row in 0..1 << level {
+            for column in 0..1 << level {
+                let sum = four(level, row, column, pyramid);
+                pyramid[level_start(level) + (row << level) + column] = sum;
+            }
+        }
+    }
+}
+
+/// The sum of the four entries below one.
+fn four(level: usize, row: usize, column: usize, pyramid: &[i64]) -> i64 {
+    let wide = 2 << level;
+    let first = level_start(level + 1) + 2 * row * wide + 2 * column;
+    pyramid[first] + pyramid[first + 1] + pyramid[first + wide] + pyramid[first + wide + 1]
+}
+
+/// The test of a sheet, then the holes. Returns the holes on the sheet afterwards, or none for a sheet that isn't sound.
+pub fn advance(
+    power: usize,
+    dots: u32,
+    budget: u32,
+    pyramid: &mut [i64],
+    serials: &mut [u32],
+    order: &mut [u32],
+) -> Option<u32> {
+    if !sound(power, dots, pyramid, serials, order) {
+        return None;
+    }
+    let mut made = 0;
+    while made < budget && pyramid[0] >= HALF_DOT {
+        burn(power, dots + made, pyramid, serials, order);
+        made += 1;
+    }
+    Some(dots + made)
+}
+
+/// One hole.
+fn burn(power: usize, dots: u32, pyramid: &mut [i64], serials: &mut [u32], order: &mut [u32]) {
+    let (row, column) = descend(power, pyramid);
+    let cell = (row << power) + column;
+    let place = level_start(power) + cell;
+    let lacking = DOT - pyramid[place];
+    pyramid[place] = 0;
+    spread(power, row, column, lacking, &mut pyramid[level_start(power)..]);
+    serials[cell] = dots + 1;
+    order[dots as usize] = cell as u32;
+    renew(power, pyramid);
+}
+
+/// From the top to the first of the largest of four, down to a cell.
+fn descend(power: usize, pyramid: &[i64]) -> (usize, usize) {
+    let (mut row, mut column) = (0, 0);
+    for level in 1..=power {
+        let mut best = (2 * row, 2 * column);
+        for candidate in [(2 * row, 2 * column + 1), (2 * row + 1, 2 * column), (2 * row + 1, 2 * column + 1)] {
+            if entry(level, candidate, pyramid) > entry(level, best, pyramid) {
+                best = candidate;
+            }
+        }
+        (row, column) = best;
+    }
+    (row, column)
+}
+
+fn entry(level: usize, (row, column): (usize, usize), pyramid: &[i64]) -> i64 {
+    pyramid[level_start(level) + (row << level) + column]
+}
+
+/// The shares of the neighbours on the map, by running floors.
+fn spread(power: usize, row: usize, column: usize, lacking: i64, cells: &mut [i64]) {
+    let total: i64 = around(power, row, column).map(|(_, weight)| weight).sum();
+    let (mut weights, mut given) = (0, 0);
+    for (cell, weight) in around(power, row, column) {
+        weights += weight;
+        let until = lacking * weights / total;
+        cells[cell] -= until - given;
+        given = until;
+    }
+}
+
+/// The neighbours on the map, by row and column, with their weights.
+fn around(power: usize, row: usize, column: usize) -> impl Iterator<Item = (usize, i64)> {
+    let side = 1 << power;
+    (0..9).filter_map(move |n| {
+        let (down, right) = (row + n / 3, column + n % 3);
+        let inside = n != 4 && down >= 1 && down <= side && right >= 1 && right <= side;
+        inside.then(|| (((down - 1) << power) + right - 1, WEIGHTS[n / 3][n % 3]))
+    })
+}
+
+/// The seven conditions of a sound sheet.
+fn sound(power: usize, dots: u32, pyramid: &[i64], serials: &[u32], order: &[u32]) -> bool {
+    let cells = 1 << (2 * power);
+    dots as usize <= cells
+        && numbered(dots as usize, cells, serials, order)
+        && serials[..cells].iter().filter(|serial| **serial != 0).count() == dots as usize
+        && order[dots as usize..cells].iter().all(|cell| *cell == 0)
+        && bounded(power, &pyramid[level_start(power)..], serials)
+        && summed(power, pyramid)
+}
+
+/// The order list names cells by serial.
+fn numbered(dots: usize, cells: usize, serials: &[u32], order: &[u32]) -> bool {
+    (0..dots).all(|j| (order[j] as usize) < cells && serials[order[j] as usize] as usize == j + 1)
+}
+
+/// No cell owes more than one hole, a burnt one nothing; none has fallen below what its burnt neighbours took.
+fn bounded(power: usize, cells: &[i64], serials: &[u32]) -> bool {
+    let side: usize = 1 << power;
+    (0..side * side).all(|cell| {
+        let most = if serials[cell] == 0 { DOT } else { 0 };
+        let burnt = around(power, cell >> power, cell & (side - 1)).filter(|(near, _)| serials[*near] != 0).count();
+        cells[cell] <= most && cells[cell] >= -DOT * burnt as i64
+    })
+}
+
+/// Every coarser entry is the sum of its four.
+fn summed(power: usize, pyramid: &[i64]) -> bool {
+    (0..power).all(|level| {
+        (0..1usize << level).all(|row| {
+            (0..1usize << level).all(|column| entry(level, (row, column), pyramid) == four(level, row, column, pyramid))
+        })
+    })
+}

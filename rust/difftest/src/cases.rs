@@ -1,0 +1,269 @@
+//! The cases: loads, runs of calls with lent parts and damage between them, sheets that no Load made, noise, and texts.
+
+use reference::{cell_count, power, pyramid_length, renew_all, write_map_text};
+
+use crate::random::Random;
+use crate::side_by_side::{Differs, Lent, Sheet, SideBySide};
+
+/// One case, of a kind drawn at random.
+pub fn one_case(random: &mut Random, calls: &mut SideBySide) -> Result<(), Differs> {
+    match random.below(10) {
+        0 | 1 => load_case(random, calls),
+        2..=4 => run_case(random, calls),
+        5 => made_up_case(random, calls),
+        6 => noise_case(random, calls),
+        _ => text_case(random, calls),
+    }
+}
+
+/// The cells and the pyramid's needed length; those of side 4 for a side that isn't one of the eight.
+fn needed(side: u32) -> (usize, usize) {
+    match power(side) {
+        Ok(power) => (cell_count(side), pyramid_length(power)),
+        Err(_) => (16, 21),
+    }
+}
+
+/// A sheet of noise with lengths around those of a side.
+fn noise(random: &mut Random, side: u32) -> Sheet {
+    let (cells, pyramid) = needed(side);
+    let (p, s, o) = (random.length(pyramid), random.length(cells), random.length(cells));
+    Sheet {
+        pyramid: (0..p).map(|_| random.entry()).collect(),
+        serials: (0..s).map(|_| random.below(4) as u32).collect(),
+        order: (0..o).map(|_| random.below(cells + 1) as u32).collect(),
+    }
+}
+
+fn whole(sheet: &Sheet) -> Lent {
+    Lent { pyramid: sheet.pyramid.len(), serials: sheet.serials.len(), order: sheet.order.len() }
+}
+
+/// All of a sheet, or now and then parts with lengths around the needed ones.
+fn lent(random: &mut Random, side: u32, sheet: &Sheet) -> Lent {
+    if !random.once_in(4) {
+        return whole(sheet);
+    }
+    let (cells, pyramid) = needed(side);
+    Lent {
+        pyramid: random.length(pyramid).min(sheet.pyramid.len()),
+        serials: random.length(cells).min(sheet.serials.len()),
+        order: random.length(cells).min(sheet.order.len()),
+    }
+}
+
+/// Greys of one kind or another.
+fn greys(random: &mut Random, count: usize) -> Vec<u8> {
+    let flat = random.next() as u8;
+    match random.below(6) {
+        0 => vec![flat; count],
+        1 => vec![random.pick(&[0, 1, 127, 128, 129, 254, 255]); count],
+        2 => (0..count).map(|_| if random.once_in(8) { 255 } else { 0 }).collect(),
+        3 => (0..count).map(|place| (place * 255 / count) as u8).collect(),
+        _ => random.bytes(count),
+    }
+}
+
+/// Load into buffers of any length and content.
+fn load_case(random: &mut Random, calls: &mut SideBySide) -> Result<(), Differs> {
+    let side = random.side();
+    let count = random.length(needed(side).0);
+    let greys = greys(random, count);
+    let mut sheet = noise(random, side);
+    let lent = lent(random, side, &sheet);
+    calls.load(side, &greys, &mut sheet, lent)?;
+    Ok(())
+}
+
+/// A map loaded, then a list of calls.
+fn run_case(random: &mut Random, calls: &mut SideBySide) -> Result<(), Differs> {
+    let side = random.good_side();
+    let (cells, pyramid) = needed(side);
+    let greys = greys(random, cells);
+    let spare = random.below(3);
+    let mut sheet =
+        Sheet { pyramid: vec![-1; pyramid + spare], serials: vec![9; cells + spare], order: vec![9; cells + spare] };
+    let all = whole(&sheet);
+    calls.load(side, &greys, &mut sheet, all)?;
+    let mut dots = 0;
+    for _ in 0..1 + random.below(10) {
+        dots = one_call(random, calls, side, &greys, &mut sheet, dots)?;
+    }
+    Ok(())
+}
+
+/// One call on a sheet that is sound, and stays so: what is damaged is damaged on a copy. Returns the holes afterwards.
+fn one_call(
+    random: &mut Random,
+    calls: &mut SideBySide,
+    side: u32,
+    greys: &[u8],
+    sheet: &mut Sheet,
+    dots: u32,
+) -> Result<u32, Differs> {
+    let lent = lent(random, side, sheet);
+    match random.below(12) {
+        0 => calls.tally(side, &sheet.serials[..lent.serials], block(random, side)).map(|_| dots),
+        1 => calls.levels(side, greys, &sheet.serials[..lent.serials]).map(|_| dots),
+        2 => list(random, calls, side, sheet, lent, dots).map(|_| dots),
+        3..=6 => on_damage(random, calls, side, sheet, lent, dots).map(|_| dots),
+        _ => {
+            let budget = budget(random, side);
+            let after = calls.advance(side, dots, budget, sheet, lent)?;
+            Ok(after.values[0] as u32)
+        }
+    }
+}
+
+/// A budget; not the largest on large sides, whose holes take long.
+fn budget(random: &mut Random, side: u32) -> u32 {
+    random.budget().min(if side > 64 { 50 } else { u32::MAX })
+}
+
+/// A square of a level, or now and then one that there isn't.
+fn block(random: &mut Random, side: u32) -> [u32; 3] {
+    let power = power(side).unwrap_or(2);
+    let level = random.below(power as usize + 2) as u32;
+    let rows = 2usize.pow(level);
+    let word = random.next() as u32;
+    match random.below(10) {
+        0 => [level, rows as u32, random.below(rows) as u32],
+        1 => [level, random.below(rows) as u32, rows as u32],
+        2 => [word, 0, 0],
+        3 => [level, word, word],
+        _ => [level, random.below(rows) as u32, random.below(rows) as u32],
+    }
+}
+
+/// Drill List into an output around the list's length.
+fn list(
+    random: &mut Random,
+    calls: &mut SideBySide,
+    side: u32,
+    sheet: &Sheet,
+    lent: Lent,
+    dots: u32,
+) -> Result<(), Differs> {
+    let mut long = vec![46; 16 + 14 * sheet.order.len()];
+    let answer = calls.drill_list(side, dots, sheet, lent, &mut long)?;
+    let length = random.length(answer.values[0] as usize);
+    let mut out = vec![46; length];
+    calls.drill_list(side, dots, sheet, lent, &mut out)?;
+    Ok(())
+}
+
+/// Advance or Drill List on a copy of the sheet in which one bit, or the record, is another.
+fn on_damage(
+    random: &mut Random,
+    calls: &mut SideBySide,
+    side: u32,
+    sheet: &Sheet,
+    lent: Lent,
+    dots: u32,
+) -> Result<(), Differs> {
+    let mut damaged = sheet.clone();
+    let (mut side, mut dots) = (side, dots);
+    match random.below(8) {
+        0 => side = random.side(),
+        1 => dots = dots.wrapping_add(random.pick(&[1, u32::MAX, 2, 1 << 31])),
+        2..=4 => {
+            let place = random.below(damaged.pyramid.len());
+            damaged.pyramid[place] ^= 1 << random.below(64);
+        }
+        5 | 6 => {
+            let place = random.below(damaged.serials.len());
+            damaged.serials[place] ^= 1 << random.below(32);
+        }
+        _ => {
+            let place = random.below(damaged.order.len());
+            damaged.order[place] ^= 1 << random.below(32);
+        }
+    }
+    if random.once_in(3) {
+        return list(random, calls, side, &damaged, lent, dots);
+    }
+    calls.advance(side, dots, budget(random, 256), &mut damaged, lent)?;
+    Ok(())
+}
+
+/// A sheet without holes that no Load made, sound or nearly so, run to its end.
+fn made_up_case(random: &mut Random, calls: &mut SideBySide) -> Result<(), Differs> {
+    let side = random.pick(&[2, 2, 4, 4, 8]);
+    let (cells, length) = needed(side);
+    let power = power(side).unwrap_or(1);
+    let mut pyramid = vec![0; length];
+    for entry in &mut pyramid[length - cells..] {
+        *entry = made_up_residual(random);
+    }
+    renew_all(power, &mut pyramid);
+    let mut sheet = Sheet { pyramid, serials: vec![0; cells], order: vec![0; cells] };
+    let mut dots = 0;
+    for _ in 0..3 {
+        let all = whole(&sheet);
+        let after = calls.advance(side, dots, random.budget(), &mut sheet, all)?;
+        dots = after.values[0] as u32;
+    }
+    list(random, calls, side, &sheet, whole(&sheet), dots)
+}
+
+/// What an unburnt cell of a sound sheet without holes may owe, or now and then a little more or less.
+fn made_up_residual(random: &mut Random) -> i64 {
+    match random.below(40) {
+        0 => 65_281,
+        1 => -1,
+        2 => 65_280,
+        _ => random.below(65_281) as i64,
+    }
+}
+
+/// Calls on noise.
+fn noise_case(random: &mut Random, calls: &mut SideBySide) -> Result<(), Differs> {
+    let side = random.side();
+    let (cells, _) = needed(side);
+    let count = random.length(cells);
+    let greys = random.bytes(count);
+    let mut sheet = noise(random, side);
+    let dots = random.below(cells + 2) as u32;
+    let lent = lent(random, side, &sheet);
+    calls.tally(side, &sheet.serials[..lent.serials], block(random, side))?;
+    calls.levels(side, &greys, &sheet.serials[..lent.serials])?;
+    list(random, calls, side, &sheet, lent, dots)?;
+    calls.advance(side, dots, budget(random, side), &mut sheet, lent)?;
+    Ok(())
+}
+
+/// A map's text with some bytes changed.
+fn text_case(random: &mut Random, calls: &mut SideBySide) -> Result<(), Differs> {
+    let side = random.good_side().min(32);
+    let cells = cell_count(side);
+    let mut text = write_map_text(side, &greys(random, cells));
+    for _ in 0..random.below(3) {
+        change(random, &mut text);
+    }
+    let room = random.length(cells);
+    let mut buffer = vec![9; room];
+    calls.map_text(&text, &mut buffer)?;
+    Ok(())
+}
+
+/// One change: a byte set, taken out, put in or doubled, the rest cut off, or something behind.
+fn change(random: &mut Random, text: &mut Vec<u8>) {
+    let word = random.next() as u8;
+    let byte = random.pick(&[b'0', b'1', b'2', b'5', b'6', b'9', b',', b'\n', b'\r', b' ', b'+', b'-', 0, 255, word]);
+    if text.is_empty() {
+        text.push(byte);
+        return;
+    }
+    // the first bytes and the last are changed more often
+    let near = random.below(text.len().min(4));
+    let any = random.below(text.len());
+    let place = random.pick(&[near, text.len() - 1 - near, any]);
+    match random.below(7) {
+        0 | 1 => text[place] = byte,
+        2 => text.insert(place, byte),
+        3 => drop(text.remove(place)),
+        4 => text.insert(place, text[place]),
+        5 => text.truncate(place),
+        _ => text.push(byte),
+    }
+}

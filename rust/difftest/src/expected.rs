@@ -1,0 +1,66 @@
+//! The reference's answers in the same form.
+
+use reference::{Ended, Progress, Refusal};
+
+use crate::library::Outcome;
+
+/// The code of "more".
+const MORE: u32 = 100;
+
+pub fn load(side: u32, greys: &[u8], pyramid: &mut [i64], serials: &mut [u32], order: &mut [u32]) -> Outcome {
+    let answer = reference::load(side, greys, pyramid, serials, order);
+    Outcome { code: code_of(answer.status), values: record(answer.progress) }
+}
+
+pub fn advance(
+    (side, dots): (u32, u32),
+    budget: u32,
+    pyramid: &mut [i64],
+    serials: &mut [u32],
+    order: &mut [u32],
+) -> Outcome {
+    let answer = reference::advance(Progress { side, dots }, budget, pyramid, serials, order);
+    let code = match answer.status {
+        Ok(Ended::Finished) => 0,
+        Ok(Ended::More) => MORE,
+        Err(refusal) => refusal.number(),
+    };
+    Outcome { code, values: vec![answer.progress.dots.into(), answer.made.into()] }
+}
+
+pub fn tally(side: u32, serials: &[u32], [level, row, column]: [u32; 3]) -> Outcome {
+    let answer = reference::tally(side, serials, level, row, column);
+    Outcome { code: code_of(answer), values: vec![answer.unwrap_or(0).into()] }
+}
+
+pub fn levels(side: u32, greys: &[u8], serials: &[u32]) -> Outcome {
+    let answer = reference::levels(side, greys, serials);
+    Outcome { code: code_of(answer), values: answer.unwrap_or([0; 9]).to_vec() }
+}
+
+pub fn map_text(text: &[u8], greys: &mut [u8]) -> Outcome {
+    let answer = reference::map_text(text, greys);
+    Outcome { code: code_of(answer), values: vec![answer.unwrap_or(0).into()] }
+}
+
+pub fn drill_list(
+    (side, dots): (u32, u32),
+    pyramid: &[i64],
+    serials: &[u32],
+    order: &[u32],
+    out: &mut [u8],
+) -> Outcome {
+    let answer = reference::drill_list(Progress { side, dots }, pyramid, serials, order, out);
+    Outcome { code: code_of(answer), values: vec![answer.unwrap_or(0) as u64] }
+}
+
+fn record(progress: Progress) -> Vec<u64> {
+    vec![progress.side.into(), progress.dots.into()]
+}
+
+fn code_of<T>(answer: Result<T, Refusal>) -> u32 {
+    match answer {
+        Ok(_) => 0,
+        Err(refusal) => refusal.number(),
+    }
+}

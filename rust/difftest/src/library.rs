@@ -1,0 +1,52 @@
+//! The library's calls with their codes, so that what they write on a refusal is compared too.
+
+use rulmedei::{codes, Progress};
+
+/// What a call returned, and what it wrote beside the buffers.
+#[derive(Debug, Clone, PartialEq, Eq)]
+pub struct Outcome {
+    pub code: u32,
+    pub values: Vec<u64>,
+}
+
+pub fn load(side: u32, greys: &[u8], pyramid: &mut [i64], serials: &mut [u32], order: &mut [u32]) -> Outcome {
+    let (code, record) = codes::load(side, greys, pyramid, serials, order);
+    Outcome { code, values: vec![record.side.into(), record.dots.into()] }
+}
+
+pub fn advance(
+    (side, dots): (u32, u32),
+    budget: u32,
+    pyramid: &mut [i64],
+    serials: &mut [u32],
+    order: &mut [u32],
+) -> Outcome {
+    let (code, after, made) = codes::advance(Progress { side, dots }, budget, pyramid, serials, order);
+    Outcome { code, values: vec![after.dots.into(), made.into()] }
+}
+
+pub fn tally(side: u32, serials: &[u32], [level, row, column]: [u32; 3]) -> Outcome {
+    let (code, dots) = codes::tally(side, serials, level, row, column);
+    Outcome { code, values: vec![dots.into()] }
+}
+
+pub fn levels(side: u32, greys: &[u8], serials: &[u32]) -> Outcome {
+    let (code, sums) = codes::levels(side, greys, serials);
+    Outcome { code, values: sums.to_vec() }
+}
+
+pub fn map_text(text: &[u8], greys: &mut [u8]) -> Outcome {
+    let (code, side) = codes::map_text(text, greys);
+    Outcome { code, values: vec![side.into()] }
+}
+
+pub fn drill_list(
+    (side, dots): (u32, u32),
+    pyramid: &[i64],
+    serials: &[u32],
+    order: &[u32],
+    out: &mut [u8],
+) -> Outcome {
+    let (code, length) = codes::drill_list(Progress { side, dots }, pyramid, serials, order, out);
+    Outcome { code, values: vec![length as u64] }
+}

@@ -1,0 +1,144 @@
+//! Each call made twice on the same inputs, by the library and by the reference: every answer and every buffer is compared.
+
+use std::collections::BTreeMap;
+use std::fmt::Debug;
+
+use crate::expected;
+use crate::library::{self, Outcome};
+
+/// The three buffers of a sheet, whole.
+#[derive(Debug, Clone, PartialEq, Eq)]
+pub struct Sheet {
+    pub pyramid: Vec<i64>,
+    pub serials: Vec<u32>,
+    pub order: Vec<u32>,
+}
+
+/// How many places of each buffer are lent.
+#[derive(Debug, Clone, Copy)]
+pub struct Lent {
+    pub pyramid: usize,
+    pub serials: usize,
+    pub order: usize,
+}
+
+/// The calls compared so far, by name and code.
+#[derive(Default)]
+pub struct SideBySide {
+    pub calls: BTreeMap<(&'static str, u32), u64>,
+}
+
+/// What differs, in words.
+pub type Differs = String;
+
+impl SideBySide {
+    pub fn total(&self) -> u64 {
+        self.calls.values().sum()
+    }
+
+    pub fn load(&mut self, side: u32, greys: &[u8], sheet: &mut Sheet, lent: Lent) -> Result<Outcome, Differs> {
+        let before = sheet.clone();
+        let mut other = sheet.clone();
+        let ours = library::load(
+            side,
+            greys,
+            &mut sheet.pyramid[..lent.pyramid],
+            &mut sheet.serials[..lent.serials],
+            &mut sheet.order[..lent.order],
+        );
+        let theirs = expected::load(
+            side,
+            greys,
+            &mut other.pyramid[..lent.pyramid],
+            &mut other.serials[..lent.serials],
+            &mut other.order[..lent.order],
+        );
+        let inputs = (side, greys, &before, lent);
+        self.agreed("load", &inputs, (&ours, &*sheet), (&theirs, &other))?;
+        self.counted("load", ours)
+    }
+
+    pub fn advance(
+        &mut self,
+        side: u32,
+        dots: u32,
+        budget: u32,
+        sheet: &mut Sheet,
+        lent: Lent,
+    ) -> Result<Outcome, Differs> {
+        let before = sheet.clone();
+        let mut other = sheet.clone();
+        let ours = library::advance(
+            (side, dots),
+            budget,
+            &mut sheet.pyramid[..lent.pyramid],
+            &mut sheet.serials[..lent.serials],
+            &mut sheet.order[..lent.order],
+        );
+        let theirs = expected::advance(
+            (side, dots),
+            budget,
+            &mut other.pyramid[..lent.pyramid],
+            &mut other.serials[..lent.serials],
+            &mut other.order[..lent.order],
+        );
+        let inputs = (side, dots, budget, &before, lent);
+        self.agreed("advance", &inputs, (&ours, &*sheet), (&theirs, &other))?;
+        self.counted("advance", ours)
+    }
+
+    pub fn tally(&mut self, side: u32, serials: &[u32], block: [u32; 3]) -> Result<Outcome, Differs> {
+        let ours = library::tally(side, serials, block);
+        let theirs = expected::tally(side, serials, block);
+        self.agreed("tally", &(side, serials, block), &ours, &theirs)?;
+        self.counted("tally", ours)
+    }
+
+    pub fn levels(&mut self, side: u32, greys: &[u8], serials: &[u32]) -> Result<Outcome, Differs> {
+        let ours = library::levels(side, greys, serials);
+        let theirs = expected::levels(side, greys, serials);
+        self.agreed("levels", &(side, greys, serials), &ours, &theirs)?;
+        self.counted("levels", ours)
+    }
+
+    pub fn map_text(&mut self, text: &[u8], greys: &mut [u8]) -> Result<Outcome, Differs> {
+        let before = greys.to_vec();
+        let mut other = greys.to_vec();
+        let ours = library::map_text(text, greys);
+        let theirs = expected::map_text(text, &mut other);
+        self.agreed("map_text", &(text, &before), (&ours, &*greys), (&theirs, &other[..]))?;
+        self.counted("map_text", ours)
+    }
+
+    pub fn drill_list(
+        &mut self,
+        side: u32,
+        dots: u32,
+        sheet: &Sheet,
+        lent: Lent,
+        out: &mut [u8],
+    ) -> Result<Outcome, Differs> {
+        let before = out.to_vec();
+        let mut other = out.to_vec();
+        let pyramid = &sheet.pyramid[..lent.pyramid];
+        let serials = &sheet.serials[..lent.serials];
+        let order = &sheet.order[..lent.order];
+        let ours = library::drill_list((side, dots), pyramid, serials, order, out);
+        let theirs = expected::drill_list((side, dots), pyramid, serials, order, &mut other);
+        let inputs = (side, dots, sheet, lent, before.len());
+        self.agreed("drill_list", &inputs, (&ours, &*out), (&theirs, &other[..]))?;
+        self.counted("drill_list", ours)
+    }
+
+    fn agreed<T: Debug + PartialEq>(&self, call: &str, inputs: &dyn Debug, ours: T, theirs: T) -> Result<(), Differs> {
+        if ours == theirs {
+            return Ok(());
+        }
+        Err(format!("{call} on {inputs:?}\nlibrary   {ours:?}\nreference {theirs:?}"))
+    }
+
+    fn counted(&mut self, call: &'static str, outcome: Outcome) -> Result<Outcome, Differs> {
+        *self.calls.entry((call, outcome.code)).or_insert(0) += 1;
+        Ok(outcome)
+    }
+}

@@ -1,0 +1,31 @@
+//! Reads a map text on standard input and prints its drill list:
+//!
+//!     printf '2\n128,128\n128,128\n' | cargo run -q --example list
+
+use std::error::Error;
+use std::io::{self, Read, Write};
+
+use rulmedei::{advance, cells, drill_list, load, map_text, pyramid_length, Refusal};
+
+fn main() -> Result<(), Box<dyn Error>> {
+    let mut text = Vec::new();
+    io::stdin().read_to_end(&mut text)?;
+    io::stdout().write_all(&list_of(&text)?)?;
+    Ok(())
+}
+
+/// The drill list of a map, whole.
+fn list_of(text: &[u8]) -> Result<Vec<u8>, Refusal> {
+    let mut greys = vec![0; cells(256)];
+    let side = map_text(text, &mut greys)?;
+    let mut pyramid = vec![0; pyramid_length(side)];
+    let mut serials = vec![0; cells(side)];
+    let mut order = vec![0; cells(side)];
+    let start = load(side, &greys, &mut pyramid, &mut serials, &mut order)?;
+    let end = advance(start, u32::MAX, &mut pyramid, &mut serials, &mut order)?.progress;
+    // a line has at most 15 bytes
+    let mut out = vec![0; 15 * (end.dots as usize + 1)];
+    let length = drill_list(end, &pyramid, &serials, &order, &mut out)?;
+    out.truncate(length);
+    Ok(out)
+}

@@ -1,0 +1,73 @@
+//! The functions of `include/rulmedei.h`. A slice is two arguments: a pointer to its first element, then the number of its elements.
+
+extern "C" {
+    pub fn rulmedei_load(
+        side: u32,
+        greys: *const u8,
+        greys_length: usize,
+        pyramid: *mut i64,
+        pyramid_length: usize,
+        serials: *mut u32,
+        serials_length: usize,
+        order: *mut u32,
+        order_length: usize,
+        record_side: *mut u32,
+        record_dots: *mut u32,
+    ) -> u32;
+
+    pub fn rulmedei_advance(
+        side: u32,
+        dots: u32,
+        budget: u32,
+        pyramid: *mut i64,
+        pyramid_length: usize,
+        serials: *mut u32,
+        serials_length: usize,
+        order: *mut u32,
+        order_length: usize,
+        after: *mut u32,
+        made: *mut u32,
+    ) -> u32;
+
+    pub fn rulmedei_tally(
+        side: u32,
+        serials: *const u32,
+        serials_length: usize,
+        level: u32,
+        row: u32,
+        column: u32,
+        dots: *mut u32,
+    ) -> u32;
+
+    pub fn rulmedei_levels(
+        side: u32,
+        greys: *const u8,
+        greys_length: usize,
+        serials: *const u32,
+        serials_length: usize,
+        sums: *mut u64,
+        sums_length: usize,
+    ) -> u32;
+
+    pub fn rulmedei_map_text(
+        text: *const u8,
+        text_length: usize,
+        greys: *mut u8,
+        greys_length: usize,
+        side: *mut u32,
+    ) -> u32;
+
+    pub fn rulmedei_drill_list(
+        side: u32,
+        dots: u32,
+        pyramid: *const i64,
+        pyramid_length: usize,
+        serials: *const u32,
+        serials_length: usize,
+        order: *const u32,
+        order_length: usize,
+        out: *mut u8,
+        out_length: usize,
+        length: *mut usize,
+    ) -> u32;
+}

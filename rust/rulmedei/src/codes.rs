@@ -1,0 +1,120 @@
+//! The calls with their codes, on slices: the number that a call returns (0 for done, 100 for more, else a refusal's), and what it writes beside
+//! the buffers.
+
+use crate::c;
+use crate::Progress;
+
+/// What a place for a number holds before a call has written it.
+const UNWRITTEN: u32 = u32::MAX;
+
+// Why each unsafe block below is sound. The proofs ask what `include/rulmedei.h` lists. References and slices give it: their pointers are
+// aligned, not null, and valid and initialised for the length passed beside them; what is behind a `&mut` overlaps nothing else, and
+// nobody else reads or writes it during the call, nor writes what is behind a `&`; and all memory of an x86-64 process is less than 2^63
+// bytes. The declarations are those of the header.
+
+/// The code, and the record.
+pub fn load(side: u32, greys: &[u8], pyramid: &mut [i64], serials: &mut [u32], order: &mut [u32]) -> (u32, Progress) {
+    let mut record = Progress { side: UNWRITTEN, dots: UNWRITTEN };
+    // SAFETY: each pointer and length is that of a slice, or a reference to a field of a local.
+    let code = unsafe {
+        c::rulmedei_load(
+            side,
+            greys.as_ptr(),
+            greys.len(),
+            pyramid.as_mut_ptr(),
+            pyramid.len(),
+            serials.as_mut_ptr(),
+            serials.len(),
+            order.as_mut_ptr(),
+            order.len(),
+            &mut record.side,
+            &mut record.dots,
+        )
+    };
+    (code, record)
+}
+
+/// The code, the new record, and the holes made.
+pub fn advance(
+    progress: Progress,
+    budget: u32,
+    pyramid: &mut [i64],
+    serials: &mut [u32],
+    order: &mut [u32],
+) -> (u32, Progress, u32) {
+    let mut after = Progress { side: progress.side, dots: UNWRITTEN };
+    let mut made = UNWRITTEN;
+    // SAFETY: each pointer and length is that of a slice, or a reference to a local or its field.
+    let code = unsafe {
+        c::rulmedei_advance(
+            progress.side,
+            progress.dots,
+            budget,
+            pyramid.as_mut_ptr(),
+            pyramid.len(),
+            serials.as_mut_ptr(),
+            serials.len(),
+            order.as_mut_ptr(),
+            order.len(),
+            &mut after.dots,
+            &mut made,
+        )
+    };
+    (code, after, made)
+}
+
+/// The code, and the holes of the square.
+pub fn tally(side: u32, serials: &[u32], level: u32, row: u32, column: u32) -> (u32, u32) {
+    let mut dots = UNWRITTEN;
+    // SAFETY: the pointer and length are those of a slice, and `dots` is a local.
+    let code = unsafe { c::rulmedei_tally(side, serials.as_ptr(), serials.len(), level, row, column, &mut dots) };
+    (code, dots)
+}
+
+/// The code, and the nine sums.
+pub fn levels(side: u32, greys: &[u8], serials: &[u32]) -> (u32, [u64; 9]) {
+    let mut sums = [UNWRITTEN.into(); 9];
+    // SAFETY: each pointer and length is that of a slice or of the local array.
+    let code = unsafe {
+        c::rulmedei_levels(
+            side,
+            greys.as_ptr(),
+            greys.len(),
+            serials.as_ptr(),
+            serials.len(),
+            sums.as_mut_ptr(),
+            sums.len(),
+        )
+    };
+    (code, sums)
+}
+
+/// The code, and the side.
+pub fn map_text(text: &[u8], greys: &mut [u8]) -> (u32, u32) {
+    let mut side = UNWRITTEN;
+    // SAFETY: each pointer and length is that of a slice, and `side` is a local.
+    let code = unsafe { c::rulmedei_map_text(text.as_ptr(), text.len(), greys.as_mut_ptr(), greys.len(), &mut side) };
+    (code, side)
+}
+
+/// The code, and the list's length.
+pub fn drill_list(progress: Progress, pyramid: &[i64], serials: &[u32], order: &[u32], out: &mut [u8]) -> (u32, usize) {
+    let mut length = usize::MAX;
+    // SAFETY: each pointer and length is that of a slice, and `length` is a local.
+    let code = unsafe {
+        c::rulmedei_drill_list(
+            progress.side,
+            progress.dots,
+            pyramid.as_ptr(),
+            pyramid.len(),
+            serials.as_ptr(),
+            serials.len(),
+            order.as_ptr(),
+            order.len(),
+            out.as_mut_ptr(),
+            out.len(),
+            &mut length,
+        )
+    };
+    (code, length)
+}

@@ -1,0 +1,109 @@
+//! Grey maps to ordered lists of holes: the six calls of the proved library, on slices that the caller lends. No call asks anything of its
+//! arguments; what doesn't fit is refused, and a refused call leaves every buffer as it was.
+//!
+//! Map Text reads a map, Load fills the buffers, Advance makes holes until it is finished, and Drill List writes them down
+//! (`examples/list.rs`). Tally and Levels look at what was made.
+
+#[cfg(not(all(target_arch = "x86_64", target_os = "linux")))]
+compile_error!("the proved library is compiled for x86-64 Linux");
+
+mod c;
+pub mod codes;
+mod refusal;
+
+pub use refusal::Refusal;
+
+use refusal::{did, MORE};
+
+/// The record that goes from call to call: the side and the holes made so far.
+#[derive(Clone, Copy, Debug, PartialEq, Eq)]
+pub struct Progress {
+    pub side: u32,
+    pub dots: u32,
+}
+
+/// What Advance answers: the new record, the holes made in this call, and whether none are due any more.
+#[derive(Clone, Copy, Debug, PartialEq, Eq)]
+pub struct Advanced {
+    pub progress: Progress,
+    pub made: u32,
+    pub finished: bool,
+}
+
+/// The length that greys, serials and order need: the cells of a map, N². The side is one of 2, 4, 8 .. 256.
+pub fn cells(side: u32) -> usize {
+    side as usize * side as usize
+}
+
+/// The length that the pyramid needs: (4N² − 1) / 3.
+pub fn pyramid_length(side: u32) -> usize {
+    cells(side).saturating_mul(4).saturating_sub(1) / 3
+}
+
+/// Load: fills the pyramid from the greys and sets the cells of serials and order to 0. Refusals: 1, 2, 3, 4.
+pub fn load(
+    side: u32,
+    greys: &[u8],
+    pyramid: &mut [i64],
+    serials: &mut [u32],
+    order: &mut [u32],
+) -> Result<Progress, Refusal> {
+    let (code, record) = codes::load(side, greys, pyramid, serials, order);
+    did(code)?;
+    Ok(record)
+}
+
+/// Advance: makes the holes that are due, at most `budget` of them, from the record that the call before returned, on the same buffers.
+/// Refusals: 1, 3, 4, 5.
+pub fn advance(
+    progress: Progress,
+    budget: u32,
+    pyramid: &mut [i64],
+    serials: &mut [u32],
+    order: &mut [u32],
+) -> Result<Advanced, Refusal> {
+    let (code, progress, made) = codes::advance(progress, budget, pyramid, serials, order);
+    let finished = code != MORE;
+    if finished {
+        did(code)?;
+    }
+    Ok(Advanced { progress, made, finished })
+}
+
+/// Tally: the holes of the aligned square (row, column) of a level; level 0 is the whole map, and level k has 2^k by 2^k squares.
+/// Refusals: 1, 4, 6.
+pub fn tally(side: u32, serials: &[u32], level: u32, row: u32, column: u32) -> Result<u32, Refusal> {
+    let (code, dots) = codes::tally(side, serials, level, row, column);
+    did(code)?;
+    Ok(dots)
+}
+
+/// Levels: for each level, level 0 first, the sum over its squares of the square of their summed errors; 0 past the map's last level.
+/// Refusals: 1, 2, 4.
+pub fn levels(side: u32, greys: &[u8], serials: &[u32]) -> Result<[u64; 9], Refusal> {
+    let (code, sums) = codes::levels(side, greys, serials);
+    did(code)?;
+    Ok(sums)
+}
+
+/// Map Text: reads a line with the side, then a line of greys, parted by commas, for each row; returns the side. Refusals: 7 for the first
+/// line, then 1, 2, then 7 for the rest.
+pub fn map_text(text: &[u8], greys: &mut [u8]) -> Result<u32, Refusal> {
+    let (code, side) = codes::map_text(text, greys);
+    did(code)?;
+    Ok(side)
+}
+
+/// Drill List: writes a line "holes,side", then for each hole in order a line "serial,row,column"; returns the number of bytes. Those past
+/// it stay. Refusals: 1, 3, 4, 5, 8.
+pub fn drill_list(
+    progress: Progress,
+    pyramid: &[i64],
+    serials: &[u32],
+    order: &[u32],
+    out: &mut [u8],
+) -> Result<usize, Refusal> {
+    let (code, length) = codes::drill_list(progress, pyramid, serials, order, out);
+    did(code)?;
+    Ok(length)
+}

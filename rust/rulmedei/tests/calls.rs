@@ -1,0 +1,127 @@
+//! The calls on document 01's example, a map of side 2 with four greys of 128, and each refusal once.
+
+use rulmedei::{
+    advance, cells, drill_list, levels, load, map_text, pyramid_length, tally, Advanced, Progress, Refusal,
+};
+
+const GREYS: [u8; 4] = [128; 4];
+const LIST: &[u8] = b"2,2\n1,0,0\n2,1,1\n";
+
+/// Buffers one place longer than needed, with 9s in them.
+struct Sheet {
+    pyramid: [i64; 6],
+    serials: [u32; 5],
+    order: [u32; 5],
+}
+
+impl Sheet {
+    fn new() -> Sheet {
+        Sheet { pyramid: [9; 6], serials: [9; 5], order: [9; 5] }
+    }
+
+    fn load(&mut self) -> Result<Progress, Refusal> {
+        load(2, &GREYS, &mut self.pyramid, &mut self.serials, &mut self.order)
+    }
+
+    fn advance(&mut self, progress: Progress, budget: u32) -> Result<Advanced, Refusal> {
+        advance(progress, budget, &mut self.pyramid, &mut self.serials, &mut self.order)
+    }
+
+    fn list(&self, progress: Progress, out: &mut [u8]) -> Result<usize, Refusal> {
+        drill_list(progress, &self.pyramid, &self.serials, &self.order, out)
+    }
+}
+
+fn record(dots: u32) -> Progress {
+    Progress { side: 2, dots }
+}
+
+/// The example with its two holes made.
+fn finished() -> Sheet {
+    let mut sheet = Sheet::new();
+    let start = sheet.load().unwrap();
+    assert_eq!(sheet.advance(start, u32::MAX), Ok(Advanced { progress: record(2), made: 2, finished: true }));
+    sheet
+}
+
+#[test]
+fn load_fills_the_buffers() {
+    let mut sheet = Sheet::new();
+    assert_eq!(sheet.load(), Ok(record(0)));
+    assert_eq!(sheet.pyramid, [131072, 32768, 32768, 32768, 32768, 9]);
+    assert_eq!(sheet.serials, [0, 0, 0, 0, 9]);
+    assert_eq!(sheet.order, [0, 0, 0, 0, 9]);
+}
+
+#[test]
+fn advance_says_more_until_it_is_finished() {
+    let mut sheet = Sheet::new();
+    let start = sheet.load().unwrap();
+    let first = sheet.advance(start, 1).unwrap();
+    assert_eq!(first, Advanced { progress: record(1), made: 1, finished: false });
+    let second = sheet.advance(first.progress, 1).unwrap();
+    assert_eq!(second, Advanced { progress: record(2), made: 1, finished: true });
+    assert_eq!(sheet.advance(second.progress, 1), Ok(Advanced { progress: record(2), made: 0, finished: true }));
+    assert_eq!(sheet.serials, [1, 0, 0, 2, 9]);
+    assert_eq!(sheet.order, [0, 3, 0, 0, 9]);
+}
+
+#[test]
+fn drill_list_writes_the_list() {
+    let mut out = [9; 20];
+    let length = finished().list(record(2), &mut out).unwrap();
+    assert_eq!(&out[..length], LIST);
+    assert!(out[length..].iter().all(|byte| *byte == 9));
+}
+
+#[test]
+fn tally_counts_holes() {
+    let sheet = finished();
+    assert_eq!(tally(2, &sheet.serials, 0, 0, 0), Ok(2));
+    assert_eq!(tally(2, &sheet.serials, 1, 0, 0), Ok(1));
+    assert_eq!(tally(2, &sheet.serials, 1, 0, 1), Ok(0));
+}
+
+#[test]
+fn levels_sums_squares() {
+    let whole = 2 * 128 - 2 * 127;
+    let of_cells = 2 * 128 * 128 + 2 * 127 * 127;
+    assert_eq!(levels(2, &GREYS, &finished().serials), Ok([whole * whole, of_cells, 0, 0, 0, 0, 0, 0, 0]));
+}
+
+#[test]
+fn map_text_reads_a_map() {
+    let mut greys = [9; 5];
+    assert_eq!(map_text(b"2\n1,20\n255,0\n", &mut greys), Ok(2));
+    assert_eq!(greys, [1, 20, 255, 0, 9]);
+}
+
+#[test]
+fn lengths_are_the_header_s() {
+    let sides = [2, 4, 8, 16, 32, 64, 128, 256];
+    assert_eq!(sides.map(cells), [4, 16, 64, 256, 1024, 4096, 16384, 65536]);
+    assert_eq!(sides.map(pyramid_length), [5, 21, 85, 341, 1365, 5461, 21845, 87381]);
+}
+
+#[test]
+fn each_refusal() {
+    let sheet = finished();
+    let mut out = [9; 15];
+    assert_eq!(load(3, &GREYS, &mut [], &mut [], &mut []), Err(Refusal::SideUnknown));
+    assert_eq!(load(2, &GREYS[1..], &mut [], &mut [], &mut []), Err(Refusal::GreysShort));
+    assert_eq!(load(2, &GREYS, &mut [0; 4], &mut [], &mut []), Err(Refusal::PyramidShort));
+    assert_eq!(load(2, &GREYS, &mut [0; 5], &mut [0; 4], &mut [0; 3]), Err(Refusal::SheetShort));
+    assert_eq!(sheet.list(record(1), &mut out), Err(Refusal::SheetUnsound));
+    assert_eq!(tally(2, &sheet.serials, 1, 0, 2), Err(Refusal::BlockUnknown));
+    assert_eq!(map_text(b"2\n1,20\n256,0\n", &mut [0; 4]), Err(Refusal::TextMalformed));
+    assert_eq!(sheet.list(record(2), &mut out), Err(Refusal::OutputShort));
+    assert_eq!(out, [9; 15]);
+}
+
+#[test]
+fn a_refused_advance_changes_nothing() {
+    let mut sheet = finished();
+    let serials = sheet.serials;
+    assert_eq!(sheet.advance(record(1), 1).map_err(Refusal::number), Err(5));
+    assert_eq!(sheet.serials, serials);
+}
