@@ -56,15 +56,15 @@ extern "C" {
 
 /*
  * Load: fills the pyramid from the greys (by row, then column) and sets the cells of serials and order to 0. The record is written to
- * record_side and record_dots: the side and 0 holes, or 0 and 0 where it refuses. Refusals: 1, 2, 3, 4.
+ * progress_side and progress_dots: the side and 0 holes, or 0 and 0 where it refuses. Refusals: 1, 2, 3, 4.
  */
 uint32_t rulmedei_load(uint32_t side,
                        const uint8_t *greys, size_t greys_length,
                        int64_t *pyramid, size_t pyramid_length,
                        uint32_t *serials, size_t serials_length,
                        uint32_t *order, size_t order_length,
-                       uint32_t *record_side,
-                       uint32_t *record_dots);
+                       uint32_t *progress_side,
+                       uint32_t *progress_dots);
 
 /*
  * Advance: makes the holes that are due, at most `budget` of them, from the record (side, dots) that the call before returned, on the same

@@ -3,10 +3,10 @@ use mathlib.Core.Path.{_≡_, refl, sym, ap, _∙_}
 use mathlib.Core.List.{List, [], _∷_, _++_}
 use Prim.Native.Nat.{ℕ, zero, suc, _+_, _/_, _%_, _^_, _<_, _≤_}
 use native.Mathlib.Decide.{decLt}
-use native.Mathlib.Nat.{add-assoc, add-suc, suc-add, add-zero, pow-suc, div-lt-iff-lt-mul}
+use native.Mathlib.Nat.{add-assoc, add-suc, suc-add, add-zero, zero-add, pow-suc, div-lt-iff-lt-mul}
 use native.Mathlib.Omega.{arith}
-use lib.ListN.{length, set, length-append}
-use lib.Seq.{sets, set-out, length-sets}
+use lib.ListN.{length, drop, set, length-append}
+use lib.Seq.{sets, sets-eq, set-out, length-sets}
 use Rattle.definition.specs.Text.{decimal}
 use Rattle.grammar.specs.Decimal.{decimal-below-ten, decimal-from-ten}
 
@@ -36,6 +36,15 @@ wrote-append {l} {l₁} {l₂} {a} {b} {at} {r} {s} x y =
 
 pub wrote-length : {l l₁ a : List ℕ} {at r : ℕ} → Wrote l at a r l₁ → length l₁ ≡ length l
 wrote-length {l} {l₁} {a} {at} x = ap length (x .stored) ∙ length-sets l at a
+
+-- all of them, where the buffer has room from its first place on
+pub sets-front : (bytes l : List ℕ) → length bytes ≤ length l → sets l 0 bytes ≡ bytes ++ drop (length bytes) l
+sets-front bytes l h = sets-eq bytes l 0 (omega arith) ∙ rw (zero-add (length bytes))
+
+-- a part lent of no places leaves the buffer as it is
+pub empty-front : (front l : List ℕ) → length front ≡ 0 → front ++ l ≡ l
+empty-front [] l z = refl
+empty-front (x ∷ front) l z = absurd (omega arith)
 
 -- ---- one byte
 pub byte-inside : (l : List ℕ) (at b : ℕ) → Wrote l at (b ∷ []) (at + 1) (set l at b)
@@ -71,12 +80,15 @@ length-decimal (suc digits) n p h =
 
 -- a 64-bit number has at most 20 digits
 module _ (n : ℕ) (small : n < 2 ^ 64) where
+  pub length-number : length (decimal n) ≤ 20
+  length-number = length-decimal 20 n (omega arith) (omega arith)
+
   pub number-end : {l l₁ : List ℕ} {at r : ℕ} → Wrote l at (decimal n) r l₁ → r ≤ at + 20
-  number-end w = omega (arith, w .place, length-decimal 20 n (omega arith) (omega arith))
+  number-end w = omega (arith, w .place, length-number)
 
   pub length-fieldText : (end : ℕ) → length (fieldText n end) ≤ 21
   unfolding fieldText
-  length-fieldText end = omega (arith, length-append (decimal n) (end ∷ []), length-decimal 20 n (omega arith) (omega arith))
+  length-fieldText end = omega (arith, length-append (decimal n) (end ∷ []), length-number)
 
   pub field-end : {l l₁ : List ℕ} {at r : ℕ} (end : ℕ) → Wrote l at (fieldText n end) r l₁ → r ≤ at + 21
   field-end end w = omega (arith, w .place, length-fieldText end)

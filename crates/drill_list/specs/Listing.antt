@@ -1,13 +1,11 @@
 -- The list written line by line, and into a buffer that has room for it or not.
 use mathlib.Core.Path.{_≡_, refl, sym, ap, _∙_}
-use mathlib.Core.Bool.{Bool, true, false}
 use mathlib.Core.List.{List, [], _∷_, _++_, append-assoc, append-nil}
 use Prim.Native.Nat.{ℕ, zero, suc, _+_, _/_, _%_, _^_, _<_, _≤_}
 use native.Mathlib.Nat.{zero-add, add-zero, div-le-self, mod-le}
 use native.Mathlib.Numerals.{add-one}
 use native.Mathlib.Omega.{arith}
-use borrow.Author.Tests.{ltb-false}
-use lib.Dec.{ltb}
+use borrow.Author.Tests.{lt-ltb, le-ltb}
 use lib.Pow.{pow-pos, pow-mono}
 use lib.ListN.{length, getD, take, drop, length-append}
 use lib.Seq.{sets, sets-eq, take-suc, length-take-le, append-snoc}
@@ -17,7 +15,7 @@ use Rattle.definition.specs.Text.{comma, newline, decimal, line}
 use Rattle.definition.specs.DrillList.{dotLines, DrillListOutcome}
 use Rattle.definition.specs.declared.Refusal.the-variants.{OutputShort}
 use Rattle.definition.specs.declared.DrillListAnswer.the-variants.{Length, Refused}
-use Rattle.decimals.specs.Writing.{fieldText, length-fieldText, Wrote, wrote-none, wrote-append}
+use Rattle.decimals.specs.Writing.{fieldText, length-number, Wrote, wrote-none, wrote-append, wrote-length, sets-front, empty-front}
 
 -- the list of the first `dots` cells of an order list
 unfoldable pub listText : ℕ → ℕ → List ℕ → List ℕ
@@ -85,33 +83,31 @@ module _ {l l₁ l₂ : List ℕ} {at a b : ℕ} (r : ℕ) (order : List ℕ) (j
           ∙ dotLines-snoc r 1 (take j order) (getD order j 0)
           ∙ rw (length-take-le j order (omega arith), e)
 
--- ---- where a line ends
+-- ---- how long a line is, and where it ends
+pub length-two : (a b : ℕ) → length (line (a ∷ b ∷ [])) ≡ length (decimal a) + length (decimal b) + 2
+unfolding line
+length-two a b = omega (arith, length-append (decimal a) (comma ∷ (decimal b ++ newline ∷ [])), length-append (decimal b) (newline ∷ []))
+
+pub length-three : (a b c : ℕ) → length (line (a ∷ b ∷ c ∷ [])) ≡ length (decimal a) + length (decimal b) + length (decimal c) + 3
+unfolding line
+length-three a b c = omega (arith, length-append (decimal a) (comma ∷ line (b ∷ c ∷ [])), length-two b c)
+
 module _ {l l₁ : List ℕ} {at next : ℕ} (r : ℕ) where
   pub head-end : (dots : ℕ) → dots < 2 ^ 64 → r ≤ 8 → Wrote l at (line (dots ∷ 2 ^ r ∷ [])) next l₁ → next ≤ at + 42
   head-end dots p small w =
-      omega (
-        arith,
-        w .place,
-        ap length (line-two dots (2 ^ r)),
-        length-append (fieldText dots comma) (fieldText (2 ^ r) newline),
-        length-fieldText dots p comma,
-        length-fieldText (2 ^ r) (omega (arith, pow-mono {i = r} {j = 8} small)) newline,
-      )
+      omega (arith, w .place, length-two dots (2 ^ r), length-number dots p, length-number (2 ^ r) (omega (arith, pow-mono {i = r} {j = 8} small)))
 
   pub dot-end : (serial cell : ℕ) → serial < 2 ^ 64 → cell < 2 ^ 64 → Wrote l at (line (serial ∷ cell / 2 ^ r ∷ cell % 2 ^ r ∷ [])) next l₁ → next ≤ at + 63
   dot-end serial cell p q w =
-      let x = fieldText serial comma in
-      let y = fieldText (cell / 2 ^ r) comma in
-      let z = fieldText (cell % 2 ^ r) newline in
+      let row = cell / 2 ^ r in
+      let column = cell % 2 ^ r in
       omega (
         arith,
         w .place,
-        ap length (line-three serial (cell / 2 ^ r) (cell % 2 ^ r)),
-        length-append x (y ++ z),
-        length-append y z,
-        length-fieldText serial p comma,
-        length-fieldText (cell / 2 ^ r) (omega (arith, div-le-self cell (2 ^ r))) comma,
-        length-fieldText (cell % 2 ^ r) (omega (arith, mod-le cell (2 ^ r))) newline,
+        length-three serial row column,
+        length-number serial p,
+        length-number row (omega (arith, div-le-self cell (2 ^ r))),
+        length-number column (omega (arith, mod-le cell (2 ^ r))),
       )
 
 -- ---- the whole list
@@ -121,31 +117,21 @@ unfolding listText
 list-wrote r dots order x y = wrote-append x y
 
 -- first into none of the buffer's places, which tells its length; then into all of them
-sets-nil : (i : ℕ) (bytes : List ℕ) → sets [] i bytes ≡ []
-sets-nil i [] = refl
-sets-nil i (b ∷ bytes) = sets-nil (suc i) bytes
-
 module _ (list output : List ℕ) {n : ℕ} {part : List ℕ} (w : Wrote (take 0 output) 0 list n part) where
   untouched : part ++ drop 0 output ≡ output
-  untouched = rw (w .stored, sets-nil 0 list)
+  untouched = empty-front part output (wrote-length w)
 
   long : n ≡ length list
   long = w .place ∙ zero-add (length list)
 
-  module _ {short : Bool} (e : short ≡ ltb (length (part ++ drop 0 output)) n) where
-    -- the code's test is the table's
-    short-is : ltb (length output) (length list) ≡ short
-    short-is = sym (e ∙ rw (untouched, long))
+  pub list-short : length (part ++ drop 0 output) < n
+      → record { said = drillListSays (Refused OutputShort); output = part ++ drop 0 output } ≡ listedIn list output
+  unfolding listedIn lowest drillListSays numberOf
+  list-short h = rw (untouched, lt-ltb (length output) (length list) (omega (arith, long, ap length untouched)), listedIn)
 
-    pub list-short : short ≡ true → record { said = drillListSays (Refused OutputShort); output = part ++ drop 0 output } ≡ listedIn list output
-    unfolding listedIn lowest drillListSays numberOf
-    list-short h = rw (untouched, short-is, h, listedIn)
-
-    pub list-written : short ≡ false → {m : ℕ} {after : List ℕ} → Wrote (part ++ drop 0 output) 0 list m after
-        → record { said = drillListSays (Length m); output = after } ≡ listedIn list output
-    unfolding listedIn lowest drillListSays
-    list-written h {m} {after} v =
-        let room : length list ≤ length output = ltb-false (length output) (length list) (short-is ∙ h) in
-        let e : after ≡ list ++ drop (length list) output =
-        v .stored ∙ ap (λ (x : List ℕ). sets x 0 list) untouched ∙ sets-eq list output 0 (omega arith) ∙ rw (zero-add (length list)) in
-        rw (e, v .place, zero-add (length list), short-is, h, listedIn)
+  pub list-written : n ≤ length (part ++ drop 0 output) → {m : ℕ} {after : List ℕ} → Wrote (part ++ drop 0 output) 0 list m after
+      → record { said = drillListSays (Length m); output = after } ≡ listedIn list output
+  unfolding listedIn lowest drillListSays
+  list-written h v =
+      let room : length list ≤ length output = omega (arith, long, ap length untouched) in
+      rw (v .stored, untouched, sets-front list output room, v .place, zero-add (length list), le-ltb (length output) (length list) room, listedIn)

@@ -6,7 +6,6 @@ use definition::Refusal;
 ghost use mathlib.Core.Path.{_≡_};
 ghost use mathlib.Core.List.{[], _∷_};
 ghost use Prim.Native.Nat.{_/_, _%_, _^_, _≤_};
-ghost use lib.Dec.{ltb};
 ghost use lib.ListN.{length, take};
 ghost use Rattle.definition.specs.Answers.{drillListSays};
 ghost use Rattle.definition.specs.Text.{line};
@@ -58,20 +57,13 @@ fn put_list(out: &mut [u8], order: &[u32], dots: usize, r: usize) -> usize
     put_dots(out, at, order, dots, r)
 }
 
-// Whether a buffer of `room` places is too short for a list.
-fn is_short(room: usize, length: usize) -> bool
-    ensures { λ b. ⌜ b ≡ ltb room length ⌝ }
-{
-    room < length
-}
-
 // Works out the list's length, then writes it where there is room.
 fn write_list(out: &mut [u8], order: &[u32], dots: usize, r: usize) -> DrillListAnswer
     requires { ⌜ ListAsked r dots (length (now order)) ⌝ }
     ensures { λ a. ⌜ record { said = drillListSays a; output = now (out .exit) } ≡ listedIn (listText r dots (now (order .entry))) (now (out .entry)) ⌝ }
 {
     let length = put_list(&mut out[..0], order, dots, r);
-    if is_short(out.len(), length) {
+    if out.len() < length {
         return DrillListAnswer::Refused(Refusal::OutputShort);
     }
     let written = put_list(out, order, dots, r);

@@ -4,10 +4,9 @@ use mathlib.Core.Bool.{Bool, true, false, not, cond}
 use mathlib.Core.List.{List, [], _∷_, _++_}
 use mathlib.Core.Option.{some, none, map-eq-none-iff, map-eq-some-iff, Option·some-injective, Option·some-ne-none}
 use Prim.Native.Nat.{ℕ, suc, _-_, _*_, _<_, _≤_}
-use native.Mathlib.Nat.{zero-add}
 use native.Mathlib.Omega.{arith}
 use lib.ListN.{length, drop}
-use lib.Seq.{sets, sets-eq}
+use lib.Seq.{sets}
 use borrow.Author.Tests.{not-true, not-false}
 use Rattle.definition.specs.Answers.{mapTextSays, numberOf}
 use Rattle.definition.specs.Refusals.{powerOf}
@@ -24,6 +23,7 @@ use Rattle.checks.specs.declared.Check.the-variants.{Passed, Failed}
 use Rattle.grammar.specs.Lines.{length-repeated-lineEnds, fields-of-values}
 use Rattle.grammar.specs.Grammar.{mapTextRefusal-none-iff}
 use Rattle.decimals.specs.Reading.{fieldIn}
+use Rattle.decimals.specs.Writing.{sets-front, empty-front}
 use Rattle.decimals.specs.declared.Number.{Number}
 use Rattle.decimals.specs.declared.Number.the-variants.{Read, Malformed}
 use Rattle.map_text.specs.Greys.{mapEnds, greysFrom, GreysRead}
@@ -32,11 +32,6 @@ use Rattle.map_text.specs.Greys.{mapEnds, greysFrom, GreysRead}
 pub record FirstLine (text : List ℕ) (room side from : ℕ) : Type 0 where
   pub line : fieldOf 999 newline text ≡ field side (drop from text)
   pub no-refusal : mapTextRefusal (powerOf side) room ≡ 0
-
--- a part lent that is empty leaves nothing
-pub empty-front : (front l : List ℕ) → length front ≡ 0 → front ++ l ≡ l
-empty-front [] l z = refl
-empty-front (x ∷ front) l z = absurd (omega arith)
 
 -- a run that has values to store finds them all, and leaves them stored
 left-by-all : (all : Bool) {stored after : List ℕ} → some stored ≡ cond all (some after) none → after ≡ stored
@@ -58,7 +53,7 @@ module _ (text greys : List ℕ) (side from : ℕ) (first : FirstLine text (leng
     values-stored : sets greys 0 values ≡ values ++ drop (length values) greys
     values-stored =
         let count = fields-of-values 255 (omega arith) (mapEnds side) (drop from text) values v .count in
-        sets-eq values greys 0 (omega (arith, length-repeated-lineEnds side side (side-in .0), fits)) ∙ rw (zero-add (length values))
+        sets-front values greys (omega (arith, length-repeated-lineEnds side side (side-in .0), fits))
 
     map-read : {all : Bool} {after : List ℕ} → GreysRead text from side greys all after
         → record { said = mapTextSays (Side side); greys = after } ≡ mapTextOf text greys

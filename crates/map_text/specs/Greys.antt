@@ -9,7 +9,7 @@ use native.Mathlib.Nat.{mul-le-mul, suc-mul, mod-eq-of-lt, mod-self, add-mod-lef
 use native.Mathlib.Numerals.{add-one}
 use native.Mathlib.Omega.{arith}
 use lib.Dec.{leb, eqb}
-use lib.ListN.{length, getD, drop, set, length-set, replicate, length-replicate, getD-replicate, List·getD-append, drop-of-length-le}
+use lib.ListN.{length, getD, drop, set, replicate, length-replicate, getD-replicate, List·getD-append, drop-of-length-le}
 use lib.Seq.{sets, drop-cons, getD-at, getD-append-add}
 use borrow.Author.Tests.{eq-eqb, ne-eqb, le-leb, lt-leb}
 use Rattle.definition.specs.Lists.{repeated}
@@ -18,6 +18,7 @@ use Rattle.definition.specs.MapText.{valuesOf}
 use Rattle.grammar.specs.Fields.{text-of-field}
 use Rattle.grammar.specs.Lines.{length-lineEnds, length-repeated-lineEnds}
 use Rattle.decimals.specs.Reading.{fieldIn}
+use Rattle.decimals.specs.Writing.{Wrote, wrote-length}
 use Rattle.decimals.specs.declared.Number.{Number}
 use Rattle.decimals.specs.declared.Number.the-variants.{Read, Malformed}
 
@@ -122,18 +123,18 @@ module _ {text : List ℕ} {from side : ℕ} {before : List ℕ} {at i : ℕ} {b
           let m : fieldOf 255 end (drop at text) ≡ malformed = sym f ∙ ap (fieldIn text) e in
           record { read = l .rest ∙ rw (ends-from, valuesOf, m) }
 
-      pub left-less : {grey next : ℕ} {stored : List ℕ} → number ≡ Read grey next → stored ≡ set buffer i grey
+      pub left-less : {grey next place : ℕ} {stored : List ℕ} → number ≡ Read grey next → Wrote buffer i (grey ∷ []) place stored
           → GreysLeft text from side before next (i + 1) stored
       unfolding greysFrom valuesOf fieldIn
-      left-less {grey} {next} e s =
+      left-less {grey} {next} e w =
           let m : fieldOf 255 end (drop at text) ≡ field grey (drop next text) = sym f ∙ ap (fieldIn text) e in
           record {
             size = l .size;
             most = omega arith;
-            kept = rw (s, length-set) (l .kept);
+            kept = wrote-length w ∙ l .kept;
             rest =
                 l .rest
-                ∙ rw (s, ends-from, valuesOf, m, add-one i)
+                ∙ rw (w .stored, ends-from, valuesOf, m, add-one i)
                 (stored-cons buffer i grey (valuesOf 255 (drop (suc i) (mapEnds side)) (drop next text)));
           }
 

@@ -5,7 +5,7 @@ use definition::MapTextAnswer;
 use definition::Refusal;
 ghost use mathlib.Core.Path.{_≡_};
 ghost use Prim.Native.Nat.{_*_, _≤_, _<_};
-ghost use lib.ListN.{length, set};
+ghost use lib.ListN.{length};
 ghost use Rattle.definition.specs.Answers.{mapTextSays};
 ghost use Rattle.definition.specs.MapText.{mapTextRefusal, mapTextOf};
 ghost use Rattle.checks.specs.Checks.{checked};
@@ -23,16 +23,6 @@ fn end_at(side: usize, i: usize) -> u8
     44
 }
 
-// Stores a grey, if the buffer has the place.
-fn put_grey(greys: &mut [u8], i: usize, grey: u8)
-    ensures { λ _. ⌜ now (greys .exit) ≡ set (now (greys .entry)) i grey ⌝ }
-{
-    if i < greys.len() {
-        greys[i] = grey;
-        return;
-    }
-}
-
 // Reads the greys of a map from a place of the text on, and stores those for which the part lent has a place: none in an empty one.
 // Tells whether they are all there, with nothing behind them.
 fn read_greys(text: &[u8], from: usize, side: usize, greys: &mut [u8]) -> bool
@@ -46,7 +36,7 @@ fn read_greys(text: &[u8], from: usize, side: usize, greys: &mut [u8]) -> bool
         let Number::Read(grey, next) = decimals::read_number(text, at, 255, end_at(side, i)) else {
             return false;
         };
-        put_grey(greys, i, grey as u8);
+        decimals::put_byte(greys, i, grey as u8);
         at = next;
         i += 1;
     }

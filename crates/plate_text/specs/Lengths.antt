@@ -10,11 +10,12 @@ use lib.ListN.{length, getD, take, length-append, length-take}
 use lib.Seq.{getD-take}
 use Rattle.definition.specs.Pyramid.{cellCount, needed}
 use Rattle.definition.specs.Model.{Halftone}
-use Rattle.definition.specs.Text.{comma, newline, decimal, line}
+use Rattle.definition.specs.Text.{line}
 use Rattle.definition.specs.DrillList.{dotLines, drillText}
 use Rattle.quadtree.specs.Levels.{start-thrice, quadruple}
 use Rattle.dots.specs.Steps.{Sheet}
 use Rattle.decimals.specs.Writing.{length-decimal}
+use Rattle.drill_list.specs.Listing.{length-two, length-three}
 
 -- a map of at most 1,024 cells
 module _ (r : ℕ) (few : cellCount r ≤ 1024) where
@@ -29,31 +30,17 @@ module _ (r : ℕ) (few : cellCount r ≤ 1024) where
   needed-few = omega (arith, start-thrice (suc r), quadruple r)
 
 -- ---- lines
-line-two : (a b : ℕ) → length (line (a ∷ b ∷ [])) ≡ length (decimal a) + length (decimal b) + 2
-unfolding line
-line-two a b = omega (arith, length-append (decimal a) (comma ∷ (decimal b ++ newline ∷ [])), length-append (decimal b) (newline ∷ []))
-
-line-three : (a b c : ℕ) → length (line (a ∷ b ∷ c ∷ [])) ≡ length (decimal a) + length (decimal b) + length (decimal c) + 3
-unfolding line
-line-three a b c =
-    omega (
-      arith,
-      length-append (decimal a) (comma ∷ (decimal b ++ comma ∷ (decimal c ++ newline ∷ []))),
-      length-append (decimal b) (comma ∷ (decimal c ++ newline ∷ [])),
-      length-append (decimal c) (newline ∷ []),
-    )
-
 module _ (r : ℕ) (few : cellCount r ≤ 1024) where
   head-length : (dots : ℕ) → dots ≤ 1024 → length (line (dots ∷ 2 ^ r ∷ [])) ≤ 8
   head-length dots h =
-      omega (arith, line-two dots (2 ^ r), length-decimal 4 dots (omega arith) (omega arith), length-decimal 2 (2 ^ r) (omega arith) (omega (arith, side-few r few)))
+      omega (arith, length-two dots (2 ^ r), length-decimal 4 dots (omega arith) (omega arith), length-decimal 2 (2 ^ r) (omega arith) (omega (arith, side-few r few)))
 
   dot-length : (j cell : ℕ) → j ≤ 1024 → cell < cellCount r → length (line (j ∷ cell / 2 ^ r ∷ cell % 2 ^ r ∷ [])) ≤ 11
   dot-length j cell h k =
       let row : cell / 2 ^ r < 2 ^ r = div-lt-iff-lt-mul (pow-pos r) .1 k in
       omega (
         arith,
-        line-three j (cell / 2 ^ r) (cell % 2 ^ r),
+        length-three j (cell / 2 ^ r) (cell % 2 ^ r),
         length-decimal 4 j (omega arith) (omega arith),
         length-decimal 2 (cell / 2 ^ r) (omega arith) (omega (arith, side-few r few)),
         length-decimal 2 (cell % 2 ^ r) (omega arith) (omega (arith, side-few r few, mod-lt cell {m = 2 ^ r} (pow-pos r))),

@@ -6,10 +6,10 @@ use native.Mathlib.Nat.{zero-add}
 use native.Mathlib.Numerals.{add-one}
 use native.Mathlib.Omega.{arith}
 use lib.ListN.{length, getD, take, drop, length-append}
-use lib.Seq.{sets-eq, take-all, take-at, take-suc}
+use lib.Seq.{take-all, take-at, take-suc}
 use Rattle.definition.specs.Text.{line}
 use Rattle.definition.specs.Plate.{refusedText}
-use Rattle.decimals.specs.Writing.{Wrote, wrote-append, fieldText, length-fieldText}
+use Rattle.decimals.specs.Writing.{Wrote, wrote-append, sets-front, fieldText, length-fieldText}
 
 -- the first n bytes are the text, and what lay behind them stays
 pub record Printed (text before : List ℕ) (n : ℕ) (after : List ℕ) : Type 0 where
@@ -22,7 +22,7 @@ wrote-printed {text} {before} room w =
     record {
       room = room;
       count = w .place ∙ zero-add (length text);
-      written = w .stored ∙ sets-eq text before 0 (omega arith) ∙ rw (zero-add (length text));
+      written = w .stored ∙ sets-front text before room;
     }
 
 module _ {text before after : List ℕ} {n : ℕ} (h : Printed text before n after) where

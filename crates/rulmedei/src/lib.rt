@@ -12,7 +12,7 @@ ghost use lib.ListN.{set};
 ghost use lib.Seq.{sets};
 ghost use Rattle.rulmedei.specs.Codes.{loadCode, advanceCode, tallyCode, levelsCode, mapTextCode, drillListCode};
 
-// Load. The record is written to `record_side` and `record_dots`.
+// Load. The record is written to `progress_side` and `progress_dots`.
 #[no_mangle]
 pub extern "C" fn rulmedei_load(
     side: u32,
@@ -20,15 +20,15 @@ pub extern "C" fn rulmedei_load(
     pyramid: &mut [i64],
     serials: &mut [u32],
     order: &mut [u32],
-    record_side: &mut u32,
-    record_dots: &mut u32,
+    progress_side: &mut u32,
+    progress_dots: &mut u32,
 ) -> u32
-    ensures { λ n. ⌜ record { code = n; side = now (record_side .exit); dots = now (record_dots .exit); pyramid = now (pyramid .exit); serials = now (serials .exit); order = now (order .exit) } ≡ loadCode side (now (greys .entry)) (now (pyramid .entry)) (now (serials .entry)) (now (order .entry)) ⌝ }
+    ensures { λ n. ⌜ record { code = n; side = now («progress_side» .exit); dots = now («progress_dots» .exit); pyramid = now (pyramid .exit); serials = now (serials .exit); order = now (order .exit) } ≡ loadCode side (now (greys .entry)) (now (pyramid .entry)) (now (serials .entry)) (now (order .entry)) ⌝ }
 {
     let answer = load::load(side, greys, pyramid, serials, order);
     let progress = answer.progress;
-    *record_side = progress.side;
-    *record_dots = progress.dots;
+    *progress_side = progress.side;
+    *progress_dots = progress.dots;
     let status = answer.status;
     match status {
         LoadStatus::Loaded => 0,

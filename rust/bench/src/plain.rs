@@ -53,20 +53,20 @@ pub fn advance(
     }
     let mut made = 0;
     while made < budget && pyramid[0] >= HALF_DOT {
-        burn(power, dots + made, pyramid, serials, order);
+        place_dot(power, dots + made, pyramid, serials, order);
         made += 1;
     }
     Some(dots + made)
 }
 
 /// One hole.
-fn burn(power: usize, dots: u32, pyramid: &mut [i64], serials: &mut [u32], order: &mut [u32]) {
+fn place_dot(power: usize, dots: u32, pyramid: &mut [i64], serials: &mut [u32], order: &mut [u32]) {
     let (row, column) = descend(power, pyramid);
     let cell = (row << power) + column;
     let place = level_start(power) + cell;
     let lacking = DOT - pyramid[place];
     pyramid[place] = 0;
-    spread(power, row, column, lacking, &mut pyramid[level_start(power)..]);
+    diffuse(power, row, column, lacking, &mut pyramid[level_start(power)..]);
     serials[cell] = dots + 1;
     order[dots as usize] = cell as u32;
     renew(power, pyramid);
@@ -92,7 +92,7 @@ fn entry(level: usize, (row, column): (usize, usize), pyramid: &[i64]) -> i64 {
 }
 
 /// The shares of the neighbours on the map, by running floors.
-fn spread(power: usize, row: usize, column: usize, lacking: i64, cells: &mut [i64]) {
+fn diffuse(power: usize, row: usize, column: usize, lacking: i64, cells: &mut [i64]) {
     let total: i64 = around(power, row, column).map(|(_, weight)| weight).sum();
     let (mut weights, mut given) = (0, 0);
     for (cell, weight) in around(power, row, column) {

@@ -1,6 +1,6 @@
 //! The cases: loads, runs of calls with lent parts and damage between them, sheets that no Load made, noise, and texts.
 
-use reference::{cell_count, power, pyramid_length, renew_all, write_map_text};
+use reference::{cell_count, power, pyramid_length, renew_all, write_map_text, Progress};
 
 use crate::random::Random;
 use crate::side_by_side::{Differs, Lent, Sheet, SideBySide};
@@ -85,9 +85,9 @@ fn run_case(random: &mut Random, calls: &mut SideBySide) -> Result<(), Differs> 
         Sheet { pyramid: vec![-1; pyramid + spare], serials: vec![9; cells + spare], order: vec![9; cells + spare] };
     let all = whole(&sheet);
     calls.load(side, &greys, &mut sheet, all)?;
-    let mut dots = 0;
+    let mut progress = Progress { side, dots: 0 };
     for _ in 0..1 + random.below(10) {
-        dots = one_call(random, calls, side, &greys, &mut sheet, dots)?;
+        progress.dots = one_call(random, calls, progress, &greys, &mut sheet)?;
     }
     Ok(())
 }
@@ -96,20 +96,20 @@ fn run_case(random: &mut Random, calls: &mut SideBySide) -> Result<(), Differs> 
 fn one_call(
     random: &mut Random,
     calls: &mut SideBySide,
-    side: u32,
+    progress: Progress,
     greys: &[u8],
     sheet: &mut Sheet,
-    dots: u32,
 ) -> Result<u32, Differs> {
+    let Progress { side, dots } = progress;
     let lent = lent(random, side, sheet);
     match random.below(12) {
         0 => calls.tally(side, &sheet.serials[..lent.serials], block(random, side)).map(|_| dots),
         1 => calls.levels(side, greys, &sheet.serials[..lent.serials]).map(|_| dots),
-        2 => list(random, calls, side, sheet, lent, dots).map(|_| dots),
-        3..=6 => on_damage(random, calls, side, sheet, lent, dots).map(|_| dots),
+        2 => list(random, calls, progress, sheet, lent).map(|_| dots),
+        3..=6 => on_damage(random, calls, progress, sheet, lent).map(|_| dots),
         _ => {
             let budget = budget(random, side);
-            let after = calls.advance(side, dots, budget, sheet, lent)?;
+            let after = calls.advance(progress, budget, sheet, lent)?;
             Ok(after.values[0] as u32)
         }
     }
@@ -139,16 +139,15 @@ fn block(random: &mut Random, side: u32) -> [u32; 3] {
 fn list(
     random: &mut Random,
     calls: &mut SideBySide,
-    side: u32,
+    progress: Progress,
     sheet: &Sheet,
     lent: Lent,
-    dots: u32,
 ) -> Result<(), Differs> {
     let mut long = vec![46; 16 + 14 * sheet.order.len()];
-    let answer = calls.drill_list(side, dots, sheet, lent, &mut long)?;
+    let answer = calls.drill_list(progress, sheet, lent, &mut long)?;
     let length = random.length(answer.values[0] as usize);
     let mut out = vec![46; length];
-    calls.drill_list(side, dots, sheet, lent, &mut out)?;
+    calls.drill_list(progress, sheet, lent, &mut out)?;
     Ok(())
 }
 
@@ -156,16 +155,15 @@ fn list(
 fn on_damage(
     random: &mut Random,
     calls: &mut SideBySide,
-    side: u32,
+    progress: Progress,
     sheet: &Sheet,
     lent: Lent,
-    dots: u32,
 ) -> Result<(), Differs> {
     let mut damaged = sheet.clone();
-    let (mut side, mut dots) = (side, dots);
+    let mut progress = progress;
     match random.below(8) {
-        0 => side = random.side(),
-        1 => dots = dots.wrapping_add(random.pick(&[1, u32::MAX, 2, 1 << 31])),
+        0 => progress.side = random.side(),
+        1 => progress.dots = progress.dots.wrapping_add(random.pick(&[1, u32::MAX, 2, 1 << 31])),
         2..=4 => {
             let place = random.below(damaged.pyramid.len());
             damaged.pyramid[place] ^= 1 << random.below(64);
@@ -180,9 +178,9 @@ fn on_damage(
         }
     }
     if random.once_in(3) {
-        return list(random, calls, side, &damaged, lent, dots);
+        return list(random, calls, progress, &damaged, lent);
     }
-    calls.advance(side, dots, budget(random, 256), &mut damaged, lent)?;
+    calls.advance(progress, budget(random, 256), &mut damaged, lent)?;
     Ok(())
 }
 
@@ -197,13 +195,13 @@ fn made_up_case(random: &mut Random, calls: &mut SideBySide) -> Result<(), Diffe
     }
     renew_all(power, &mut pyramid);
     let mut sheet = Sheet { pyramid, serials: vec![0; cells], order: vec![0; cells] };
-    let mut dots = 0;
+    let mut progress = Progress { side, dots: 0 };
     for _ in 0..3 {
         let all = whole(&sheet);
-        let after = calls.advance(side, dots, random.budget(), &mut sheet, all)?;
-        dots = after.values[0] as u32;
+        let after = calls.advance(progress, random.budget(), &mut sheet, all)?;
+        progress.dots = after.values[0] as u32;
     }
-    list(random, calls, side, &sheet, whole(&sheet), dots)
+    list(random, calls, progress, &sheet, whole(&sheet))
 }
 
 /// What an unburnt cell of a sound sheet without holes may owe, or now and then a little more or less.
@@ -223,12 +221,12 @@ fn noise_case(random: &mut Random, calls: &mut SideBySide) -> Result<(), Differs
     let count = random.length(cells);
     let greys = random.bytes(count);
     let mut sheet = noise(random, side);
-    let dots = random.below(cells + 2) as u32;
+    let progress = Progress { side, dots: random.below(cells + 2) as u32 };
     let lent = lent(random, side, &sheet);
     calls.tally(side, &sheet.serials[..lent.serials], block(random, side))?;
     calls.levels(side, &greys, &sheet.serials[..lent.serials])?;
-    list(random, calls, side, &sheet, lent, dots)?;
-    calls.advance(side, dots, budget(random, side), &mut sheet, lent)?;
+    list(random, calls, progress, &sheet, lent)?;
+    calls.advance(progress, budget(random, side), &mut sheet, lent)?;
     Ok(())
 }
 

@@ -13,13 +13,13 @@ pub fn load(side: u32, greys: &[u8], pyramid: &mut [i64], serials: &mut [u32], o
 }
 
 pub fn advance(
-    (side, dots): (u32, u32),
+    progress: Progress,
     budget: u32,
     pyramid: &mut [i64],
     serials: &mut [u32],
     order: &mut [u32],
 ) -> Outcome {
-    let answer = reference::advance(Progress { side, dots }, budget, pyramid, serials, order);
+    let answer = reference::advance(progress, budget, pyramid, serials, order);
     let code = match answer.status {
         Ok(Ended::Finished) => 0,
         Ok(Ended::More) => MORE,
@@ -43,14 +43,8 @@ pub fn map_text(text: &[u8], greys: &mut [u8]) -> Outcome {
     Outcome { code: code_of(answer), values: vec![answer.unwrap_or(0).into()] }
 }
 
-pub fn drill_list(
-    (side, dots): (u32, u32),
-    pyramid: &[i64],
-    serials: &[u32],
-    order: &[u32],
-    out: &mut [u8],
-) -> Outcome {
-    let answer = reference::drill_list(Progress { side, dots }, pyramid, serials, order, out);
+pub fn drill_list(progress: Progress, pyramid: &[i64], serials: &[u32], order: &[u32], out: &mut [u8]) -> Outcome {
+    let answer = reference::drill_list(progress, pyramid, serials, order, out);
     Outcome { code: code_of(answer), values: vec![answer.unwrap_or(0) as u64] }
 }
 

@@ -1,6 +1,7 @@
 //! The library's calls with their codes, so that what they write on a refusal is compared too.
 
-use rulmedei::{codes, Progress};
+use reference::Progress;
+use rulmedei::codes;
 
 /// What a call returned, and what it wrote beside the buffers.
 #[derive(Debug, Clone, PartialEq, Eq)]
@@ -15,13 +16,13 @@ pub fn load(side: u32, greys: &[u8], pyramid: &mut [i64], serials: &mut [u32], o
 }
 
 pub fn advance(
-    (side, dots): (u32, u32),
+    progress: Progress,
     budget: u32,
     pyramid: &mut [i64],
     serials: &mut [u32],
     order: &mut [u32],
 ) -> Outcome {
-    let (code, after, made) = codes::advance(Progress { side, dots }, budget, pyramid, serials, order);
+    let (code, after, made) = codes::advance(ours(progress), budget, pyramid, serials, order);
     Outcome { code, values: vec![after.dots.into(), made.into()] }
 }
 
@@ -40,13 +41,12 @@ pub fn map_text(text: &[u8], greys: &mut [u8]) -> Outcome {
     Outcome { code, values: vec![side.into()] }
 }
 
-pub fn drill_list(
-    (side, dots): (u32, u32),
-    pyramid: &[i64],
-    serials: &[u32],
-    order: &[u32],
-    out: &mut [u8],
-) -> Outcome {
-    let (code, length) = codes::drill_list(Progress { side, dots }, pyramid, serials, order, out);
+pub fn drill_list(progress: Progress, pyramid: &[i64], serials: &[u32], order: &[u32], out: &mut [u8]) -> Outcome {
+    let (code, length) = codes::drill_list(ours(progress), pyramid, serials, order, out);
     Outcome { code, values: vec![length as u64] }
+}
+
+/// The record as the library has it.
+fn ours(progress: Progress) -> rulmedei::Progress {
+    rulmedei::Progress { side: progress.side, dots: progress.dots }
 }

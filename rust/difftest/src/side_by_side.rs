@@ -3,6 +3,8 @@
 use std::collections::BTreeMap;
 use std::fmt::Debug;
 
+use reference::Progress;
+
 use crate::expected;
 use crate::library::{self, Outcome};
 
@@ -60,8 +62,7 @@ impl SideBySide {
 
     pub fn advance(
         &mut self,
-        side: u32,
-        dots: u32,
+        progress: Progress,
         budget: u32,
         sheet: &mut Sheet,
         lent: Lent,
@@ -69,20 +70,20 @@ impl SideBySide {
         let before = sheet.clone();
         let mut other = sheet.clone();
         let ours = library::advance(
-            (side, dots),
+            progress,
             budget,
             &mut sheet.pyramid[..lent.pyramid],
             &mut sheet.serials[..lent.serials],
             &mut sheet.order[..lent.order],
         );
         let theirs = expected::advance(
-            (side, dots),
+            progress,
             budget,
             &mut other.pyramid[..lent.pyramid],
             &mut other.serials[..lent.serials],
             &mut other.order[..lent.order],
         );
-        let inputs = (side, dots, budget, &before, lent);
+        let inputs = (progress, budget, &before, lent);
         self.agreed("advance", &inputs, (&ours, &*sheet), (&theirs, &other))?;
         self.counted("advance", ours)
     }
@@ -112,8 +113,7 @@ impl SideBySide {
 
     pub fn drill_list(
         &mut self,
-        side: u32,
-        dots: u32,
+        progress: Progress,
         sheet: &Sheet,
         lent: Lent,
         out: &mut [u8],
@@ -123,9 +123,9 @@ impl SideBySide {
         let pyramid = &sheet.pyramid[..lent.pyramid];
         let serials = &sheet.serials[..lent.serials];
         let order = &sheet.order[..lent.order];
-        let ours = library::drill_list((side, dots), pyramid, serials, order, out);
-        let theirs = expected::drill_list((side, dots), pyramid, serials, order, &mut other);
-        let inputs = (side, dots, sheet, lent, before.len());
+        let ours = library::drill_list(progress, pyramid, serials, order, out);
+        let theirs = expected::drill_list(progress, pyramid, serials, order, &mut other);
+        let inputs = (progress, sheet, lent, before.len());
         self.agreed("drill_list", &inputs, (&ours, &*out), (&theirs, &other[..]))?;
         self.counted("drill_list", ours)
     }

@@ -11,8 +11,8 @@ extern "C" {
         serials_length: usize,
         order: *mut u32,
         order_length: usize,
-        record_side: *mut u32,
-        record_dots: *mut u32,
+        progress_side: *mut u32,
+        progress_dots: *mut u32,
     ) -> u32;
 
     pub fn rulmedei_advance(

@@ -34,6 +34,10 @@ read-greys-spec =
     (λ c κs. search needs)
     (λ c. omega arith)
     (λ c. omega arith)
-    (λ c. search (left-less, needs))
+    (λ c.
+    let read = c .before .before .before .before .before in
+    let turn = read .before .before .before .before in
+    left-less (turn .before .before .before .before .pre .0) (turn .before .loop .inv) (turn .loop-test .taken) (read .before .before .before .end-at .ensures) _
+    (read .before .before .read-number .ensures) (read .grey .given .1) (c .before .before .put-byte .ensures))
     (λ c. search needs)
     nothing-left)

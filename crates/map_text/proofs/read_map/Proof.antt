@@ -1,6 +1,7 @@
 -- `map_text::read_map`: a run that stores nothing, then the one that does.
 use borrow.Author.Needs.{needs}
-use Rattle.map_text.specs.Calls.{empty-front, side-in, greys-refused, greys-stored}
+use Rattle.decimals.specs.Writing.{empty-front}
+use Rattle.map_text.specs.Calls.{side-in, greys-refused, greys-stored}
 use Rattle.map_text.proofs.read_map.Statement.{statement}
 use Rattle.map_text.proofs.read_map.Tie as tie
 
