@@ -1,5 +1,5 @@
 -- The list written line by line, and into a buffer that has room for it or not.
-use mathlib.Core.Path.{_≡_, refl, sym, ap, _∙_}
+use mathlib.Core.Path.{_≡_, sym, ap, _∙_}
 use mathlib.Core.List.{List, [], _∷_, _++_, append-assoc, append-nil}
 use Prim.Native.Nat.{ℕ, zero, suc, _+_, _/_, _%_, _^_, _<_, _≤_}
 use native.Mathlib.Nat.{zero-add, add-zero, div-le-self, mod-le}
@@ -8,7 +8,7 @@ use native.Mathlib.Omega.{arith}
 use borrow.Author.Tests.{lt-ltb, le-ltb}
 use lib.Pow.{pow-pos, pow-mono}
 use lib.ListN.{length, getD, take, drop, length-append}
-use lib.Seq.{sets, sets-eq, take-suc, length-take-le, append-snoc}
+use lib.Seq.{take-suc, length-take-le, append-snoc}
 use Rattle.definition.specs.Answers.{returned, refused, drillListSays, numberOf}
 use Rattle.definition.specs.Refusals.{outputShort, lowest}
 use Rattle.definition.specs.Text.{comma, newline, decimal, line}

@@ -1,7 +1,7 @@
 -- Map Text's ways out: a first line that is none, a refusal by the side or the buffer, greys that break the grammar, and a map that is read.
-use mathlib.Core.Path.{_≡_, refl, sym, ap, _∙_}
+use mathlib.Core.Path.{_≡_, sym, ap, _∙_}
 use mathlib.Core.Bool.{Bool, true, false, not, cond}
-use mathlib.Core.List.{List, [], _∷_, _++_}
+use mathlib.Core.List.{List, _++_}
 use mathlib.Core.Option.{some, none, map-eq-none-iff, map-eq-some-iff, Option·some-injective, Option·some-ne-none}
 use Prim.Native.Nat.{ℕ, suc, _-_, _*_, _<_, _≤_}
 use native.Mathlib.Omega.{arith}
