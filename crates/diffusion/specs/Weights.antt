@@ -1,11 +1,11 @@
 -- The weights around a cell, as the code finds them; their sums are small, and the sum of all isn't 0.
 use mathlib.Core.Path.{_≡_, sym, _∙_}
 use mathlib.Core.Logic.{_⊎_, inl, inr}
-use mathlib.Core.List.{[], _∷_}
+use mathlib.Core.List.{List, [], _∷_}
 use Prim.Native.Nat.{ℕ, _+_, _/_, _%_, _^_, _≤_, _<_}
 use native.Mathlib.Omega.{arith}
 use native.Mathlib.Numerals.{add-one}
-use lib.Dec.{leb, leb→le}
+use lib.Dec.{eqb, leb, eqb→eq, leb→le}
 use lib.ListN.{getD}
 use lib.Pow.{pow-mono}
 use mir.Syntax.{w64}
@@ -18,6 +18,14 @@ use Rattle.shares.specs.Kernels.{plain-fit}
 use Rattle.shares.specs.Neighbours.{on-yes, on-no, weight-is}
 use Rattle.shares.specs.Outflow.{weights-some}
 use Rattle.diffusion.specs.Asked.{CellAsked}
+
+-- the code's table, three by three, is the definition's of nine: one test of all places
+abbrev table : List (List ℕ)
+table = (1 ∷ 2 ∷ 1 ∷ []) ∷ (2 ∷ 0 ∷ 2 ∷ []) ∷ (1 ∷ 2 ∷ 1 ∷ []) ∷ []
+
+table-weight : (p : ℕ) → p < 9 → getD (getD table (p / 3) []) (p % 3) 0 ≡ plain .weight p
+unfolding plain allTo
+table-weight p h = eqb→eq _ (plain .weight p) (allTo-at 9 (λ q. eqb (getD (getD table (q / 3) []) (q % 3) 0) (plain .weight q)) tt p h)
 
 -- ---- the weight of place p
 module _ (r row column p : ℕ) where
@@ -41,11 +49,12 @@ module _ (r row column p : ℕ) where
   pub weight-right : {side : ℕ} → side ≡ 2 ^ r → side < column + p % 3 → 0 ≡ weightAt plain r row column p
   weight-right e h = off-column (inr (omega (arith, e)))
 
-  pub weight-on : {side : ℕ} → side ≡ 2 ^ r → (row + p / 3 ≡ 0 → ⊥) → row + p / 3 ≤ side → (column + p % 3 ≡ 0 → ⊥) → column + p % 3 ≤ side
-      → getD (1 ∷ 2 ∷ 1 ∷ 2 ∷ 0 ∷ 2 ∷ 1 ∷ 2 ∷ 1 ∷ []) p 0 ≡ weightAt plain r row column p
+  pub weight-on : {side : ℕ} → side ≡ 2 ^ r → p < 9 → (row + p / 3 ≡ 0 → ⊥) → row + p / 3 ≤ side → (column + p % 3 ≡ 0 → ⊥) → column + p % 3 ≤ side
+      → getD (getD table (p / 3) []) (p % 3) 0 ≡ weightAt plain r row column p
   unfolding plain
-  weight-on e a b c d =
-      sym (weight-is plain r row column p ∙ rw (on-yes r (row + p / 3) (omega arith) (omega (arith, e)), on-yes r (column + p % 3) (omega arith) (omega (arith, e))) (omega arith))
+  weight-on e h a b c d =
+      table-weight p h
+      ∙ sym (weight-is plain r row column p ∙ rw (on-yes r (row + p / 3) (omega arith) (omega (arith, e)), on-yes r (column + p % 3) (omega arith) (omega (arith, e))) (omega arith))
 
 -- ---- their sums
 module _ (r row column : ℕ) where

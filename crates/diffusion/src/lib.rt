@@ -9,8 +9,8 @@ ghost use Rattle.definition.specs.Model.{missing};
 ghost use Rattle.definition.specs.Diffusion.{plain, weightAt, diffuse};
 ghost use Rattle.diffusion.specs.Asked.{shareTaken, CellAsked, ShareAsked, DiffuseAsked, PlaceAsked};
 
-// The weights of the nine places around a cell, by row then column: a straight neighbour weighs 2, a diagonal one 1.
-const WEIGHTS: [usize; 9] = [1, 2, 1, 2, 0, 2, 1, 2, 1];
+// The weights of the nine places around a cell, three by three: a straight neighbour weighs 2, a diagonal one 1.
+const WEIGHTS: [[usize; 3]; 3] = [[1, 2, 1], [2, 0, 2], [1, 2, 1]];
 
 // What one dot is worth.
 const DOT: i64 = 65280;
@@ -21,8 +21,10 @@ fn weight(r: usize, row: usize, column: usize, p: usize) -> usize
     ensures { λ w. ⌜ w ≡ weightAt plain r row column p ⌝ }
 {
     let side = sizes::pow2(r);
-    let x = row + p / 3;
-    let y = column + p % 3;
+    let down = p / 3;
+    let right = p % 3;
+    let x = row + down;
+    let y = column + right;
     if x == 0 {
         return 0;
     }
@@ -35,7 +37,7 @@ fn weight(r: usize, row: usize, column: usize, p: usize) -> usize
     if side < y {
         return 0;
     }
-    WEIGHTS[p]
+    WEIGHTS[down][right]
 }
 
 // The sum of the weights: 12 inside the map, 8 on a side, 5 in a corner.

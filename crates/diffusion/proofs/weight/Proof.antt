@@ -18,4 +18,6 @@ weight-spec =
     (λ c. search (weight-right, needs))
     (λ c. search needs)
     (λ c. search needs)
+    (λ c. search needs)
+    (λ c. search needs)
     (λ c. search (weight-on, needs)))
