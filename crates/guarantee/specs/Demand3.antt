@@ -4,11 +4,12 @@ use mathlib.Core.Path.{_≡_}
 use mathlib.Core.Logic.{_≢_, _↔_}
 use mathlib.Core.Bool.{false}
 use mathlib.Core.List.{List, [], _∷_}
-use Prim.Native.Nat.{ℕ, _+_, _*_, _/_, _^_, _≤_, _<_, min}
+use Prim.Native.Nat.{ℕ, _+_, _*_, _-_, _/_, _^_, _≤_, _<_, min}
 use lib.ListN.{getD, take, drop}
 use lib.IntN.{ℤ, pos, _+ℤ_}
+use lib.Signed.{_<ℤ_}
 use Rattle.definition.specs.Answers.{returned, finished}
-use Rattle.definition.specs.Pyramid.{oneDot, needed, cellCount}
+use Rattle.definition.specs.Pyramid.{oneDot, halfDot, needed, cellCount}
 use Rattle.definition.specs.Blocks.{blockSide, greySum, greyTotal, dotsIn, allDots}
 use Rattle.definition.specs.Diffusion.{Kernel}
 use Rattle.definition.specs.Model.{Halftone, topOf, modelStart, steps}
@@ -22,6 +23,10 @@ abbrev pub Each : {A : Type 0} → (A → Type 0) → List A → Type 0
 Each P [] = Unit {0}
 Each P (x ∷ xs) = P x × Each P xs
 
+-- P holds of each aligned square, "named by level k and entry (a, b)"
+abbrev pub EachBlock : ℕ → (ℕ → ℕ → ℕ → Type 0) → Type 0
+EachBlock r P = (k a b : ℕ) → k ≤ r → a < 2 ^ k → b < 2 ^ k → P k a b
+
 -- "Demand 3 starts from an accepted Load": of greys, each of which "is a byte"
 pub record Accepted (side : ℕ) (greys : List ℕ) (pyramid : List ℤ) (serials order : List ℕ) : Type 0 where
   pub bytes : Each (λ grey. grey ≤ 255) greys
@@ -30,6 +35,14 @@ pub record Accepted (side : ℕ) (greys : List ℕ) (pyramid : List ℤ) (serial
 -- the holes of the finished map, from G, "the sum of all greys"
 abbrev pub totalOf : ℕ → ℕ
 totalOf G = (2 * G + 255) / 510
+
+-- The holes of an aligned square of side s with grey sum g: the cap ..
+abbrev pub UnderCap : ℕ → List ℕ → List ℕ → ℕ → ℕ → ℕ → Type 0
+UnderCap r greys serials k a b = 765 * dotsIn r serials k a b < 3 * greySum r greys k a b + 765 + 1020 * blockSide r k
+
+-- .. and the floor, for a finished map: "510 × holes > 2 × g − 255 − 1,530 × k − 2,040 × (N − s)", with what is taken away on the other side
+abbrev pub OverFloor : ℕ → List ℕ → List ℕ → ℕ → ℕ → ℕ → Type 0
+OverFloor r greys serials k a b = 2 * greySum r greys k a b < 510 * dotsIn r serials k a b + 255 + 1530 * k + 2040 * (2 ^ r - blockSide r k)
 
 -- One call of the list: if it isn't refused, it says "finished" exactly when all holes then number the total.
 abbrev pub Ends : ℕ → ℕ → AdvanceOutcome → Type 0
@@ -58,8 +71,9 @@ pub record Holds (kernel : Kernel) (r G : ℕ) (greys : List ℕ) (lentPyramid :
   pub number : held .progress .dots ≡ min (totalOf G) (granted calls replies)
   -- "That no cell is burnt twice means that the first h places of the order list are all different."
   pub once : (i j : ℕ) → i < j → j < held .progress .dots → getD (held .order) i 0 ≢ getD (held .order) j 0
-  -- the most holes that an aligned square of side s can hold
-  pub cap : (k a b : ℕ) → k ≤ r → a < 2 ^ k → b < 2 ^ k → 765 * dotsIn r (held .serials) k a b < 3 * greySum r greys k a b + 765 + 1020 * blockSide r k
+  -- the cap of every aligned square, and, once the map is finished ("if the top is then below 32,640"), its floor
+  pub cap : EachBlock r (UnderCap r greys (held .serials))
+  pub floor : topOf (held .pyramid) <ℤ pos halfDot → EachBlock r (OverFloor r greys (held .serials))
   -- the debt still stored at the top
   pub debt : pos (oneDot * held .progress .dots) +ℤ topOf (held .pyramid) ≡ pos (256 * G)
   pub ends : Each (Ends r (totalOf G)) outcomes

@@ -1,8 +1,10 @@
 pub mod Demand3
+pub mod Floor
 pub mod Capped
 pub mod Lent
 pub mod Start
 pub mod OneCall
 pub mod ManyCalls
 pub mod Theorem
+pub mod Sharp
 pub mod Example

@@ -25,7 +25,8 @@ use Rattle.quadtree.specs.Areas.{span, area, area-ext, block-area}
 use Rattle.quadtree.specs.Levels.{start-suc, cell-lt, block-side, block-on-map}
 use Rattle.shares.specs.Kernels.{Fit, plain-fit}
 use Rattle.dots.specs.Steps.{Sheet, due-is, steps-keep}
-use Rattle.guarantee.specs.Demand3.{Each, Accepted, totalOf, Ends, Holds, Demand3}
+use Rattle.guarantee.specs.Demand3.{Each, EachBlock, Accepted, totalOf, UnderCap, Ends, Holds, Demand3}
+use Rattle.guarantee.specs.Floor.{floor}
 use Rattle.guarantee.specs.Capped.{Capped, capped-kept}
 use Rattle.guarantee.specs.Start.{start-sheet, start-capped, accepted-loaded, loaded-held}
 use Rattle.guarantee.specs.Lent.{heldOf}
@@ -139,6 +140,20 @@ module _ (kernel : Kernel) (fit : Fit kernel) (r : ℕ) (big : 2 ≤ 2 ^ r) (pow
         let b = sheet .sound .in-order (j + 1) (omega arith) (omega arith) .1 in
         omega (arith, rw (add-sub-cancel i 1) at a, rw (add-sub-cancel j 1) at b, ap (λ (c : ℕ). getD (last .serials) c 0) e)
 
+    capped-blocks : EachBlock r (UnderCap r greys (last .serials ++ s))
+    capped-blocks k a b h u v =
+        omega (
+          arith,
+          dots-area r last sheet s (r - k) k a b (omega arith) u v,
+          grey-area r greys (r - k) k a b (omega arith),
+          block-side r (r - k) k (omega arith),
+          capped .cap (r - k) k a b (omega arith) u v,
+        )
+
+    -- on a finished map all dots are made
+    all-made : 2 * greyTotal r greys < 510 * last .dots + 255 → allDots r (last .serials ++ s) ≡ total
+    all-made h = omega (arith, all-dots-is r last sheet s, calls-number kernel fit r big power cs fresh (start-sheet r greys bytes), no-dots, start-due)
+
     pub holds : Holds kernel r (greyTotal r greys) greys lentPyramid lentSerials lentOrder cs (heldOf r last p s o) (outcomesOf kernel (heldOf r fresh p s o) cs) (repliesOf kernel (heldOf r fresh p s o) cs) last (modelReplies kernel r fresh cs)
     holds =
         record {
@@ -156,14 +171,11 @@ module _ (kernel : Kernel) (fit : Fit kernel) (r : ℕ) (big : 2 ≤ 2 ^ r) (pow
               rw (calls-replies kernel fit r big power p s o cs fresh (start-sheet r greys bytes))
               (omega (arith, calls-number kernel fit r big power cs fresh (start-sheet r greys bytes), no-dots, start-due));
           once = λ i j h k e. different i j h k (sym (at-order i (omega arith)) ∙ e ∙ at-order j k);
-          cap = λ k a b h u v.
-              omega (
-                arith,
-                dots-area r last sheet s (r - k) k a b (omega arith) u v,
-                grey-area r greys (r - k) k a b (omega arith),
-                block-side r (r - k) k (omega arith),
-                capped .cap (r - k) k a b (omega arith) u v,
-              );
+          cap = capped-blocks;
+          floor = λ low.
+              let t = capped .total in
+              let u = rw at-top at low in
+              floor r greys (last .serials ++ s) capped-blocks (all-made (omega (ints, simp zz at t, simp zz at u)));
           debt = rw at-top (capped .total);
           ends = ends-all p s o cs fresh (start-sheet r greys bytes) start-due;
         }

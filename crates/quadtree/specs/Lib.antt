@@ -3,5 +3,6 @@ pub mod Points
 pub mod Sides
 pub mod Residues
 pub mod Levels
+pub mod Quarters
 pub mod Pyramids
 pub mod Guidance
