@@ -40,7 +40,8 @@ totalOf G = (2 * G + 255) / 510
 abbrev pub UnderCap : ℕ → List ℕ → List ℕ → ℕ → ℕ → ℕ → Type 0
 UnderCap r greys serials k a b = 765 * dotsIn r serials k a b < 3 * greySum r greys k a b + 765 + 1020 * blockSide r k
 
--- .. and the floor, for a finished map: "510 × holes > 2 × g − 255 − 1,530 × k − 2,040 × (N − s)", with what is taken away on the other side
+-- .. and document 02's floor, for a finished map: "510 × holes > 2 × g − 255 − 1,530 × k − 2,040 × (N − s)", with what is taken away on the
+-- other side (s is at most N, so N − s is a natural number)
 abbrev pub OverFloor : ℕ → List ℕ → List ℕ → ℕ → ℕ → ℕ → Type 0
 OverFloor r greys serials k a b = 2 * greySum r greys k a b < 510 * dotsIn r serials k a b + 255 + 1530 * k + 2040 * (2 ^ r - blockSide r k)
 

@@ -14,7 +14,13 @@ Quarters P a b = P (2 * a) (2 * b) × P (2 * a) (2 * b + 1) × P (2 * a + 1) (2 
 
 -- they are blocks of the next level
 pub quarters-of : (k : ℕ) (P : ℕ → ℕ → Type 0) → ((x y : ℕ) → x < 2 ^ suc k → y < 2 ^ suc k → P x y) → (a b : ℕ) → a < 2 ^ k → b < 2 ^ k → Quarters P a b
-quarters-of k P h a b u v = let z = pow-succ' 2 k in (h _ _ (omega arith) (omega arith), h _ _ (omega arith) (omega arith), h _ _ (omega arith) (omega arith), h _ _ (omega arith) (omega arith))
+quarters-of k P h a b u v =
+    let z = pow-succ' 2 k in
+    let upper : 2 * a < 2 ^ suc k = omega arith in
+    let lower : 2 * a + 1 < 2 ^ suc k = omega arith in
+    let left : 2 * b < 2 ^ suc k = omega arith in
+    let right : 2 * b + 1 < 2 ^ suc k = omega arith in
+    (h _ _ upper left, h _ _ upper right, h _ _ lower left, h _ _ lower right)
 
 -- a block's side is twice that of its quarters
 pub side-halves : (r k : ℕ) → k < r → blockSide r k ≡ 2 * blockSide r (suc k)
