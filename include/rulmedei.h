@@ -1,5 +1,5 @@
 /*
- * Rulmedei: grey maps to ordered lists of holes. The six calls for C.
+ * Rulmedei: grey maps to ordered lists of holes. The seven calls for C.
  *
  * `rt staticlib rulmedei` writes target/staticlib/librulmedei.a, for x86-64 Linux. It needs the C library and nothing else.
  *
@@ -40,7 +40,7 @@ extern "C" {
 #define RULMEDEI_SHEET_UNSOUND 5    /* the sheet is not sound: Load and Advance leave no such buffers with this record */
 #define RULMEDEI_BLOCK_UNKNOWN 6    /* the level is past the map's last, or the row or column not below 2^level */
 #define RULMEDEI_TEXT_MALFORMED 7   /* the text does not fit the grammar of map texts */
-#define RULMEDEI_OUTPUT_SHORT 8     /* the output is shorter than the list */
+#define RULMEDEI_OUTPUT_SHORT 8     /* the output is shorter than the list or page */
 #define RULMEDEI_INPUT_LONG 9       /* the input is longer than 4,099 bytes: the program plate only, no call here returns it */
 
 /*
@@ -117,6 +117,21 @@ uint32_t rulmedei_drill_list(uint32_t side,
                              const int64_t *pyramid, size_t pyramid_length,
                              const uint32_t *serials, size_t serials_length,
                              const uint32_t *order, size_t order_length,
+                             uint8_t *out, size_t out_length,
+                             size_t *length);
+
+/*
+ * Quote Page: writes a line for each aligned square of a level, by row then column, and the number of bytes to length, 0 where it refuses.
+ * A line has the square's row (3 wide), column (3), grey sum (8), holes (5) and cap (5), right aligned, with one space between; with its end
+ * it has 29 bytes, and the page 29 * 4^level. Bytes past the page stay. No zero byte ends it. Refusals: 1, 2, 4, 6, 8.
+ *
+ * With s the square's side, the cap is the smaller of s * s and (3 * grey sum + 764 + 1020 * s) / 765, rounded down. The holes are at most
+ * the cap where Load and Advance made the serials from these greys; any other serials may be lent too.
+ */
+uint32_t rulmedei_quote_page(uint32_t side,
+                             const uint8_t *greys, size_t greys_length,
+                             const uint32_t *serials, size_t serials_length,
+                             uint32_t level,
                              uint8_t *out, size_t out_length,
                              size_t *length);
 

@@ -24,7 +24,7 @@ pub enum Refusal {
     BadBlock,
     /// "text doesn't fit the grammar"
     BadText,
-    /// "output shorter than the list"
+    /// "output shorter than the list", or than the page of document 02
     ShortOutput,
     /// "input longer than 4,099 bytes"
     LongInput,

@@ -1,12 +1,12 @@
 //! The reference's program: `write` writes the stored files, `check` compares them, `plate` is document 01's
-//! program `plate`.
+//! program `plate`, `quote` the program that prints document 02's quote page.
 
 use std::fs;
 use std::io::{self, Read, Write};
 use std::path::{Path, PathBuf};
 use std::process::ExitCode;
 
-use reference::{plate, stored, LONGEST_INPUT};
+use reference::{plate, quote, stored, LONGEST_INPUT};
 
 fn main() -> ExitCode {
     let words: Vec<String> = std::env::args().skip(1).collect();
@@ -14,8 +14,10 @@ fn main() -> ExitCode {
     let done = match words[..] {
         ["write"] => write(),
         ["check"] => check(),
-        ["plate"] => print_plate(),
-        _ => Err("use: reference write | check | plate".to_string()),
+        // one byte more than the longest input is enough to tell that it's longer
+        ["plate"] => print(io::stdin().take(LONGEST_INPUT as u64 + 1), plate),
+        ["quote"] => print(io::stdin(), quote),
+        _ => Err("use: reference write | check | plate | quote".to_string()),
     };
     match done {
         Ok(status) => status,
@@ -99,11 +101,10 @@ fn found_in(folder: &str) -> Result<Vec<String>, String> {
     Ok(paths)
 }
 
-/// The program `plate`. One byte more than the longest input is enough to tell that it's longer.
-fn print_plate() -> Result<ExitCode, String> {
+/// A program: reads its input and prints its output.
+fn print(mut from: impl Read, program: fn(&[u8]) -> Vec<u8>) -> Result<ExitCode, String> {
     let mut input = Vec::new();
-    let mut from = io::stdin().take(LONGEST_INPUT as u64 + 1);
     from.read_to_end(&mut input).map_err(|error| error.to_string())?;
-    io::stdout().write_all(&plate(&input)).map_err(|error| error.to_string())?;
+    io::stdout().write_all(&program(&input)).map_err(|error| error.to_string())?;
     Ok(ExitCode::SUCCESS)
 }

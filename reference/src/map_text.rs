@@ -48,7 +48,7 @@ fn grey_line(side: usize, line: &[u8]) -> Option<Vec<u8>> {
 }
 
 /// "Each line ends in byte 10." The line before the first byte 10, and what comes after that byte.
-fn cut_line(text: &[u8]) -> Option<(&[u8], &[u8])> {
+pub(crate) fn cut_line(text: &[u8]) -> Option<(&[u8], &[u8])> {
     let end = text.iter().position(|byte| *byte == 10)?;
     Some((&text[..end], &text[end + 1..]))
 }

@@ -52,7 +52,7 @@ fn cell_error(grey: u8, serial: u32) -> i64 {
 }
 
 /// The numbers (row × N + column) of the cells of a block.
-fn block_cells(side: u32, level: u32, row: usize, column: usize) -> impl Iterator<Item = usize> {
+pub(crate) fn block_cells(side: u32, level: u32, row: usize, column: usize) -> impl Iterator<Item = usize> {
     let side = side as usize;
     let wide = side / 2usize.pow(level);
     (row * wide..(row + 1) * wide).flat_map(move |i| (column * wide..(column + 1) * wide).map(move |j| i * side + j))

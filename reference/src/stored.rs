@@ -8,6 +8,7 @@ use crate::map_text::write_map_text;
 use crate::maps::{generated, named, NAMES};
 use crate::measures::levels;
 use crate::plate::plate;
+use crate::quote::quote;
 use crate::run::run;
 use crate::run_cases;
 use crate::samples::{samples, SIDE};
@@ -36,10 +37,14 @@ fn program_files(name: &str, (input, output): InputAndOutput) -> [(String, Vec<u
     [(format!("crates/{name}/stdin"), input), (format!("crates/{name}/stdout"), output)]
 }
 
-/// The sample maps; the first of them is also what the program crate `plate` is run on.
+/// The sample maps; the first of them is also what the program crate `plate` is run on, and the last one what the
+/// program crate `quote` is run on, for the page of level 3.
 fn sample_files() -> Vec<(String, Vec<u8>)> {
     let texts = samples().map(|(name, greys)| (name, write_map_text(SIDE, &greys)));
-    let mut files = program_files("plate", (texts[0].1.clone(), plate(&texts[0].1))).to_vec();
+    let [(_, map), _, (_, quoted)] = &texts;
+    let asked = [b"3\n", &quoted[..]].concat();
+    let mut files = program_files("plate", (map.clone(), plate(map))).to_vec();
+    files.extend(program_files("quote", (asked.clone(), quote(&asked))));
     files.extend(texts.map(|(name, text)| (format!("samples/{name}.map"), text)));
     files
 }

@@ -1,4 +1,5 @@
-//! What document 01 promises of every run, tried on small pseudo-random maps.
+//! What document 01 promises of every run, tried on small pseudo-random maps; and what document 02 promises of every
+//! page, tried on these and on the named maps.
 
 use reference::*;
 
@@ -257,6 +258,72 @@ fn map_texts_there_and_back() {
         match map_text(&text, &mut read) {
             Ok(side) => assert_eq!(write_map_text(side, &read[..cell_count(side)]), text),
             Err(refusal) => assert!([1, 2, 7].contains(&refusal.number())),
+        }
+    });
+}
+
+/// A page of 29-byte lines, read back: the five figures of each line.
+fn figures_of(page: &[u8]) -> Vec<[u32; 5]> {
+    assert_eq!(page.len() % 29, 0);
+    page.chunks(29).map(line_figures).collect()
+}
+
+/// Five figures, each right aligned in its columns, with blanks between and byte 10 behind.
+fn line_figures(line: &[u8]) -> [u32; 5] {
+    assert_eq!(line.len(), 29);
+    for end in [3, 7, 16, 22] {
+        assert!(line[end - 1].is_ascii_digit() && line[end] == b' ', "{line:?}");
+    }
+    assert!(line[27].is_ascii_digit() && line[28] == 10, "{line:?}");
+    let text = std::str::from_utf8(&line[..28]).unwrap();
+    let figures: Vec<u32> = text.split(' ').filter(|part| !part.is_empty()).map(|part| part.parse().unwrap()).collect();
+    figures.try_into().unwrap()
+}
+
+/// The pages of all levels: "The printed holes never exceed the printed cap on any sheet that Load and Advance made
+/// from those greys." And every figure is what it ought to be; the cap is the most holes that document 01's promise
+/// about squares and the number of cells allow.
+fn check_pages(side: u32, greys: &[u8], serials: &[u32]) {
+    for level in 0..=power(side).unwrap() {
+        let blocks = 2u32.pow(level);
+        let mut out = vec![b'#'; 29 * (blocks * blocks) as usize];
+        assert_eq!(quote_page(side, greys, serials, level, &mut out), Ok(out.len()));
+        let wide = side / blocks;
+        let mut expected = (0..blocks).flat_map(|row| (0..blocks).map(move |column| (row, column)));
+        for [row, column, grey_sum, dots, cap] in figures_of(&out) {
+            assert_eq!(Some((row, column)), expected.next());
+            assert_eq!(grey_sum, block_grey(side, greys, wide, row, column));
+            assert_eq!(Ok(dots), tally(side, serials, level, row, column));
+            assert!(dots <= cap);
+            let allowed = |dots: u32| dots <= wide * wide && 765 * dots < 3 * grey_sum + 765 + 1020 * wide;
+            assert!(allowed(cap) && !allowed(cap + 1));
+        }
+        assert_eq!(expected.next(), None);
+    }
+}
+
+#[test]
+fn pages_of_the_named_maps() {
+    for side in SIDES {
+        for name in maps::NAMES {
+            let greys = maps::named(name, side);
+            let (mut buffers, mut progress) = fresh(side, &greys);
+            check_pages(side, &greys, &buffers.serials);
+            for budget in [1, side / 2, side * side / 8, u32::MAX] {
+                progress = buffers.advance(progress, budget).progress;
+                check_pages(side, &greys, &buffers.serials);
+            }
+        }
+    }
+}
+
+#[test]
+fn pages_of_random_maps() {
+    for_every_map(5, |dice, side, greys| {
+        let (mut buffers, mut progress) = fresh(side, greys);
+        for _ in 0..3 {
+            progress = buffers.advance(progress, dice.budget(side * side)).progress;
+            check_pages(side, greys, &buffers.serials);
         }
     });
 }

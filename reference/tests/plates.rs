@@ -1,4 +1,5 @@
-//! "Plates to check by hand": P1 to P12 of document 01, with its own figures.
+//! "Plates to check by hand": P1 to P12 of document 01, with its own figures; and quote pages worked by hand from
+//! document 02.
 
 use reference::*;
 
@@ -128,4 +129,92 @@ fn p12_wrong_top() {
 #[test]
 fn the_program_on_p3() {
     assert_eq!(plate(b"2\n128,128\n128,128\n"), b"2,2\n1,0,0\n2,1,1\n");
+}
+
+/// The page of a level, for a sheet with these serials.
+fn page(side: u32, greys: &[u8], serials: &[u32], level: u32) -> String {
+    let mut out = vec![b'#'; 29 * 4usize.pow(level)];
+    assert_eq!(quote_page(side, greys, serials, level, &mut out), Ok(out.len()));
+    String::from_utf8(out).unwrap()
+}
+
+/// The page of a finished map.
+fn finished_page(side: u32, greys: &[u8], level: u32) -> String {
+    page(side, greys, &finished(side, greys).0.serials, level)
+}
+
+/// 3 × 512 + 764 + 1,020 × 2 = 4,340 is 5 × 765 + 515, but there are 4 cells; 3 × 128 + 764 + 1,020 = 2,168 is
+/// 2 × 765 + 638, but there is one.
+#[test]
+fn the_page_of_p3() {
+    let lines = [
+        "  0   0      128     1     1\n",
+        "  0   1      128     0     1\n",
+        "  1   0      128     0     1\n",
+        "  1   1      128     1     1\n",
+    ];
+    assert_eq!(finished_page(2, &P3_GREYS, 0), "  0   0      512     2     4\n");
+    assert_eq!(finished_page(2, &P3_GREYS, 1), lines.concat());
+}
+
+#[test]
+fn the_page_of_p3_before_its_end() {
+    let (mut buffers, progress) = loaded(2, &P3_GREYS);
+    assert_eq!(page(2, &P3_GREYS, &buffers.serials, 0), "  0   0      512     0     4\n");
+    buffers.advance(progress, 1);
+    assert_eq!(page(2, &P3_GREYS, &buffers.serials, 0), "  0   0      512     1     4\n");
+}
+
+/// 3 × 85 + 764 + 1,020 × 2 = 3,059 is one less than 4 × 765; with a grey sum of 86 it is 3,062. With 0 it is 2,804,
+/// which is 3 × 765 + 509.
+#[test]
+fn the_cap_is_rounded_down() {
+    assert_eq!(finished_page(2, &[85, 0, 0, 0], 0), "  0   0       85     0     3\n");
+    assert_eq!(finished_page(2, &[20, 30, 30, 5], 0), "  0   0       85     0     3\n");
+    assert_eq!(finished_page(2, &[20, 30, 30, 6], 0), "  0   0       86     0     4\n");
+    assert_eq!(finished_page(2, &[0; 4], 0), "  0   0        0     0     3\n");
+}
+
+/// Caps of blocks that are 4 and 2 cells wide, each block with a grey sum of its own. Side 4, level 0, grey sum 190:
+/// 3 × 190 + 764 + 1,020 × 4 = 5,414 is 7 × 765 + 59. Level 1, grey sums 10, 50, 90 and 40: 2,834, 2,954 and 2,924
+/// are below 4 × 765 = 3,060, and 3,074 isn't.
+#[test]
+fn the_page_of_four_blocks() {
+    let greys = [1, 2, 11, 12, 3, 4, 13, 14, 21, 22, 10, 10, 23, 24, 10, 10];
+    let serials = [0, 0, 0, 0, 0, 0, 0, 2, 9, 0, 70_000, 1, 0, u32::MAX, 1, 0];
+    let lines = [
+        "  0   0       10     0     3\n",
+        "  0   1       50     1     3\n",
+        "  1   0       90     2     4\n",
+        "  1   1       40     3     3\n",
+    ];
+    assert_eq!(page(4, &greys, &serials, 0), "  0   0      190     6     7\n");
+    assert_eq!(page(4, &greys, &serials, 1), lines.concat());
+}
+
+/// The serials may be anything, and the page then tells of more holes than the cap allows: 764 + 1,020 × 8 = 8,924 is
+/// 11 × 765 + 509.
+#[test]
+fn the_page_of_a_sheet_that_no_load_made() {
+    assert_eq!(page(8, &[0; 64], &[u32::MAX; 64], 0), "  0   0        0    64    11\n");
+    assert_eq!(page(8, &[0; 64], &[1 << 16; 64], 2).lines().next(), Some("  0   0        0     4     3"));
+}
+
+#[test]
+fn the_page_of_all_cells() {
+    assert_eq!(finished_page(2, &[255; 4], 0), "  0   0     1020     4     4\n");
+    assert_eq!(finished_page(4, &[255; 16], 1).lines().last(), Some("  1   1     1020     4     4"));
+    // the widest figures: 65,536 × 255 = 16,711,680
+    let (greys, serials) = ([255; 65_536], [1; 65_536]);
+    assert_eq!(page(256, &greys, &serials, 0), "  0   0 16711680 65536 65536\n");
+    let cells = page(256, &greys, &serials, 8);
+    assert_eq!(cells.lines().count(), 65_536);
+    assert_eq!(cells.lines().nth(256 * 12 + 3), Some(" 12   3      255     1     1"));
+    assert_eq!(cells.lines().last(), Some("255 255      255     1     1"));
+}
+
+#[test]
+fn the_program_quote_on_p3() {
+    assert_eq!(quote(b"0\n2\n128,128\n128,128\n"), b"  0   0      512     2     4\n");
+    assert_eq!(quote(b"1\n2\n128,128\n128,128\n"), finished_page(2, &P3_GREYS, 1).as_bytes());
 }

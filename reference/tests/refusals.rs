@@ -319,6 +319,76 @@ fn levels_refuses() {
     }
 }
 
+/// The number of Quote Page for buffers of these lengths, and whether it wrote the page's bytes and no other.
+fn page_number(side: u32, greys: usize, serials: usize, level: u32, out: usize) -> u32 {
+    let mut page = vec![b'#'; out];
+    match quote_page(side, &vec![255; greys], &vec![9; serials], level, &mut page) {
+        Ok(length) => {
+            assert_eq!(length, 29 * 4usize.pow(level));
+            assert!(page[..length].iter().all(|byte| *byte != b'#'));
+            assert!(page[length..].iter().all(|byte| *byte == b'#'));
+            0
+        }
+        Err(refusal) => {
+            assert!(page.iter().all(|byte| *byte == b'#'));
+            refusal.number()
+        }
+    }
+}
+
+#[test]
+fn quote_page_refuses() {
+    for side in SIDES {
+        let (n, _) = needed(side);
+        let r = power(side).unwrap();
+        for level in 0..=r {
+            let length = 29 * 4usize.pow(level);
+            assert_eq!(page_number(side, n, n, level, length), 0);
+            assert_eq!(page_number(side, n, n, level, length + 30), 0);
+            assert_eq!(page_number(side, n + 5, n + 5, level, length), 0);
+            for short in [0, 1, 28, length / 2, length - 29, length - 1] {
+                assert_eq!(page_number(side, n, n, level, short), 8);
+            }
+            assert_eq!(page_number(side, n - 1, n, level, length), 2);
+            assert_eq!(page_number(side, n, n - 1, level, length), 4);
+        }
+        for level in [r + 1, r + 2, 9, 16, 31, 32, 33, 64, u32::MAX] {
+            assert_eq!(page_number(side, n, n, level, 10_000), 6);
+        }
+    }
+    for side in NO_SIDES {
+        assert_eq!(page_number(side, 300, 300, 0, 300), 1);
+        assert_eq!(page_number(side, 300, 300, 1, 300), 1);
+    }
+}
+
+/// "Checks 1, 2, 4, 6, 8 apply in that order": with any of them failing, the first one that fails is told.
+#[test]
+fn quote_page_refuses_in_order() {
+    for side in SIDES {
+        let (n, _) = needed(side);
+        let r = power(side).unwrap();
+        for failing in 0..32u32 {
+            let fails = |check: u32| failing & (1 << check) != 0;
+            let asked = if fails(0) { side + 1 } else { side };
+            let greys = if fails(1) { n - 1 } else { n + 7 };
+            let serials = if fails(2) { n - 1 } else { n + 7 };
+            let level = if fails(3) { r + 1 } else { 1 };
+            let out = if fails(4) { 115 } else { 116 };
+            let first = (0..5).find(|check| fails(*check));
+            let number = first.map_or(0, |check| [1, 2, 4, 6, 8][check as usize]);
+            assert_eq!(page_number(asked, greys, serials, level, out), number);
+        }
+        assert_eq!(page_number(side, 0, 0, u32::MAX, 0), 2);
+        assert_eq!(page_number(side, n, 0, u32::MAX, 0), 4);
+        assert_eq!(page_number(side, n, n, u32::MAX, 0), 6);
+        assert_eq!(page_number(side, n, n, r, 0), 8);
+    }
+    for side in NO_SIDES {
+        assert_eq!(page_number(side, 0, 0, u32::MAX, 0), 1);
+    }
+}
+
 /// The number of Map Text for a greys buffer of this length, which a refusal leaves as it was.
 fn text_number(text: &[u8], length: usize) -> u32 {
     let mut greys = vec![99; length];
@@ -390,6 +460,38 @@ fn the_program_refuses() {
 }
 
 #[test]
+fn the_program_quote_refuses() {
+    const MAP: &str = "2\n0,255\n10,7\n";
+    let number = |text: &str| String::from_utf8(quote(text.as_bytes())).unwrap();
+    // the first line comes before all else, and a map that isn't read before the level
+    let wrong = "|\n|00\n|01\n|+1\n|-1\n|-0\n| 1\n|1 \n|1\r\n|1,\n|x\n|1.0\n|\"1\"\n|4294967296\n|04294967295\n|\
+                 18446744073709551617\n|\u{661}\n";
+    for line in wrong.split('|') {
+        for rest in [MAP, "3\n", "64\n", ""] {
+            assert_eq!(number(&format!("{line}{rest}")), "refused,7\n", "{line:?}");
+        }
+    }
+    for level in ["0", "1", "2", "5", "6", "4294967295"] {
+        for (text, refused) in [("", 7), ("x\n", 7), ("3\n", 1), ("64\n", 2), ("64\nx", 2), ("2\n0,255\n10,7", 7)] {
+            assert_eq!(number(&format!("{level}\n{text}")), format!("refused,{refused}\n"));
+        }
+        // no line end before the map
+        assert_eq!(number(level), "refused,7\n");
+    }
+    assert_eq!(quote(&[&[255, 10], MAP.as_bytes()].concat()), b"refused,7\n");
+    for level in [2, 3, 10, 32, 999, 4_294_967_294, u32::MAX] {
+        assert_eq!(number(&format!("{level}\n{MAP}")), "refused,6\n");
+    }
+    assert_eq!(number(&format!("0\n{MAP}")), "  0   0      272     1     4\n");
+    // the largest page: a line for each cell of side 32
+    let text = write_map_text(32, &[255; 1_024]);
+    let page = quote(&[b"5\n", &text[..]].concat());
+    assert_eq!(page.len(), 29_696);
+    assert!(page.ends_with(b"\n 31  31      255     1     1\n"));
+    assert_eq!(quote(&[b"6\n", &text[..]].concat()), b"refused,6\n");
+}
+
+#[test]
 fn longer_buffers_keep_their_tail() {
     for side in [2, 4, 16] {
         let (n, p) = needed(side);
@@ -412,6 +514,12 @@ fn longer_buffers_keep_their_tail() {
         assert_eq!(total, Ok(progress.dots));
         let sums = levels(side, &greys, &just.serials);
         assert_eq!(levels(side, &long_greys, &long.serials), sums);
+        for level in 0..=power(side).unwrap() {
+            let (mut page, mut other) = ([b'#'; 29 * 256], [b'#'; 29 * 256]);
+            let length = quote_page(side, &greys, &just.serials, level, &mut page);
+            assert_eq!(quote_page(side, &long_greys, &long.serials, level, &mut other), length);
+            assert!(length.is_ok() && page == other);
+        }
     }
 }
 
@@ -440,5 +548,9 @@ fn any_lengths_and_any_content() {
         assert!(dots.is_err() || dots.is_ok_and(|dots| dots <= 64));
         let sums = levels(progress.side, &[255; 64], &before.serials);
         assert!(sums.is_err() || power(progress.side).is_ok());
+        let mut page = [b'#'; 600];
+        let written = quote_page(progress.side, &[255; 64], &before.serials, pick(9) as u32, &mut page);
+        let kept = written.unwrap_or(0);
+        assert!(page[kept..].iter().all(|byte| *byte == b'#'));
     }
 }

@@ -1,18 +1,23 @@
 -- What a writer leaves: bytes stored from a place on, as far as there are places, and the place behind them.
 use mathlib.Core.Path.{_≡_, refl, sym, ap, _∙_}
-use mathlib.Core.List.{List, [], _∷_, _++_}
-use Prim.Native.Nat.{ℕ, zero, suc, _+_, _/_, _%_, _^_, _<_, _≤_}
+use mathlib.Core.List.{List, [], _∷_, _++_, append-assoc}
+use Prim.Native.Nat.{ℕ, zero, suc, _+_, _-_, _/_, _%_, _^_, _<_, _≤_}
 use native.Mathlib.Decide.{decLt}
 use native.Mathlib.Nat.{add-assoc, add-suc, suc-add, add-zero, zero-add, pow-suc, div-lt-iff-lt-mul}
+use native.Mathlib.Numerals.{add-one}
 use native.Mathlib.Omega.{arith}
-use lib.ListN.{length, drop, set, length-append}
+use lib.ListN.{length, drop, set, replicate, length-append, length-replicate, replicate-append-replicate}
 use lib.Seq.{sets, sets-eq, set-out, length-sets}
-use Rattle.definition.specs.Text.{decimal}
+use Rattle.definition.specs.Lists.{joined}
+use Rattle.definition.specs.Text.{decimal, space, rightAligned}
 use Rattle.grammar.specs.Decimal.{decimal-below-ten, decimal-from-ten}
 
--- a number and the byte that ends it
+-- a number and the byte that ends it; the same, right aligned
 unfoldable pub fieldText : ℕ → ℕ → List ℕ
 fieldText n end = decimal n ++ end ∷ []
+
+unfoldable pub columnText : ℕ → ℕ → ℕ → List ℕ
+columnText width n end = rightAligned width n ++ end ∷ []
 
 pub record Wrote (before : List ℕ) (at : ℕ) (bytes : List ℕ) (next : ℕ) (after : List ℕ) : Type 0 where
   pub place : next ≡ at + length bytes
@@ -34,6 +39,16 @@ wrote-append {l} {l₁} {l₂} {a} {b} {at} {r} {s} x y =
       stored = y .stored ∙ rw (x .stored, x .place) (sets-append a b l at);
     }
 
+-- texts one behind the other: none of them, and one more
+module _ (f : ℕ → List ℕ) where
+  pub wrote-joined-none : {l : List ℕ} {at : ℕ} → Wrote l at (joined 0 f) at l
+  unfolding joined
+  wrote-joined-none = wrote-none
+
+  pub wrote-joined-more : {l l₁ l₂ : List ℕ} {at r s : ℕ} (i : ℕ) → Wrote l at (joined i f) r l₁ → Wrote l₁ r (f i) s l₂ → Wrote l at (joined (i + 1) f) s l₂
+  unfolding joined
+  wrote-joined-more i x y = rw (add-one i) (wrote-append x y)
+
 pub wrote-length : {l l₁ a : List ℕ} {at r : ℕ} → Wrote l at a r l₁ → length l₁ ≡ length l
 wrote-length {l} {l₁} {a} {at} x = ap length (x .stored) ∙ length-sets l at a
 
@@ -53,17 +68,46 @@ byte-inside l at b = record { place = refl; stored = refl }
 pub byte-outside : (l : List ℕ) (at b : ℕ) → length l ≤ at → Wrote l at (b ∷ []) (at + 1) l
 byte-outside l at b h = record { place = refl; stored = sym (set-out l at b h) }
 
--- ---- a number
-pub one-digit : {l l₁ : List ℕ} {at r : ℕ} (n : ℕ) → n < 10 → Wrote l at ((48 + n) ∷ []) r l₁ → Wrote l at (decimal n) r l₁
-one-digit n h w = rw (decimal-below-ten n h) w
+-- ---- spaces
+pub spaces-end : {l l₁ : List ℕ} {at a : ℕ} (i : ℕ) → Wrote l at (replicate i space) a l₁ → a ≡ at + i
+spaces-end i w = omega (arith, w .place, length-replicate i space)
 
-pub more-digits : {l l₁ l₂ : List ℕ} {at r s : ℕ} (n : ℕ) → 10 ≤ n → Wrote l at (decimal (n / 10)) r l₁ → Wrote l₁ r ((48 + n % 10) ∷ []) s l₂
-    → Wrote l at (decimal n) s l₂
-more-digits n h x y = rw (decimal-from-ten n h) (wrote-append x y)
+module _ {l l₁ l₂ : List ℕ} {at a b : ℕ} where
+  pub one-more-space : (i : ℕ) → Wrote l at (replicate i space) a l₁ → Wrote l₁ a (space ∷ []) b l₂ → Wrote l at (replicate (i + 1) space) b l₂
+  one-more-space i x y = rw (← replicate-append-replicate i 1 space) (wrote-append x y)
 
-pub field-wrote : {l l₁ l₂ : List ℕ} {at r s : ℕ} (n end : ℕ) → Wrote l at (decimal n) r l₁ → Wrote l₁ r (end ∷ []) s l₂ → Wrote l at (fieldText n end) s l₂
-unfolding fieldText
-field-wrote n end x y = wrote-append x y
+  pub column-wrote : (width n end : ℕ) → Wrote l at (rightAligned width n) a l₁ → Wrote l₁ a (end ∷ []) b l₂ → Wrote l at (columnText width n end) b l₂
+  unfolding columnText
+  column-wrote width n end x y = wrote-append x y
+
+  -- ---- a number behind spaces: its last digit behind all that comes before it, in a place less
+  module _ (width n : ℕ) {before : ℕ} (e : before ≡ width - 1) where
+    pub one-digit : n < 10 → Wrote l at (replicate before space) a l₁ → Wrote l₁ a ((48 + n) ∷ []) b l₂ → Wrote l at (rightAligned width n) b l₂
+    unfolding rightAligned
+    one-digit h x y = rw (decimal-below-ten n h, ← e) (wrote-append x y)
+
+    pub more-digits : 10 ≤ n → Wrote l at (rightAligned before (n / 10)) a l₁ → Wrote l₁ a ((48 + n % 10) ∷ []) b l₂ → Wrote l at (rightAligned width n) b l₂
+    unfolding rightAligned
+    more-digits h x y = rw aligned (wrote-append x y)
+      where
+        aligned : rightAligned width n ≡ rightAligned before (n / 10) ++ (48 + n % 10) ∷ []
+        aligned =
+            let tenth = decimal (n / 10) in
+            let last = (48 + n % 10) ∷ [] in
+            let blanks : width - length (tenth ++ last) ≡ before - length tenth = omega (arith, length-append tenth last) in
+            rw (decimal-from-ten n h, blanks, append-assoc)
+
+-- in no places at all it is the number itself
+no-width : (n : ℕ) → rightAligned 0 n ≡ decimal n
+unfolding rightAligned
+no-width n = let e : 0 - length (decimal n) ≡ 0 = omega arith in rw e
+
+pub number-wrote : {l l₁ : List ℕ} {at a : ℕ} (n : ℕ) → Wrote l at (rightAligned 0 n) a l₁ → Wrote l at (decimal n) a l₁
+number-wrote n w = rw (no-width n) at w
+
+pub field-wrote : {l l₁ : List ℕ} {at a : ℕ} (n end : ℕ) → Wrote l at (columnText 0 n end) a l₁ → Wrote l at (fieldText n end) a l₁
+unfolding columnText fieldText
+field-wrote n end w = rw (no-width n) at w
 
 -- ---- how long a number is: `digits` of them at most
 pub length-decimal : (digits n : ℕ) → 0 < digits → n < 10 ^ digits → length (decimal n) ≤ digits
@@ -78,6 +122,10 @@ length-decimal (suc digits) n p h =
     longer zero ih h q = absurd (omega arith)
     longer (suc digits) ih h q = omega (arith, ih (omega arith) (div-lt-iff-lt-mul (omega arith) .1 (rw (pow-suc 10 (suc digits)) at h)))
 
+pub length-right : (width n : ℕ) → length (rightAligned width n) ≡ width - length (decimal n) + length (decimal n)
+unfolding rightAligned
+length-right width n = let blanks = width - length (decimal n) in omega (arith, length-append (replicate blanks space) (decimal n), length-replicate blanks space)
+
 -- a 64-bit number has at most 20 digits
 module _ (n : ℕ) (small : n < 2 ^ 64) where
   pub length-number : length (decimal n) ≤ 20
@@ -85,6 +133,13 @@ module _ (n : ℕ) (small : n < 2 ^ 64) where
 
   pub number-end : {l l₁ : List ℕ} {at r : ℕ} → Wrote l at (decimal n) r l₁ → r ≤ at + 20
   number-end w = omega (arith, w .place, length-number)
+
+  pub right-end : {l l₁ : List ℕ} {at r : ℕ} (width : ℕ) → Wrote l at (rightAligned width n) r l₁ → r ≤ at + width + 20
+  right-end width w = omega (arith, w .place, length-right width n, length-number)
+
+  pub column-end : {l l₁ : List ℕ} {at r : ℕ} (width end : ℕ) → Wrote l at (columnText width n end) r l₁ → r ≤ at + width + 21
+  unfolding columnText
+  column-end width end w = omega (arith, w .place, length-append (rightAligned width n) (end ∷ []), length-right width n, length-number)
 
   pub length-fieldText : (end : ℕ) → length (fieldText n end) ≤ 21
   unfolding fieldText

@@ -1,12 +1,12 @@
 // Numbers in texts: the one reader and the one writer of decimal digits.
 ghost use mathlib.Core.Path.{_≡_};
 ghost use mathlib.Core.List.{[], _∷_};
-ghost use Prim.Native.Nat.{_^_, _<_, _≤_};
-ghost use lib.ListN.{drop};
-ghost use Rattle.definition.specs.Text.{decimal, isDigit, digitsThen, fieldOf};
+ghost use Prim.Native.Nat.{_+_, _-_, _^_, _<_, _≤_};
+ghost use lib.ListN.{drop, replicate};
+ghost use Rattle.definition.specs.Text.{decimal, space, rightAligned, isDigit, digitsThen, fieldOf};
 ghost use Rattle.grammar.specs.Fields.{isNextDigit};
 ghost use Rattle.decimals.specs.Reading.{fieldIn};
-ghost use Rattle.decimals.specs.Writing.{Wrote, fieldText};
+ghost use Rattle.decimals.specs.Writing.{Wrote, fieldText, columnText};
 
 // What a text holds at a place: a number, and the place behind the byte that ends it; or no such number.
 pub enum Number {
@@ -83,23 +83,65 @@ pub fn put_byte(out: &mut [u8], at: usize, b: u8) -> usize
     at + 1
 }
 
-// Stores a number's digits, as far as the buffer has places, and returns the place behind them.
+// Stores so many spaces.
+fn put_spaces(out: &mut [u8], from: usize, count: usize) -> usize
+    requires { ⌜ from + count ≤ 2 ^ 62 ⌝ }
+    ensures { λ next. ⌜ Wrote (now (out .entry)) from (replicate count space) next (now (out .exit)) ⌝ }
+{
+    let mut at = from;
+    let mut i = 0;
+    while i < count {
+        at = put_byte(out, at, 32);
+        i += 1;
+    }
+    at
+}
+
+// One less, or 0.
+fn one_less(width: usize) -> usize
+    ensures { λ n. ⌜ n ≡ width - 1 ⌝ }
+{
+    if width == 0 {
+        return 0;
+    }
+    width - 1
+}
+
+// Stores a number's digits behind as many spaces as fill the width, as far as the buffer has places, and returns the place behind them.
+fn put_right(out: &mut [u8], at: usize, width: usize, n: u64) -> usize
+    requires { ⌜ at + width ≤ 2 ^ 62 ⌝ }
+    ensures { λ next. ⌜ Wrote (now (out .entry)) at (rightAligned width n) next (now (out .exit)) ⌝ }
+{
+    let before = one_less(width);
+    if n < 10 {
+        let digit = put_spaces(out, at, before);
+        return put_byte(out, digit, 48 + n as u8);
+    }
+    let last = put_right(out, at, before, n / 10);
+    put_byte(out, last, 48 + (n % 10) as u8)
+}
+
+// The digits alone.
 pub fn put_number(out: &mut [u8], at: usize, n: u64) -> usize
     requires { ⌜ at ≤ 2 ^ 62 ⌝ }
     ensures { λ next. ⌜ Wrote (now (out .entry)) at (decimal n) next (now (out .exit)) ⌝ }
 {
-    if n < 10 {
-        return put_byte(out, at, 48 + n as u8);
-    }
-    let last = put_number(out, at, n / 10);
-    put_byte(out, last, 48 + (n % 10) as u8)
+    put_right(out, at, 0, n)
 }
 
-// The same with the byte that ends the number.
+// A number right aligned, with the byte that ends it.
+pub fn put_column(out: &mut [u8], at: usize, width: usize, n: u64, end: u8) -> usize
+    requires { ⌜ at + width ≤ 2 ^ 62 ⌝ }
+    ensures { λ next. ⌜ Wrote (now (out .entry)) at (columnText width n end) next (now (out .exit)) ⌝ }
+{
+    let last = put_right(out, at, width, n);
+    put_byte(out, last, end)
+}
+
+// A number with the byte that ends it.
 pub fn put_field(out: &mut [u8], at: usize, n: u64, end: u8) -> usize
     requires { ⌜ at ≤ 2 ^ 62 ⌝ }
     ensures { λ next. ⌜ Wrote (now (out .entry)) at (fieldText n end) next (now (out .exit)) ⌝ }
 {
-    let last = put_number(out, at, n);
-    put_byte(out, last, end)
+    put_column(out, at, 0, n, end)
 }

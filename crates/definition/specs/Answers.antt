@@ -14,8 +14,8 @@ use Rattle.definition.specs.declared.LevelsStatus.{LevelsStatus}
 use Rattle.definition.specs.declared.LevelsStatus.the-variants as Levels
 use Rattle.definition.specs.declared.MapTextAnswer.{MapTextAnswer}
 use Rattle.definition.specs.declared.MapTextAnswer.the-variants as MapText
-use Rattle.definition.specs.declared.DrillListAnswer.{DrillListAnswer}
-use Rattle.definition.specs.declared.DrillListAnswer.the-variants as DrillList
+use Rattle.definition.specs.declared.TextAnswer.{TextAnswer}
+use Rattle.definition.specs.declared.TextAnswer.the-variants as Text
 
 -- What a call says: the values that it returns; or "finished", or "more"; or the number of a refusal.
 pub data Said : Type 0 where
@@ -61,6 +61,6 @@ unfoldable pub mapTextSays : MapTextAnswer → Said
 mapTextSays (MapText.Side n) = returned (n ∷ [])
 mapTextSays (MapText.Refused why) = refused (numberOf why)
 
-unfoldable pub drillListSays : DrillListAnswer → Said
-drillListSays (DrillList.Length n) = returned (n ∷ [])
-drillListSays (DrillList.Refused why) = refused (numberOf why)
+unfoldable pub textSays : TextAnswer → Said
+textSays (Text.Length n) = returned (n ∷ [])
+textSays (Text.Refused why) = refused (numberOf why)

@@ -1,15 +1,14 @@
 -- Document 01, "Drill List".
 use mathlib.Core.Bool.{Bool}
 use mathlib.Core.List.{List, [], _∷_, _++_}
-use Prim.Native.Nat.{ℕ, zero, suc, _/_, _%_, _^_}
-use lib.ListN.{length, take, drop}
+use Prim.Native.Nat.{ℕ, suc, _/_, _%_, _^_}
+use lib.ListN.{length, take}
 use lib.IntN.{ℤ}
-use Rattle.definition.specs.Answers.{Said, returned, refused}
 use Rattle.definition.specs.Model.{Halftone}
 use Rattle.definition.specs.Sound.{isSound}
 use Rattle.definition.specs.Refusals.{powerOf, sideUnknown, pyramidShort, sheetShort, sheetUnsound, outputShort, lowest}
 use Rattle.definition.specs.Advance.{sheetIn}
-use Rattle.definition.specs.Text.{line}
+use Rattle.definition.specs.Text.{line, TextOutcome, textInto}
 use Rattle.definition.specs.declared.Progress.{Progress}
 
 -- "for each hole in order serial,row,column": the lines of these cell numbers, the first of them with serial j
@@ -21,22 +20,14 @@ dotLines r j (cell ∷ cells) = line (j ∷ cell / 2 ^ r ∷ cell % 2 ^ r ∷ []
 unfoldable pub drillText : ℕ → Halftone → List ℕ
 drillText r s = line (s .dots ∷ 2 ^ r ∷ []) ++ dotLines r 1 (take (s .dots) (s .order))
 
-pub record DrillListOutcome : Type 0 where
-  pub said : Said
-  pub output : List ℕ
-
 -- "Given by" Drill List: 1, 3, 4, 5, 8; from the side's power, the lengths lent, soundness and the list's length
 unfoldable pub drillListRefusal : ℕ → ℕ → ℕ → ℕ → Bool → ℕ → ℕ → ℕ
 drillListRefusal r pyramid serials order sound list output =
     lowest (sideUnknown r ∷ pyramidShort r pyramid ∷ sheetShort r serials ∷ sheetShort r order ∷ sheetUnsound sound ∷ outputShort list output ∷ [])
 
--- "It returns its length; bytes past it stay."
-unfoldable pub drillListOf : Progress → List ℤ → List ℕ → List ℕ → List ℕ → DrillListOutcome
+unfoldable pub drillListOf : Progress → List ℤ → List ℕ → List ℕ → List ℕ → TextOutcome
 drillListOf progress pyramid serials order output =
     let r = powerOf (progress .side) in
     let sheet = sheetIn r (progress .dots) pyramid serials order in
     let list = drillText r sheet in
-    elim (drillListRefusal r (length pyramid) (length serials) (length order) (isSound r sheet) (length list) (length output)) [
-      | zero ↦ record { said = returned (length list ∷ []); output = list ++ drop (length list) output }
-      | suc n ↦ record { said = refused (suc n); output = output }
-    ]
+    textInto (drillListRefusal r (length pyramid) (length serials) (length order) (isSound r sheet) (length list) (length output)) list output

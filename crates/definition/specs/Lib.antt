@@ -13,6 +13,7 @@ pub mod Survey
 pub mod Text
 pub mod MapText
 pub mod DrillList
+pub mod QuotePage
 pub mod Plate
 pub mod Calls
 pub mod Expected

@@ -29,6 +29,11 @@ tabulateFrom i (suc n) f = f i ∷ tabulateFrom (suc i) n f
 abbrev pub tabulate : {A : Type 0} → ℕ → (ℕ → A) → List A
 tabulate n f = tabulateFrom 0 n f
 
+-- the lists f 0, f 1, .., f (n − 1), one behind the other
+unfoldable pub joined : {A : Type 0} → ℕ → (ℕ → List A) → List A
+joined zero f = []
+joined (suc n) f = joined n f ++ f n
+
 -- a list n times over
 unfoldable pub repeated : {A : Type 0} → ℕ → List A → List A
 repeated zero l = []

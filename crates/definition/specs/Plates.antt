@@ -7,7 +7,7 @@ use Prim.Native.Nat.{ℕ, zero, suc, _+_, _*_, _/_, _^_}
 use lib.Dec.{eqb}
 use lib.ListN.{set, replicate}
 use lib.IntN.{ℤ, pos, negℤ, _+ℤ_}
-use Rattle.definition.specs.Lists.{sumTo, sumZTo, allTo, tabulateFrom, repeated, eqZ}
+use Rattle.definition.specs.Lists.{sumTo, sumZTo, allTo, tabulateFrom, joined, repeated, eqZ}
 use Rattle.definition.specs.Answers.{Said, returned, finished, more, refused}
 use Rattle.definition.specs.Pyramid.{start, needed, cellCount, placeIn, rowAt, columnAt, levelOf, inLevel, entry, four, coarser, pyramidOver}
 use Rattle.definition.specs.Blocks.{blockSum, blockSumZ, greyAt, burnt, burntAt, greySum, greyTotal, dotsIn, allDots}
@@ -19,9 +19,10 @@ use Rattle.definition.specs.Refusals.{Row, powerUpTo, powerOf, lowest}
 use Rattle.definition.specs.Load.{loadRefusal, loaded, loadOf}
 use Rattle.definition.specs.Advance.{Reply, dotsDue, saidAt, sheetIn, advanceRefusal, advanced, advanceOf}
 use Rattle.definition.specs.Survey.{tallyRefusal, tallyOf, errorAt, squared, levelSum, levelsRefusal, levelsOf}
-use Rattle.definition.specs.Text.{digitsUpTo, decimal, line, lineEnds, isDigit, digitsThen, fieldOf}
+use Rattle.definition.specs.Text.{digitsUpTo, decimal, rightAligned, line, lineEnds, isDigit, digitsThen, fieldOf, TextOutcome, textInto}
 use Rattle.definition.specs.MapText.{rowsText, mapText, valuesOf, readGreys, mapTextRefusal, readMap, mapTextOf}
-use Rattle.definition.specs.DrillList.{DrillListOutcome, dotLines, drillText, drillListRefusal, drillListOf}
+use Rattle.definition.specs.DrillList.{dotLines, drillText, drillListRefusal, drillListOf}
+use Rattle.definition.specs.QuotePage.{quoteCap, figures, alignedLine, quoteText, quotePageRefusal, quotePageOf}
 use Rattle.definition.specs.Plate.{refusedText, finishedOf, plateOf}
 use Rattle.definition.specs.Calls.{Call, Held, heldAfterLoad, callOf, heldAfter, outcomesOf, heldAfterCalls, repliesOf, modelRefusal, modelCall, modelReply, modelAfterCalls, modelReplies}
 use Rattle.definition.specs.Expected.{greys4, order4, serials4, pyramid4, levels4, greys8, order8, serials8, pyramid8, levels8}
@@ -153,8 +154,17 @@ unfoldable pub listP3 : List ℕ
 listP3 = 50 ∷ 44 ∷ 50 ∷ 10 ∷ 49 ∷ 44 ∷ 48 ∷ 44 ∷ 48 ∷ 10 ∷ 50 ∷ 44 ∷ 49 ∷ 44 ∷ 49 ∷ 10 ∷ []
 
 -- Drill List of P3 finished, into a buffer of n places with 7s in them
-unfoldable pub listed : ℕ → DrillListOutcome
+unfoldable pub listed : ℕ → TextOutcome
 listed n = let held = after 1 p3 (9 ∷ []) in drillListOf (held .progress) (held .pyramid) (held .serials) (held .order) (replicate n 7)
+
+-- a line of its quote page: "  a   b      xyz     h     c"
+unfoldable pub lineP3 : ℕ → ℕ → ℕ → ℕ → ℕ → ℕ → ℕ → List ℕ
+lineP3 a b x y z h c =
+    32 ∷ 32 ∷ (48 + a) ∷ 32 ∷ 32 ∷ 32 ∷ (48 + b) ∷ replicate 6 32 ++ (48 + x) ∷ (48 + y) ∷ (48 + z) ∷ replicate 5 32 ++ (48 + h) ∷ replicate 5 32 ++ (48 + c) ∷ 10 ∷ []
+
+-- the quote page of P3 finished, into a buffer of n places with 7s in them
+unfoldable pub quoted : ℕ → ℕ → TextOutcome
+quoted level n = quotePageOf 2 p3 (after 1 p3 (9 ∷ []) .serials) level (replicate n 7)
 
 -- Advance on an unburnt sheet of side 2 whose first cell owes w and the others nothing
 unfoldable pub owed : ℕ → Reply
@@ -196,6 +206,13 @@ furtherPlates =
     ∷ (34, refuses (altered 0 (1 ∷ 0 ∷ 0 ∷ 0 ∷ []) (0 ∷ 0 ∷ 0 ∷ 0 ∷ []) (pos 0) (minus 65281) .said) 5)
     -- "64 alone on its line gives 2"
     ∷ (35, same (plateOf (54 ∷ 52 ∷ 10 ∷ [])) (refusedText 2) && same (plateOf (replicate 4100 48)) (refusedText 9))
+    -- document 02's quote page: P3's of level 0, with the byte past it, and of level 1; the cap just below a whole number, at one, and at s²
+    ∷ (36, same (saidAs (quoted 0 30 .said)) (0 ∷ 29 ∷ []) && same (quoted 0 30 .output) (lineP3 0 0 5 1 2 2 4 ++ 7 ∷ []))
+    ∷ (37, same (quoted 1 116 .output) (lineP3 0 0 1 2 8 1 1 ++ lineP3 0 1 1 2 8 0 1 ++ lineP3 1 0 1 2 8 0 1 ++ lineP3 1 1 1 2 8 1 1))
+    ∷ (38, eqb (quoteCap 2 85) 3 && eqb (quoteCap 2 86) 4 && eqb (quoteCap 2 1020) 4)
+    -- its refusals, the lowest number first
+    ∷ (39, refuses (quotePageOf 3 [] [] 9 [] .said) 1 && refuses (quotePageOf 2 (0 ∷ []) [] 2 [] .said) 2 && refuses (quotePageOf 2 p1 (0 ∷ []) 2 [] .said) 4)
+    ∷ (40, refuses (quoted 2 999 .said) 6 && refuses (quoted 1 115 .said) 8 && same (quoted 0 28 .output) (replicate 28 7))
     ∷ []
 
 -- the number of the first row that doesn't hold; 0 if they all do
@@ -204,5 +221,5 @@ firstFailing [] = 0
 firstFailing (row ∷ rows) = elim (row .1) [ true ↦ firstFailing rows | false ↦ row .0 ]
 
 pub plates-hold : firstFailing (plates ++ furtherPlates) ≡ 0
-unfolding sumTo sumZTo allTo tabulateFrom repeated eqZ start placeIn rowAt columnAt levelOf inLevel entry four coarser pyramidOver blockSum blockSumZ greyAt burnt burntAt greySum greyTotal dotsIn allDots candidate firstOfEquals better largest descend plain within onMap weightAt share diffuse topOf modelStart missing placeDot step steps burntNear everyEntry fewDots numbered counted unused summed bounded owing isSound powerUpTo powerOf lowest loadRefusal loaded loadOf dotsDue saidAt sheetIn advanceRefusal advanced advanceOf tallyRefusal tallyOf errorAt squared levelSum levelsRefusal levelsOf digitsUpTo decimal line lineEnds isDigit digitsThen fieldOf rowsText mapText valuesOf readGreys mapTextRefusal readMap mapTextOf dotLines drillText drillListRefusal drillListOf refusedText finishedOf plateOf heldAfterLoad callOf heldAfter outcomesOf heldAfterCalls repliesOf modelRefusal modelCall modelReply modelAfterCalls modelReplies greys4 order4 serials4 pyramid4 levels4 greys8 order8 serials8 pyramid8 levels8 same sameZ saidAs refuses loadedMap callsOf after modelAfter replied answers leaves sharesFrom shares total p1 p2 p3 p6 textP3 listP3 listed owed altered plates furtherPlates firstFailing
+unfolding sumTo sumZTo allTo tabulateFrom joined repeated eqZ start placeIn rowAt columnAt levelOf inLevel entry four coarser pyramidOver blockSum blockSumZ greyAt burnt burntAt greySum greyTotal dotsIn allDots candidate firstOfEquals better largest descend plain within onMap weightAt share diffuse topOf modelStart missing placeDot step steps burntNear everyEntry fewDots numbered counted unused summed bounded owing isSound powerUpTo powerOf lowest loadRefusal loaded loadOf dotsDue saidAt sheetIn advanceRefusal advanced advanceOf tallyRefusal tallyOf errorAt squared levelSum levelsRefusal levelsOf digitsUpTo decimal rightAligned line lineEnds isDigit digitsThen fieldOf textInto rowsText mapText valuesOf readGreys mapTextRefusal readMap mapTextOf dotLines drillText drillListRefusal drillListOf quoteCap figures alignedLine quoteText quotePageRefusal quotePageOf refusedText finishedOf plateOf heldAfterLoad callOf heldAfter outcomesOf heldAfterCalls repliesOf modelRefusal modelCall modelReply modelAfterCalls modelReplies greys4 order4 serials4 pyramid4 levels4 greys8 order8 serials8 pyramid8 levels8 same sameZ saidAs refuses loadedMap callsOf after modelAfter replied answers leaves sharesFrom shares total p1 p2 p3 p6 textP3 listP3 listed lineP3 quoted owed altered plates furtherPlates firstFailing
 plates-hold = refl

@@ -41,7 +41,11 @@ sheetUnsound sound = (5, not sound)
 abbrev pub blockUnknown : ℕ → ℕ → ℕ → ℕ → Row
 blockUnknown r k a b = (6, ltb r k || leb (2 ^ k) a || leb (2 ^ k) b)
 
--- "output shorter than the list"
+-- "k above r": of a call that is given a level, and no entry of it
+abbrev pub levelUnknown : ℕ → ℕ → Row
+levelUnknown r k = (6, ltb r k)
+
+-- "output shorter than the list", or than the page
 abbrev pub outputShort : ℕ → ℕ → Row
 outputShort list lent = (8, ltb lent list)
 

@@ -1,9 +1,10 @@
--- Document 01's texts: numbers and lines, written and read. A text is a list of bytes.
+-- Document 01's texts: numbers and lines, written and read, and a text in a lent output. A text is a list of bytes.
 use mathlib.Core.Bool.{Bool, true, false, not, _&&_}
 use mathlib.Core.List.{List, [], _∷_, _++_}
 use Prim.Native.Nat.{ℕ, zero, suc, _+_, _*_, _-_, _/_, _%_}
 use lib.Dec.{leb, ltb, eqb}
-use lib.ListN.{replicate}
+use lib.ListN.{length, replicate, drop}
+use Rattle.definition.specs.Answers.{Said, returned, refused}
 
 abbrev pub comma : ℕ
 comma = 44
@@ -20,6 +21,13 @@ digitsUpTo (suc most) n = elim (ltb n 10) [ true ↦ (48 + n) ∷ [] | false ↦
 -- all of them: n + 1 are enough
 unfoldable pub decimal : ℕ → List ℕ
 decimal n = digitsUpTo (suc n) n
+
+abbrev pub space : ℕ
+space = 32
+
+-- document 02, "right aligned with spaces": a number in `width` places
+unfoldable pub rightAligned : ℕ → ℕ → List ℕ
+rightAligned width n = replicate (width - length (decimal n)) space ++ decimal n
 
 -- numbers "parted by commas", ended by byte 10
 unfoldable pub line : List ℕ → List ℕ
@@ -54,3 +62,13 @@ digitsThen most end v (b ∷ rest) =
 unfoldable pub fieldOf : ℕ → ℕ → List ℕ → Field
 fieldOf most end [] = malformed
 fieldOf most end (b ∷ rest) = elim (isDigit b) [ true ↦ digitsThen most end (b - 48) rest | false ↦ malformed ]
+
+-- What a call that writes a text says, and the output afterwards.
+pub record TextOutcome : Type 0 where
+  pub said : Said
+  pub output : List ℕ
+
+-- for a refusal's number, 0 where there is none: "It returns its length; bytes past it stay."
+unfoldable pub textInto : ℕ → List ℕ → List ℕ → TextOutcome
+textInto zero text output = record { said = returned (length text ∷ []); output = text ++ drop (length text) output }
+textInto (suc n) text output = record { said = refused (suc n); output = output }

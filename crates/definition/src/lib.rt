@@ -69,8 +69,8 @@ pub enum MapTextAnswer {
     Refused(Refusal),
 }
 
-// Drill List: the length of the list.
-pub enum DrillListAnswer {
+// Drill List, quote page: the length of the text that was written.
+pub enum TextAnswer {
     Length(usize),
     Refused(Refusal),
 }

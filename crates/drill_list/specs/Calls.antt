@@ -8,15 +8,16 @@ use borrow.Author.Tests.{ne-eqb, le-ltb}
 use lib.ListN.{length}
 use lib.Seq.{take-take}
 use lib.IntN.{ℤ}
-use Rattle.definition.specs.Answers.{drillListSays, numberOf}
+use Rattle.definition.specs.Answers.{textSays, numberOf}
 use Rattle.definition.specs.Pyramid.{needed, cellCount}
 use Rattle.definition.specs.Refusals.{Row, powerOf, outputShort, lowest}
 use Rattle.definition.specs.Sound.{isSound}
 use Rattle.definition.specs.Advance.{sheetIn, advanceRefusal}
-use Rattle.definition.specs.DrillList.{drillText, DrillListOutcome, drillListRefusal, drillListOf}
+use Rattle.definition.specs.Text.{TextOutcome, textInto}
+use Rattle.definition.specs.DrillList.{drillText, drillListRefusal, drillListOf}
 use Rattle.definition.specs.declared.Progress.{Progress}
 use Rattle.definition.specs.declared.Refusal.{Refusal}
-use Rattle.definition.specs.declared.DrillListAnswer.the-variants.{Refused}
+use Rattle.definition.specs.declared.TextAnswer.the-variants.{Refused}
 use Rattle.integers.specs.Tests.{T-true}
 use Rattle.quadtree.specs.Levels.{cells-few}
 use Rattle.refusals.specs.Powers.{power-small}
@@ -47,13 +48,13 @@ module _ (r p s o list output : ℕ) where
 module _ (progress : Progress) (p : List ℤ) (s o : List ℕ) {r : ℕ} (er : r ≡ powerOf (progress .side)) (check : Check)
     (e : checked check ≡ advanceRefusal r (length p) (length s) (length o) (isSound r (sheetIn r (progress .dots) p s o))) where
   pub refused-is : (output : List ℕ) {why : Refusal} → check ≡ Failed why
-      → record { said = drillListSays (Refused why); output = output } ≡ drillListOf progress p s o output
-  unfolding drillListOf drillListSays
+      → record { said = textSays (Refused why); output = output } ≡ drillListOf progress p s o output
+  unfolding drillListOf textInto textSays
   refused-is output {why} failed =
       let k = powerOf (progress .side) in
       let sheet = sheetIn k (progress .dots) p s o in
       let n : advanceRefusal k (length p) (length s) (length o) (isSound k sheet) ≡ suc (numberOf why - 1) = rw (← er) (failed-number check e why failed) in
-      rw (sheet-first k (length p) (length s) (length o) (length (drillText k sheet)) (length output) (isSound k sheet) (numberOf why - 1) n, drillListOf, ← number-positive why)
+      rw (sheet-first k (length p) (length s) (length o) (length (drillText k sheet)) (length output) (isSound k sheet) (numberOf why - 1) n, ← number-positive why)
 
   module _ (passed : check ≡ Passed) where
     asked : SheetAsked r (progress .dots) p s o
@@ -73,14 +74,14 @@ module _ (progress : Progress) (p : List ℤ) (s o : List ℕ) {r : ℕ} (er : r
 
     module _ (output : List ℕ) where
       list-then : drillListOf progress p s o output ≡ listedIn (drillText (powerOf (progress .side)) (sheetIn (powerOf (progress .side)) (progress .dots) p s o)) output
-      unfolding drillListOf listedIn
+      unfolding drillListOf
       list-then =
           let k = powerOf (progress .side) in
           let sheet = sheetIn k (progress .dots) p s o in
           let list = drillText k sheet in
           let z : drillListRefusal k (length p) (length s) (length o) (isSound k sheet) (length list) (length output) ≡ lowest (outputShort (length list) (length output) ∷ []) =
           rw (← er, asked .sound) (length-then r (length p) (length s) (length o) _ (length output) (asked .lent)) in
-          rw (z, drillListOf, listedIn)
+          rw z
 
-      pub listed-is : {out : DrillListOutcome} → out ≡ listedIn (listText r (progress .dots) o) output → out ≡ drillListOf progress p s o output
+      pub listed-is : {out : TextOutcome} → out ≡ listedIn (listText r (progress .dots) o) output → out ≡ drillListOf progress p s o output
       listed-is q = q ∙ sym (list-then ∙ rw (← er, list-is))

@@ -1,7 +1,7 @@
 -- The list written line by line, and into a buffer that has room for it or not.
 use mathlib.Core.Path.{_≡_, sym, ap, _∙_}
 use mathlib.Core.List.{List, [], _∷_, _++_, append-assoc, append-nil}
-use Prim.Native.Nat.{ℕ, zero, suc, _+_, _/_, _%_, _^_, _<_, _≤_}
+use Prim.Native.Nat.{ℕ, suc, _+_, _/_, _%_, _^_, _<_, _≤_}
 use native.Mathlib.Nat.{zero-add, add-zero, div-le-self, mod-le}
 use native.Mathlib.Numerals.{add-one}
 use native.Mathlib.Omega.{arith}
@@ -9,12 +9,12 @@ use borrow.Author.Tests.{lt-ltb, le-ltb}
 use lib.Pow.{pow-pos, pow-mono}
 use lib.ListN.{length, getD, take, drop, length-append}
 use lib.Seq.{take-suc, length-take-le, append-snoc}
-use Rattle.definition.specs.Answers.{returned, refused, drillListSays, numberOf}
+use Rattle.definition.specs.Answers.{textSays, numberOf}
 use Rattle.definition.specs.Refusals.{outputShort, lowest}
-use Rattle.definition.specs.Text.{comma, newline, decimal, line}
-use Rattle.definition.specs.DrillList.{dotLines, DrillListOutcome}
+use Rattle.definition.specs.Text.{comma, newline, decimal, line, TextOutcome, textInto}
+use Rattle.definition.specs.DrillList.{dotLines}
 use Rattle.definition.specs.declared.Refusal.the-variants.{OutputShort}
-use Rattle.definition.specs.declared.DrillListAnswer.the-variants.{Length, Refused}
+use Rattle.definition.specs.declared.TextAnswer.the-variants.{Length, Refused}
 use Rattle.decimals.specs.Writing.{fieldText, length-number, Wrote, wrote-none, wrote-append, wrote-length, sets-front, empty-front}
 
 -- the list of the first `dots` cells of an order list
@@ -22,12 +22,8 @@ unfoldable pub listText : ℕ → ℕ → List ℕ → List ℕ
 listText r dots order = line (dots ∷ 2 ^ r ∷ []) ++ dotLines r 1 (take dots order)
 
 -- a list into a buffer that has room for it; or a refusal
-unfoldable pub listedIn : List ℕ → List ℕ → DrillListOutcome
-listedIn list output =
-    elim (lowest (outputShort (length list) (length output) ∷ [])) [
-      | zero ↦ record { said = returned (length list ∷ []); output = list ++ drop (length list) output }
-      | suc n ↦ record { said = refused (suc n); output = output }
-    ]
+abbrev pub listedIn : List ℕ → List ℕ → TextOutcome
+listedIn list output = textInto (lowest (outputShort (length list) (length output) ∷ [])) list output
 
 -- a power, and so many cells in an order list
 pub record ListAsked (r dots order : ℕ) : Type 0 where
@@ -125,13 +121,13 @@ module _ (list output : List ℕ) {n : ℕ} {part : List ℕ} (w : Wrote (take 0
   long = w .place ∙ zero-add (length list)
 
   pub list-short : length (part ++ drop 0 output) < n
-      → record { said = drillListSays (Refused OutputShort); output = part ++ drop 0 output } ≡ listedIn list output
-  unfolding listedIn lowest drillListSays numberOf
-  list-short h = rw (untouched, lt-ltb (length output) (length list) (omega (arith, long, ap length untouched)), listedIn)
+      → record { said = textSays (Refused OutputShort); output = part ++ drop 0 output } ≡ listedIn list output
+  unfolding textInto lowest textSays numberOf
+  list-short h = rw (untouched, lt-ltb (length output) (length list) (omega (arith, long, ap length untouched)))
 
   pub list-written : n ≤ length (part ++ drop 0 output) → {m : ℕ} {after : List ℕ} → Wrote (part ++ drop 0 output) 0 list m after
-      → record { said = drillListSays (Length m); output = after } ≡ listedIn list output
-  unfolding listedIn lowest drillListSays
+      → record { said = textSays (Length m); output = after } ≡ listedIn list output
+  unfolding textInto lowest textSays
   list-written h v =
       let room : length list ≤ length output = omega (arith, long, ap length untouched) in
-      rw (v .stored, untouched, sets-front list output room, v .place, zero-add (length list), le-ltb (length output) (length list) room, listedIn)
+      rw (v .stored, untouched, sets-front list output room, v .place, zero-add (length list), le-ltb (length output) (length list) room)

@@ -1,13 +1,13 @@
 // Drill List: "a line holes,side; then for each hole in order serial,row,column; same ending. It returns its length; bytes past it stay."
 use checks::Check;
-use definition::DrillListAnswer;
 use definition::Progress;
 use definition::Refusal;
+use definition::TextAnswer;
 ghost use mathlib.Core.Path.{_≡_};
 ghost use mathlib.Core.List.{[], _∷_};
 ghost use Prim.Native.Nat.{_/_, _%_, _^_, _≤_};
 ghost use lib.ListN.{length, take};
-ghost use Rattle.definition.specs.Answers.{drillListSays};
+ghost use Rattle.definition.specs.Answers.{textSays};
 ghost use Rattle.definition.specs.Text.{line};
 ghost use Rattle.definition.specs.DrillList.{dotLines, drillListOf};
 ghost use Rattle.decimals.specs.Writing.{Wrote};
@@ -58,16 +58,16 @@ fn put_list(out: &mut [u8], order: &[u32], dots: usize, r: usize) -> usize
 }
 
 // Works out the list's length, then writes it where there is room.
-fn write_list(out: &mut [u8], order: &[u32], dots: usize, r: usize) -> DrillListAnswer
+fn write_list(out: &mut [u8], order: &[u32], dots: usize, r: usize) -> TextAnswer
     requires { ⌜ ListAsked r dots (length (now order)) ⌝ }
-    ensures { λ a. ⌜ record { said = drillListSays a; output = now (out .exit) } ≡ listedIn (listText r dots (now (order .entry))) (now (out .entry)) ⌝ }
+    ensures { λ a. ⌜ record { said = textSays a; output = now (out .exit) } ≡ listedIn (listText r dots (now (order .entry))) (now (out .entry)) ⌝ }
 {
     let length = put_list(&mut out[..0], order, dots, r);
     if out.len() < length {
-        return DrillListAnswer::Refused(Refusal::OutputShort);
+        return TextAnswer::Refused(Refusal::OutputShort);
     }
     let written = put_list(out, order, dots, r);
-    DrillListAnswer::Length(written)
+    TextAnswer::Length(written)
 }
 
 pub fn drill_list(
@@ -76,13 +76,13 @@ pub fn drill_list(
     serials: &[u32],
     order: &[u32],
     out: &mut [u8],
-) -> DrillListAnswer
-    ensures { λ a. ⌜ record { said = drillListSays a; output = now (out .exit) } ≡ drillListOf progress (now (pyramid .entry)) (now (serials .entry)) (now (order .entry)) (now (out .entry)) ⌝ }
+) -> TextAnswer
+    ensures { λ a. ⌜ record { said = textSays a; output = now (out .exit) } ≡ drillListOf progress (now (pyramid .entry)) (now (serials .entry)) (now (order .entry)) (now (out .entry)) ⌝ }
 {
     let r = sizes::power_of(progress.side);
     let dots = progress.dots;
     match sheet::check_sheet(r, dots, pyramid, serials, order) {
-        Check::Failed(why) => DrillListAnswer::Refused(why),
+        Check::Failed(why) => TextAnswer::Refused(why),
         Check::Passed => write_list(out, order, dots as usize, r),
     }
 }

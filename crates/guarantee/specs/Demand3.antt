@@ -16,6 +16,7 @@ use Rattle.definition.specs.Model.{Halftone, topOf, modelStart, steps}
 use Rattle.definition.specs.Refusals.{powerOf}
 use Rattle.definition.specs.Load.{loadOf}
 use Rattle.definition.specs.Advance.{Reply, AdvanceOutcome}
+use Rattle.definition.specs.QuotePage.{Figure, quoteCap, figures}
 use Rattle.definition.specs.Calls.{Call, Held, heldAfterLoad, outcomesOf, heldAfterCalls, repliesOf, modelAfterCalls, modelReplies, isRefusal, granted}
 
 -- P holds of each element
@@ -44,6 +45,15 @@ UnderCap r greys serials k a b = 765 * dotsIn r serials k a b < 3 * greySum r gr
 -- other side (s is at most N, so N − s is a natural number)
 abbrev pub OverFloor : ℕ → List ℕ → List ℕ → ℕ → ℕ → ℕ → Type 0
 OverFloor r greys serials k a b = 2 * greySum r greys k a b < 510 * dotsIn r serials k a b + 255 + 1530 * k + 2040 * (2 ^ r - blockSide r k)
+
+-- .. and document 02's quote page: "The printed holes never exceed the printed cap", and each figure, a number with the width of its column, has no more
+-- digits than places
+abbrev pub InWidth : Figure → Type 0
+InWidth (width, n) = n < 10 ^ width
+
+pub record Quoted (r : ℕ) (greys serials : List ℕ) (k a b : ℕ) : Type 0 where
+  pub within : dotsIn r serials k a b ≤ quoteCap (blockSide r k) (greySum r greys k a b)
+  pub fits : Each InWidth (figures r greys serials k a b)
 
 -- One call of the list: if it isn't refused, it says "finished" exactly when all holes then number the total.
 abbrev pub Ends : ℕ → ℕ → AdvanceOutcome → Type 0
@@ -75,6 +85,8 @@ pub record Holds (kernel : Kernel) (r G : ℕ) (greys : List ℕ) (lentPyramid :
   -- the cap of every aligned square, and, once the map is finished ("if the top is then below 32,640"), its floor
   pub cap : EachBlock r (UnderCap r greys (held .serials))
   pub floor : topOf (held .pyramid) <ℤ pos halfDot → EachBlock r (OverFloor r greys (held .serials))
+  -- the quote page of every level
+  pub quotes : EachBlock r (Quoted r greys (held .serials))
   -- the debt still stored at the top
   pub debt : pos (oneDot * held .progress .dots) +ℤ topOf (held .pyramid) ≡ pos (256 * G)
   pub ends : Each (Ends r (totalOf G)) outcomes

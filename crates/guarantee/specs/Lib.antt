@@ -1,5 +1,6 @@
 pub mod Demand3
 pub mod Floor
+pub mod Quote
 pub mod Capped
 pub mod Lent
 pub mod Start

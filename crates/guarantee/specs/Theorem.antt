@@ -21,14 +21,16 @@ use Rattle.definition.specs.Advance.{dotsDue}
 use Rattle.definition.specs.Calls.{Call, callOf, outcomesOf, repliesOf, modelCall, modelReply, modelAfterCalls, modelReplies, isRefusal}
 use Rattle.integers.specs.Linear.{zz, ints, up-or-dn}
 use Rattle.integers.specs.Sums.{sumTo-rows, sumTo-ext}
+use Rattle.refusals.specs.Powers.{power-small}
 use Rattle.quadtree.specs.Areas.{span, area, area-ext, block-area}
 use Rattle.quadtree.specs.Levels.{start-suc, cell-lt, block-side, block-on-map}
 use Rattle.shares.specs.Kernels.{Fit, plain-fit}
 use Rattle.dots.specs.Steps.{Sheet, due-is, steps-keep}
 use Rattle.guarantee.specs.Demand3.{Each, EachBlock, Accepted, totalOf, UnderCap, Ends, Holds, Demand3}
 use Rattle.guarantee.specs.Floor.{floor}
+use Rattle.guarantee.specs.Quote.{figures-fit, under-quote}
 use Rattle.guarantee.specs.Capped.{Capped, capped-kept}
-use Rattle.guarantee.specs.Start.{start-sheet, start-capped, accepted-loaded, loaded-held}
+use Rattle.guarantee.specs.Start.{each-getD, start-sheet, start-capped, accepted-loaded, loaded-held}
 use Rattle.guarantee.specs.Lent.{heldOf}
 use Rattle.guarantee.specs.OneCall.{call-same, held-same}
 use Rattle.guarantee.specs.ManyCalls.{call-sheet, calls-sheet, calls-keep, calls-held, calls-replies, calls-number, calls-first, reply-finished, call-due}
@@ -176,6 +178,11 @@ module _ (kernel : Kernel) (fit : Fit kernel) (r : ℕ) (big : 2 ≤ 2 ^ r) (pow
               let t = capped .total in
               let u = rw at-top at low in
               floor r greys (last .serials ++ s) capped-blocks (all-made (omega (ints, simp zz at t, simp zz at u)));
+          quotes = λ k a b h u v.
+              record {
+                within = under-quote r greys (last .serials ++ s) k a b (capped-blocks k a b h u v);
+                fits = figures-fit r greys (last .serials ++ s) k a b (power-small (2 ^ r) (sym power)) h u v (each-getD (λ grey. grey ≤ 255) greys 0 (omega arith) bytes);
+              };
           debt = rw at-top (capped .total);
           ends = ends-all p s o cs fresh (start-sheet r greys bytes) start-due;
         }

@@ -9,9 +9,9 @@ use console::field_u32;
 use console::least;
 use console::limit;
 use console::next;
-use definition::DrillListAnswer;
 use definition::MapTextAnswer;
 use definition::Progress;
+use definition::TextAnswer;
 ghost use Prim.Native.Nat.{_≤_};
 
 // 1 for a place of the output that holds what it held before the call, or else 0.
@@ -48,10 +48,10 @@ fn print_list(out: &[u8], length: usize) {
     print_spare(out, end);
 }
 
-fn print_answer(answer: DrillListAnswer, out: &[u8]) {
+fn print_answer(answer: TextAnswer, out: &[u8]) {
     match answer {
-        DrillListAnswer::Length(length) => print_list(out, length),
-        DrillListAnswer::Refused(why) => {
+        TextAnswer::Length(length) => print_list(out, length),
+        TextAnswer::Refused(why) => {
             console::print_refused(why);
             print_spare(out, 0);
         }
@@ -104,7 +104,7 @@ fn list_damaged(
     serials: &[u32],
     order: &[u32],
     out: &mut [u8],
-) -> DrillListAnswer {
+) -> TextAnswer {
     let pyramid_lent = lent(pyramid.len(), damage, 4);
     let serials_lent = lent(serials.len(), damage, 5);
     let order_lent = lent(order.len(), damage, 6);

@@ -9,7 +9,7 @@ use lib.Pow.{pow-mono}
 use lib.ListN.{length, drop, length-append}
 use lib.Seq.{take-at}
 use lib.IntN.{ℤ}
-use Rattle.definition.specs.Answers.{returned, drillListSays}
+use Rattle.definition.specs.Answers.{returned, textSays}
 use Rattle.definition.specs.Pyramid.{needed, cellCount}
 use Rattle.definition.specs.Diffusion.{plain}
 use Rattle.definition.specs.Model.{Halftone}
@@ -17,12 +17,13 @@ use Rattle.definition.specs.Refusals.{powerOf, lowest}
 use Rattle.definition.specs.Sound.{isSound}
 use Rattle.definition.specs.Advance.{sheetIn}
 use Rattle.definition.specs.Calls.{Held}
-use Rattle.definition.specs.DrillList.{drillText, DrillListOutcome, drillListRefusal, drillListOf}
+use Rattle.definition.specs.Text.{TextOutcome, textInto}
+use Rattle.definition.specs.DrillList.{drillText, drillListRefusal, drillListOf}
 use Rattle.definition.specs.Plate.{finishedOf}
 use Rattle.definition.specs.declared.Progress.{Progress}
 use Rattle.definition.specs.declared.Refusal.{Refusal}
-use Rattle.definition.specs.declared.DrillListAnswer.{DrillListAnswer}
-use Rattle.definition.specs.declared.DrillListAnswer.the-variants.{Length, Refused}
+use Rattle.definition.specs.declared.TextAnswer.{TextAnswer}
+use Rattle.definition.specs.declared.TextAnswer.the-variants.{Length, Refused}
 use Rattle.integers.specs.Tests.{true-T}
 use Rattle.dots.specs.Steps.{Sheet}
 use Rattle.dots.specs.SoundTest.{sound-test}
@@ -32,12 +33,12 @@ use Rattle.plate_text.specs.Lengths.{list-length}
 use Rattle.plate_text.specs.Finished.{finishedIn, MapAsked, power-again, finished-sheet}
 
 -- Drill List, as a call on what the caller holds
-abbrev listedFrom : Held → List ℕ → DrillListOutcome
+abbrev listedFrom : Held → List ℕ → TextOutcome
 listedFrom held out = drillListOf (held .progress) (held .pyramid) (held .serials) (held .order) out
 
 -- an answer that says a text's length and leaves the text
-abbrev printedIn : List ℕ → List ℕ → DrillListOutcome
-printedIn text out = record { said = returned (length text ∷ []); output = text ++ drop (length text) out }
+abbrev printedIn : List ℕ → List ℕ → TextOutcome
+printedIn text out = textInto 0 text out
 
 -- ---- Drill List on buffers that begin with a sheet
 module _ (r : ℕ) (some : 0 < r) (power : powerOf (2 ^ r) ≡ r) (t : Halftone) (sheet : Sheet r t) (p : List ℤ) (s o out : List ℕ)
@@ -69,20 +70,20 @@ module _ (r : ℕ) (some : 0 < r) (power : powerOf (2 ^ r) ≡ r) (t : Halftone)
 
   sheet-listed : listedFrom (heldOf r t p s o) out ≡ printedIn (drillText r t) out
   unfolding drillListOf
-  sheet-listed = rw (power, sheet-is, not-refused, drillListOf) (rw (power, sheet-is))
+  sheet-listed = rw (power, sheet-is, not-refused)
 
 -- ---- an answer that keeps the call's promise
-module _ (text before after : List ℕ) (answer : DrillListAnswer) (room : length text ≤ length before)
-    (e : record { said = drillListSays answer; output = after } ≡ printedIn text before) where
+module _ (text before after : List ℕ) (answer : TextAnswer) (room : length text ≤ length before)
+    (e : record { said = textSays answer; output = after } ≡ printedIn text before) where
   list-printed : {n : ℕ} → answer ≡ Length n → Printed text before n after
-  unfolding drillListSays
+  unfolding textSays textInto
   list-printed {n} q =
-      let said : drillListSays (Length n) ≡ returned (length text ∷ []) = ap drillListSays (sym q) ∙ ap (λ (out : DrillListOutcome). out .said) e in
-      record { room = room; count = cc; written = ap (λ (out : DrillListOutcome). out .output) e }
+      let said : textSays (Length n) ≡ returned (length text ∷ []) = ap textSays (sym q) ∙ ap (λ (out : TextOutcome). out .said) e in
+      record { room = room; count = cc; written = ap (λ (out : TextOutcome). out .output) e }
 
   not-listed : {why : Refusal} → answer ≡ Refused why → ⊥
-  unfolding drillListSays
-  not-listed {why} q = suc-ne-zero 0 (cc (ap drillListSays (sym q) ∙ ap (λ (out : DrillListOutcome). out .said) e))
+  unfolding textSays textInto
+  not-listed {why} q = suc-ne-zero 0 (cc (ap textSays (sym q) ∙ ap (λ (out : TextOutcome). out .said) e))
 
 -- ---- Drill List on the finished sheet
 module _ (side : ℕ) (greys : List ℕ) {a b c : ℕ} (asked : MapAsked side greys a b c) (p : List ℤ) (s o out : List ℕ)
@@ -104,9 +105,9 @@ module _ (side : ℕ) (greys : List ℕ) {a b c : ℕ} (asked : MapAsked side gr
 
   module _ {progress : Progress} {p₁ : List ℤ} {s₁ o₁ : List ℕ}
       (e : record { progress = progress; pyramid = p₁; serials = s₁; order = o₁ } ≡ finishedIn r greys p s o)
-      (answer : DrillListAnswer) {after : List ℕ}
-      (list : record { said = drillListSays answer; output = after } ≡ drillListOf progress p₁ s₁ o₁ out) where
-    answered : record { said = drillListSays answer; output = after } ≡ printedIn (drillText r sheet) out
+      (answer : TextAnswer) {after : List ℕ}
+      (list : record { said = textSays answer; output = after } ≡ drillListOf progress p₁ s₁ o₁ out) where
+    answered : record { said = textSays answer; output = after } ≡ printedIn (drillText r sheet) out
     answered =
         list
         ∙ ap (λ (held : Held). listedFrom held out) e

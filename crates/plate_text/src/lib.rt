@@ -1,8 +1,8 @@
 // What the program plate prints for an input: "reads a map text on standard input, runs to finished and prints the drill list; or the line
 // refused,n with n the refusal."
-use definition::DrillListAnswer;
 use definition::MapTextAnswer;
 use definition::Progress;
+use definition::TextAnswer;
 ghost use mathlib.Core.Path.{_≡_};
 ghost use Prim.Native.Nat.{_^_, _≤_};
 ghost use lib.ListN.{length, take};
@@ -68,8 +68,8 @@ fn put_drill_list(side: u32, greys: &[u8], out: &mut [u8]) -> usize
     let mut order = [0u32; 1024];
     let progress = run_map(side, greys, &mut pyramid, &mut serials, &mut order);
     match drill_list::drill_list(progress, &pyramid, &serials, &order, out) {
-        DrillListAnswer::Length(n) => n,
-        DrillListAnswer::Refused(_) => 0,
+        TextAnswer::Length(n) => n,
+        TextAnswer::Refused(_) => 0,
     }
 }
 

@@ -88,3 +88,9 @@ module _ (p q n : ℕ) where
 pub block-area : (r : ℕ) (f : ℕ → ℕ → ℕ) (k a b : ℕ) → blockSum r f k a b ≡ area (a * blockSide r k) (b * blockSide r k) (blockSide r k) f
 unfolding blockSum area span
 block-area r f k a b = refl
+
+-- where no cell has more than m, a block has at most m for each of its cells
+pub block-most : (r : ℕ) (f : ℕ → ℕ → ℕ) (m k a b : ℕ) → ((x y : ℕ) → f x y ≤ m) → blockSum r f k a b ≤ m * (blockSide r k * blockSide r k)
+block-most r f m k a b h =
+    let s = blockSide r k in
+    omega (arith, block-area r f k a b, area-mono (a * s) (b * s) s f (λ x y. m) (λ x y i j. h x y), area-rows (a * s) (b * s) s (λ x. m), ap (λ (n : ℕ). s * n) (span-const (a * s) s m))

@@ -4,13 +4,13 @@ use mathlib.Core.List.{List}
 use Prim.Native.Nat.{ℕ}
 use lib.IntN.{ℤ}
 use lib.Seq.{sets}
-use Rattle.definition.specs.Answers.{loadSays, advanceSays, tallySays, levelsSays, mapTextSays, drillListSays}
+use Rattle.definition.specs.Answers.{loadSays, advanceSays, tallySays, levelsSays, mapTextSays, textSays}
 use Rattle.definition.specs.Load.{loadOf}
 use Rattle.definition.specs.Diffusion.{plain}
 use Rattle.definition.specs.Advance.{advanceOf}
 use Rattle.definition.specs.Survey.{tallyOf, levelsOf}
 use Rattle.definition.specs.MapText.{mapTextOf}
-use Rattle.definition.specs.DrillList.{drillListOf}
+use Rattle.definition.specs.Text.{TextOutcome}
 use Rattle.definition.specs.declared.LoadAnswer.{LoadAnswer}
 use Rattle.definition.specs.declared.LoadStatus.{LoadStatus}
 use Rattle.definition.specs.declared.AdvanceAnswer.{AdvanceAnswer}
@@ -19,8 +19,8 @@ use Rattle.definition.specs.declared.TallyAnswer.{TallyAnswer}
 use Rattle.definition.specs.declared.LevelsAnswer.{LevelsAnswer}
 use Rattle.definition.specs.declared.LevelsStatus.{LevelsStatus}
 use Rattle.definition.specs.declared.MapTextAnswer.{MapTextAnswer}
-use Rattle.definition.specs.declared.DrillListAnswer.{DrillListAnswer}
-use Rattle.rulmedei.specs.Codes.{codeOf, valueOf, loadCode, advanceCode, tallyCode, levelsCode, mapTextCode, drillListCode}
+use Rattle.definition.specs.declared.TextAnswer.{TextAnswer}
+use Rattle.rulmedei.specs.Codes.{codeOf, valueOf, loadCode, advanceCode, tallyCode, levelsCode, mapTextCode, textCode}
 
 -- ---- the calls that answer a record with a status
 pub load-coded : (side : ℕ) (g : List ℕ) (p : List ℤ) (s o : List ℕ) (a : LoadAnswer) {p′ : List ℤ} {s′ o′ : List ℕ}
@@ -57,9 +57,11 @@ pub map-text-coded : (text greys : List ℕ) {after : List ℕ} (a : MapTextAnsw
 unfolding mapTextCode
 map-text-coded text greys a h is n v = rw (← h, is, n, v)
 
-pub drill-list-coded : (side dots : ℕ) (p : List ℤ) (s o out : List ℕ) {after : List ℕ} (a : DrillListAnswer)
-    → record { said = drillListSays a; output = after } ≡ drillListOf (record { side = side; dots = dots }) p s o out
-    → {t : DrillListAnswer} → a ≡ t → {n v : ℕ} → n ≡ codeOf (drillListSays t) → v ≡ valueOf (drillListSays t)
-    → record { code = n; length = v; output = after } ≡ drillListCode side dots p s o out
-unfolding drillListCode
-drill-list-coded side dots p s o out a h is n v = rw (← h, is, n, v)
+-- what `text_code` returns and writes
+pub case-coded : (a : TextAnswer) {t : TextAnswer} → a ≡ t → {n v : ℕ} → n ≡ codeOf (textSays t) → v ≡ valueOf (textSays t) → (n ≡ codeOf (textSays a)) × (v ≡ valueOf (textSays a))
+case-coded a is n v = (rw (is, n), rw (is, v))
+
+pub text-coded : {o : TextOutcome} {after : List ℕ} (a : TextAnswer) → record { said = textSays a; output = after } ≡ o
+    → {n v : ℕ} → n ≡ codeOf (textSays a) → v ≡ valueOf (textSays a) → record { code = n; length = v; output = after } ≡ textCode o
+unfolding textCode
+text-coded a h n v = rw (← h, n, v)

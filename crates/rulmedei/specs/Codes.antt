@@ -9,7 +9,7 @@ use Rattle.definition.specs.Diffusion.{plain}
 use Rattle.definition.specs.Advance.{advanceOf}
 use Rattle.definition.specs.Survey.{tallyOf, levelsOf}
 use Rattle.definition.specs.MapText.{mapTextOf}
-use Rattle.definition.specs.DrillList.{drillListOf}
+use Rattle.definition.specs.Text.{TextOutcome}
 
 -- 0 where the call did its work, 100 for "more", else the number of the refusal
 unfoldable pub codeOf : Said → ℕ
@@ -75,12 +75,11 @@ pub record MapTextCode : Type 0 where
 unfoldable pub mapTextCode : List ℕ → List ℕ → MapTextCode
 mapTextCode text greys = let o = mapTextOf text greys in record { code = codeOf (o .said); side = valueOf (o .said); greys = o .greys }
 
-pub record DrillListCode : Type 0 where
+-- Drill List and quote page
+pub record TextCode : Type 0 where
   pub code : ℕ
   pub length : ℕ
   pub output : List ℕ
 
-unfoldable pub drillListCode : ℕ → ℕ → List ℤ → List ℕ → List ℕ → List ℕ → DrillListCode
-drillListCode side dots pyramid serials order output =
-    let o = drillListOf (record { side = side; dots = dots }) pyramid serials order output in
-    record { code = codeOf (o .said); length = valueOf (o .said); output = o .output }
+unfoldable pub textCode : TextOutcome → TextCode
+textCode o = record { code = codeOf (o .said); length = valueOf (o .said); output = o .output }

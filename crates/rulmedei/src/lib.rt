@@ -1,16 +1,19 @@
 // The calls for programs in C and Rust: numbers and slices only. Each returns a code: 0 where the call did its work, 100 where Advance says
 // more, or else document 01's number of the refusal. A slice is a pointer and a length (include/rulmedei.h says what a caller must ensure).
 use definition::AdvanceStatus;
-use definition::DrillListAnswer;
 use definition::LevelsStatus;
 use definition::LoadStatus;
 use definition::MapTextAnswer;
 use definition::Progress;
 use definition::TallyAnswer;
+use definition::TextAnswer;
 ghost use mathlib.Core.Path.{_≡_};
 ghost use lib.ListN.{set};
 ghost use lib.Seq.{sets};
-ghost use Rattle.rulmedei.specs.Codes.{loadCode, advanceCode, tallyCode, levelsCode, mapTextCode, drillListCode};
+ghost use Rattle.definition.specs.Answers.{textSays};
+ghost use Rattle.definition.specs.DrillList.{drillListOf};
+ghost use Rattle.definition.specs.QuotePage.{quotePageOf};
+ghost use Rattle.rulmedei.specs.Codes.{codeOf, valueOf, loadCode, advanceCode, tallyCode, levelsCode, mapTextCode, textCode};
 
 // Load. The record is written to `progress_side` and `progress_dots`.
 #[no_mangle]
@@ -139,6 +142,22 @@ pub extern "C" fn rulmedei_map_text(text: &[u8], greys: &mut [u8], side: &mut u3
     }
 }
 
+// The code of a call that writes a text. The text's length is written to `length`, 0 where it refuses.
+fn text_code(answer: TextAnswer, length: &mut usize) -> u32
+    ensures { λ n. ⌜ (n ≡ codeOf (textSays answer)) × (now (length .exit) ≡ valueOf (textSays answer)) ⌝ }
+{
+    match answer {
+        TextAnswer::Length(n) => {
+            *length = n;
+            0
+        }
+        TextAnswer::Refused(why) => {
+            *length = 0;
+            checks::number_of(why)
+        }
+    }
+}
+
 // Drill List, with the record (side, dots). The list's length is written to `length`, 0 where it refuses.
 #[no_mangle]
 pub extern "C" fn rulmedei_drill_list(
@@ -150,16 +169,24 @@ pub extern "C" fn rulmedei_drill_list(
     out: &mut [u8],
     length: &mut usize,
 ) -> u32
-    ensures { λ n. ⌜ record { code = n; length = now (length .exit); output = now (out .exit) } ≡ drillListCode side dots (now (pyramid .entry)) (now (serials .entry)) (now (order .entry)) (now (out .entry)) ⌝ }
+    ensures { λ n. ⌜ record { code = n; length = now (length .exit); output = now (out .exit) } ≡ textCode (drillListOf (record { side = side; dots = dots }) (now (pyramid .entry)) (now (serials .entry)) (now (order .entry)) (now (out .entry))) ⌝ }
 {
-    match drill_list::drill_list(Progress { side, dots }, pyramid, serials, order, out) {
-        DrillListAnswer::Length(n) => {
-            *length = n;
-            0
-        }
-        DrillListAnswer::Refused(why) => {
-            *length = 0;
-            checks::number_of(why)
-        }
-    }
+    let answer = drill_list::drill_list(Progress { side, dots }, pyramid, serials, order, out);
+    text_code(answer, length)
+}
+
+// Quote page. The page's length is written to `length`, 0 where it refuses.
+#[no_mangle]
+pub extern "C" fn rulmedei_quote_page(
+    side: u32,
+    greys: &[u8],
+    serials: &[u32],
+    level: u32,
+    out: &mut [u8],
+    length: &mut usize,
+) -> u32
+    ensures { λ n. ⌜ record { code = n; length = now (length .exit); output = now (out .exit) } ≡ textCode (quotePageOf side (now (greys .entry)) (now (serials .entry)) level (now (out .entry))) ⌝ }
+{
+    let answer = quote_page::quote_page(side, greys, serials, level, out);
+    text_code(answer, length)
 }

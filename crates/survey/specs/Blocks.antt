@@ -7,12 +7,13 @@ use native.Mathlib.Omega.{arith}
 use native.Mathlib.Nat.{add-assoc}
 use lib.Pow.{pow-mono, pow-add}
 use lib.ListN.{getD}
-use Rattle.definition.specs.Blocks.{blockSum, blockSumZ, burnt, burntAt, greyAt, dotsIn}
+use Rattle.definition.specs.Pyramid.{cellNumber}
+use Rattle.definition.specs.Blocks.{blockSum, blockSumZ, burnt, burntAt, greyAt, greySum, dotsIn}
 use Rattle.definition.specs.Survey.{errorAt, squared, levelSum}
 use Rattle.integers.specs.Sums.{sumTo-ext, sumZTo-ext}
 use Rattle.quadtree.specs.Levels.{block-side, block-on-map}
 use Rattle.survey.specs.Asked.{BlockAsked, LevelsAsked}
-use Rattle.survey.specs.Squares.{SquareAsked, GridAsked, squareDots, cellError, gridSum}
+use Rattle.survey.specs.Squares.{SquareAsked, GridAsked, squareSum, squareDots, squareGreys, cellError, gridSum}
 
 module _ {lent r k row column side s : ℕ} (h : BlockAsked lent r k row column) (es : side ≡ 2 ^ r) (e : s ≡ 2 ^ (r - k)) where
   pub block-square : SquareAsked lent side s (row * s) (column * s)
@@ -21,13 +22,19 @@ module _ {lent r k row column side s : ℕ} (h : BlockAsked lent r k row column)
       rw (es, e)
       (record { small = pow-mono {i = r} {j = 8} (h .powers); down = block-on-map r (r - k) k row l (h .above); across = block-on-map r (r - k) k column l (h .before); room = h .room })
 
-  pub block-dots : (serials : List ℕ) {n : ℕ} → n ≡ squareDots serials side s (row * s) (column * s) → n ≡ dotsIn r serials k row column
-  unfolding dotsIn blockSum burntAt
-  block-dots serials d =
+  block-values : (f : ℕ → ℕ) (values : List ℕ) → squareSum f values side s (row * s) (column * s) ≡ blockSum r (λ x y. f (getD values (cellNumber r x y) 0)) k row column
+  unfolding blockSum
+  block-values f values =
       let l : (r - k) + k ≡ r = omega (arith, h .level) in
-      d
-      ∙ rw (es, e, block-side r (r - k) k l)
-      (sumTo-ext _ _ _ (λ x. sumTo-ext _ _ _ (λ y. ap (λ (i : ℕ). burnt (getD serials i 0)) (add-assoc _ _ _))))
+      rw (es, e, block-side r (r - k) k l) (sumTo-ext _ _ _ (λ x. sumTo-ext _ _ _ (λ y. ap (λ (i : ℕ). f (getD values i 0)) (add-assoc _ _ _))))
+
+  pub block-dots : (serials : List ℕ) {n : ℕ} → n ≡ squareDots serials side s (row * s) (column * s) → n ≡ dotsIn r serials k row column
+  unfolding dotsIn burntAt
+  block-dots serials d = d ∙ block-values burnt serials
+
+  pub block-greys : (greys : List ℕ) {n : ℕ} → n ≡ squareGreys greys side s (row * s) (column * s) → n ≡ greySum r greys k row column
+  unfolding greySum greyAt
+  block-greys greys d = d ∙ block-values (λ grey. grey) greys
 
 module _ {lent-greys lent-serials r k side s count : ℕ} (h : LevelsAsked lent-greys lent-serials r) (level : k ≤ r) (es : side ≡ 2 ^ r) (e : s ≡ 2 ^ (r - k))
     (ec : count ≡ 2 ^ k) where

@@ -17,12 +17,25 @@ use Rattle.integers.specs.Linear.{zz, natAbs-within}
 use Rattle.integers.specs.Machine.{of-bits}
 use Rattle.survey.specs.Totals.{Total, TotalZ}
 
--- the dots of `count` cells from the cell `from` on
+-- the sum of f over the values of `count` cells from the cell `from` on, and over those of a square
+abbrev pub rowSum : (ℕ → ℕ) → List ℕ → ℕ → ℕ → ℕ
+rowSum f values from count = sumTo count (λ y. f (getD values (from + y) 0))
+
+abbrev pub squareSum : (ℕ → ℕ) → List ℕ → ℕ → ℕ → ℕ → ℕ → ℕ
+squareSum f values side s top left = sumTo s (λ x. rowSum f values ((top + x) * side + left) s)
+
+-- the dots: 1 for each serial of one; and the greys themselves
 abbrev pub rowDots : List ℕ → ℕ → ℕ → ℕ
-rowDots serials from count = sumTo count (λ y. burnt (getD serials (from + y) 0))
+rowDots = rowSum burnt
 
 abbrev pub squareDots : List ℕ → ℕ → ℕ → ℕ → ℕ → ℕ
-squareDots serials side s top left = sumTo s (λ x. rowDots serials ((top + x) * side + left) s)
+squareDots = squareSum burnt
+
+abbrev pub rowGreys : List ℕ → ℕ → ℕ → ℕ
+rowGreys = rowSum (λ grey. grey)
+
+abbrev pub squareGreys : List ℕ → ℕ → ℕ → ℕ → ℕ → ℕ
+squareGreys = squareSum (λ grey. grey)
 
 -- the error of a cell: its grey, less 255 for a dot
 abbrev pub cellError : ℕ → ℕ → ℤ
@@ -41,7 +54,7 @@ blocksSum greys serials side s top count = sumTo count (λ b. squared (squareErr
 abbrev pub gridSum : List ℕ → List ℕ → ℕ → ℕ → ℕ → ℕ
 gridSum greys serials side s count = sumTo count (λ a. blocksSum greys serials side s (a * s) count)
 
--- bounds: 256 errors of at most 255 in size, 256 rows of them, the square of that, and 256 such squares
+-- bounds: 256 greys, or errors, of at most 255 in size, 256 rows of them, the square of that, and 256 such squares
 abbrev pub rowMost : ℕ
 rowMost = 255 * 256
 

@@ -1,6 +1,8 @@
 //! The cases: loads, runs of calls with lent parts and damage between them, sheets that no Load made, noise, and texts.
+//! Pages are asked for on runs and on noise.
 
 use reference::{cell_count, power, pyramid_length, renew_all, write_map_text, Progress};
+use rulmedei::page_length;
 
 use crate::random::Random;
 use crate::side_by_side::{Differs, Lent, Sheet, SideBySide};
@@ -30,7 +32,7 @@ fn noise(random: &mut Random, side: u32) -> Sheet {
     let (p, s, o) = (random.length(pyramid), random.length(cells), random.length(cells));
     Sheet {
         pyramid: (0..p).map(|_| random.entry()).collect(),
-        serials: (0..s).map(|_| random.below(4) as u32).collect(),
+        serials: (0..s).map(|_| random.serial()).collect(),
         order: (0..o).map(|_| random.below(cells + 1) as u32).collect(),
     }
 }
@@ -79,8 +81,8 @@ fn load_case(random: &mut Random, calls: &mut SideBySide) -> Result<(), Differs>
 fn run_case(random: &mut Random, calls: &mut SideBySide) -> Result<(), Differs> {
     let side = random.good_side();
     let (cells, pyramid) = needed(side);
-    let greys = greys(random, cells);
     let spare = random.below(3);
+    let greys = greys(random, cells + spare);
     let mut sheet =
         Sheet { pyramid: vec![-1; pyramid + spare], serials: vec![9; cells + spare], order: vec![9; cells + spare] };
     let all = whole(&sheet);
@@ -102,11 +104,12 @@ fn one_call(
 ) -> Result<u32, Differs> {
     let Progress { side, dots } = progress;
     let lent = lent(random, side, sheet);
-    match random.below(12) {
+    match random.below(13) {
         0 => calls.tally(side, &sheet.serials[..lent.serials], block(random, side)).map(|_| dots),
         1 => calls.levels(side, greys, &sheet.serials[..lent.serials]).map(|_| dots),
         2 => list(random, calls, progress, sheet, lent).map(|_| dots),
-        3..=6 => on_damage(random, calls, progress, sheet, lent).map(|_| dots),
+        3 => page(random, calls, side, greys, &sheet.serials[..lent.serials]).map(|_| dots),
+        4..=7 => on_damage(random, calls, progress, sheet, lent).map(|_| dots),
         _ => {
             let budget = budget(random, side);
             let after = calls.advance(progress, budget, sheet, lent)?;
@@ -133,6 +136,31 @@ fn block(random: &mut Random, side: u32) -> [u32; 3] {
         3 => [level, word, word],
         _ => [level, random.below(rows) as u32, random.below(rows) as u32],
     }
+}
+
+/// All of the greys, or now and then a part with a length around the needed one.
+fn lent_greys<'a>(random: &mut Random, side: u32, greys: &'a [u8]) -> &'a [u8] {
+    let length = if random.once_in(4) { random.length(needed(side).0) } else { greys.len() };
+    &greys[..length.min(greys.len())]
+}
+
+/// A level that the map has, the next one, or now and then any number.
+fn level(random: &mut Random, side: u32) -> u32 {
+    if random.once_in(16) {
+        return random.next() as u32;
+    }
+    random.below(power(side).unwrap_or(2) as usize + 2) as u32
+}
+
+/// Quote Page into an output around the page's length; for a level that there isn't, around that of the map's last.
+fn page(random: &mut Random, calls: &mut SideBySide, side: u32, greys: &[u8], serials: &[u32]) -> Result<(), Differs> {
+    let greys = lent_greys(random, side, greys);
+    let level = level(random, side);
+    let last = power(side).unwrap_or(2);
+    let length = random.length(page_length(level.min(last)));
+    let mut out = vec![46; length];
+    calls.quote_page(side, greys, serials, level, &mut out)?;
+    Ok(())
 }
 
 /// Drill List into an output around the list's length.
@@ -225,6 +253,7 @@ fn noise_case(random: &mut Random, calls: &mut SideBySide) -> Result<(), Differs
     let lent = lent(random, side, &sheet);
     calls.tally(side, &sheet.serials[..lent.serials], block(random, side))?;
     calls.levels(side, &greys, &sheet.serials[..lent.serials])?;
+    page(random, calls, side, &greys, &sheet.serials[..lent.serials])?;
     list(random, calls, progress, &sheet, lent)?;
     calls.advance(progress, budget(random, side), &mut sheet, lent)?;
     Ok(())

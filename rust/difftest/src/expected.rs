@@ -48,6 +48,11 @@ pub fn drill_list(progress: Progress, pyramid: &[i64], serials: &[u32], order: &
     Outcome { code: code_of(answer), values: vec![answer.unwrap_or(0) as u64] }
 }
 
+pub fn quote_page(side: u32, greys: &[u8], serials: &[u32], level: u32, out: &mut [u8]) -> Outcome {
+    let answer = reference::quote_page(side, greys, serials, level, out);
+    Outcome { code: code_of(answer), values: vec![answer.unwrap_or(0) as u64] }
+}
+
 fn record(progress: Progress) -> Vec<u64> {
     vec![progress.side.into(), progress.dots.into()]
 }

@@ -46,6 +46,11 @@ pub fn drill_list(progress: Progress, pyramid: &[i64], serials: &[u32], order: &
     Outcome { code, values: vec![length as u64] }
 }
 
+pub fn quote_page(side: u32, greys: &[u8], serials: &[u32], level: u32, out: &mut [u8]) -> Outcome {
+    let (code, length) = codes::quote_page(side, greys, serials, level, out);
+    Outcome { code, values: vec![length as u64] }
+}
+
 /// The record as the library has it.
 fn ours(progress: Progress) -> rulmedei::Progress {
     rulmedei::Progress { side: progress.side, dots: progress.dots }

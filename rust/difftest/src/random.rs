@@ -78,6 +78,14 @@ impl Random {
         }
     }
 
+    /// A small serial, 0 among them, or now and then one of a single bit, up to 2^31.
+    pub fn serial(&mut self) -> u32 {
+        if self.once_in(16) {
+            return 1 << self.below(32);
+        }
+        self.below(4) as u32
+    }
+
     /// A residual or sum as a sheet may hold it, or any 64-bit number.
     pub fn entry(&mut self) -> i64 {
         let word = self.next() as i64;

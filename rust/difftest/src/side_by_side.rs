@@ -130,6 +130,23 @@ impl SideBySide {
         self.counted("drill_list", ours)
     }
 
+    pub fn quote_page(
+        &mut self,
+        side: u32,
+        greys: &[u8],
+        serials: &[u32],
+        level: u32,
+        out: &mut [u8],
+    ) -> Result<Outcome, Differs> {
+        let before = out.to_vec();
+        let mut other = out.to_vec();
+        let ours = library::quote_page(side, greys, serials, level, out);
+        let theirs = expected::quote_page(side, greys, serials, level, &mut other);
+        let inputs = (side, greys, serials, level, before.len());
+        self.agreed("quote_page", &inputs, (&ours, &*out), (&theirs, &other[..]))?;
+        self.counted("quote_page", ours)
+    }
+
     fn agreed<T: Debug + PartialEq>(&self, call: &str, inputs: &dyn Debug, ours: T, theirs: T) -> Result<(), Differs> {
         if ours == theirs {
             return Ok(());

@@ -70,4 +70,16 @@ extern "C" {
         out_length: usize,
         length: *mut usize,
     ) -> u32;
+
+    pub fn rulmedei_quote_page(
+        side: u32,
+        greys: *const u8,
+        greys_length: usize,
+        serials: *const u32,
+        serials_length: usize,
+        level: u32,
+        out: *mut u8,
+        out_length: usize,
+        length: *mut usize,
+    ) -> u32;
 }

@@ -118,3 +118,23 @@ pub fn drill_list(progress: Progress, pyramid: &[i64], serials: &[u32], order: &
     };
     (code, length)
 }
+
+/// The code, and the page's length.
+pub fn quote_page(side: u32, greys: &[u8], serials: &[u32], level: u32, out: &mut [u8]) -> (u32, usize) {
+    let mut length = usize::MAX;
+    // SAFETY: each pointer and length is that of a slice, and `length` is a local.
+    let code = unsafe {
+        c::rulmedei_quote_page(
+            side,
+            greys.as_ptr(),
+            greys.len(),
+            serials.as_ptr(),
+            serials.len(),
+            level,
+            out.as_mut_ptr(),
+            out.len(),
+            &mut length,
+        )
+    };
+    (code, length)
+}

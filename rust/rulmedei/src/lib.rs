@@ -1,8 +1,8 @@
-//! Grey maps to ordered lists of holes: the six calls of the proved library, on slices that the caller lends. No call asks anything of its
+//! Grey maps to ordered lists of holes: the seven calls of the proved library, on slices that the caller lends. No call asks anything of its
 //! arguments; what doesn't fit is refused, and a refused call leaves every buffer as it was.
 //!
 //! Map Text reads a map, Load fills the buffers, Advance makes holes until it is finished, and Drill List writes them down
-//! (`examples/list.rs`). Tally and Levels look at what was made.
+//! (`examples/list.rs`). Tally, Levels and Quote Page look at what was made.
 
 #[cfg(not(all(target_arch = "x86_64", target_os = "linux")))]
 compile_error!("the proved library is compiled for x86-64 Linux");
@@ -38,6 +38,12 @@ pub fn cells(side: u32) -> usize {
 /// The length that the pyramid needs: (4N² − 1) / 3.
 pub fn pyramid_length(side: u32) -> usize {
     cells(side).saturating_mul(4).saturating_sub(1) / 3
+}
+
+/// The length that the page of a level needs: 29 bytes for each of its squares, 29 × 4^level. Past level 8 no map has a page; where the
+/// number has no place in a `usize`, it is the largest one.
+pub fn page_length(level: u32) -> usize {
+    4usize.saturating_pow(level).saturating_mul(29)
 }
 
 /// Load: fills the pyramid from the greys and sets the cells of serials and order to 0. Refusals: 1, 2, 3, 4.
@@ -104,6 +110,16 @@ pub fn drill_list(
     out: &mut [u8],
 ) -> Result<usize, Refusal> {
     let (code, length) = codes::drill_list(progress, pyramid, serials, order, out);
+    did(code)?;
+    Ok(length)
+}
+
+/// Quote Page: writes for each aligned square of a level, by row then column, a line with the square's row (3 wide), column (3), grey sum
+/// (8), holes (5) and cap (5), right aligned, with one space between; returns the number of bytes, which is `page_length(level)`. Those past
+/// it stay. With s the square's side, the cap is the smaller of s² and (3 × grey sum + 764 + 1,020 × s) / 765, rounded down; the holes are
+/// at most the cap where Load and Advance made the serials from these greys. Refusals: 1, 2, 4, 6, 8.
+pub fn quote_page(side: u32, greys: &[u8], serials: &[u32], level: u32, out: &mut [u8]) -> Result<usize, Refusal> {
+    let (code, length) = codes::quote_page(side, greys, serials, level, out);
     did(code)?;
     Ok(length)
 }

@@ -23,7 +23,7 @@ pub enum Refusal {
     BlockUnknown = 6,
     /// the text doesn't fit the grammar of map texts
     TextMalformed = 7,
-    /// the output is shorter than the list
+    /// the output is shorter than the list or page
     OutputShort = 8,
     /// the input is longer than 4,099 bytes: the program `plate` only, no call here returns it
     InputLong = 9,

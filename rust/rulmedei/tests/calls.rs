@@ -1,11 +1,17 @@
-//! The calls on document 01's example, a map of side 2 with four greys of 128, and each refusal once.
+//! The calls on document 01's example, a map of side 2 with four greys of 128, and each refusal once; those of Quote Page in their order.
 
 use rulmedei::{
-    advance, cells, drill_list, levels, load, map_text, pyramid_length, tally, Advanced, Progress, Refusal,
+    advance, cells, drill_list, levels, load, map_text, page_length, pyramid_length, quote_page, tally, Advanced,
+    Progress, Refusal,
 };
 
 const GREYS: [u8; 4] = [128; 4];
 const LIST: &[u8] = b"2,2\n1,0,0\n2,1,1\n";
+const PAGE: &[u8] = b"  0   0      128     1     1
+  0   1      128     0     1
+  1   0      128     0     1
+  1   1      128     1     1
+";
 
 /// Buffers one place longer than needed, with 9s in them.
 struct Sheet {
@@ -94,6 +100,43 @@ fn map_text_reads_a_map() {
     let mut greys = [9; 5];
     assert_eq!(map_text(b"2\n1,20\n255,0\n", &mut greys), Ok(2));
     assert_eq!(greys, [1, 20, 255, 0, 9]);
+}
+
+#[test]
+fn quote_page_writes_the_page() {
+    let sheet = finished();
+    let mut out = [9; 120];
+    assert_eq!(quote_page(2, &GREYS, &sheet.serials, 0, &mut out), Ok(29));
+    assert_eq!(&out[..29], b"  0   0      512     2     4\n");
+    assert!(out[29..].iter().all(|byte| *byte == 9));
+    assert_eq!(quote_page(2, &GREYS, &sheet.serials, 1, &mut out), Ok(116));
+    assert_eq!(&out[..116], PAGE);
+    assert!(out[116..].iter().all(|byte| *byte == 9));
+}
+
+#[test]
+fn quote_page_refuses_in_order() {
+    let sheet = finished();
+    let mut out = [9; 115];
+    let mut number = |side, greys: &[u8], serials: &[u32], level, length: usize| {
+        quote_page(side, greys, serials, level, &mut out[..length]).map_err(Refusal::number)
+    };
+    assert_eq!(number(3, &[], &[], 2, 0), Err(1));
+    assert_eq!(number(2, &GREYS[1..], &[], 2, 0), Err(2));
+    assert_eq!(number(2, &GREYS, &sheet.serials[2..], 2, 0), Err(4));
+    assert_eq!(number(2, &GREYS, &sheet.serials, 2, 0), Err(6));
+    assert_eq!(number(2, &GREYS, &sheet.serials, u32::MAX, 115), Err(6));
+    assert_eq!(number(2, &GREYS, &sheet.serials, 1, 115), Err(8));
+    assert_eq!(number(2, &GREYS, &sheet.serials, 0, 28), Err(8));
+    assert_eq!(out, [9; 115]);
+}
+
+#[test]
+fn page_lengths() {
+    let levels = [0, 1, 2, 3, 4, 5, 6, 7, 8];
+    assert_eq!(levels.map(page_length), [29, 116, 464, 1_856, 7_424, 29_696, 118_784, 475_136, 1_900_544]);
+    // 29 × 4^29 is the last that fits 64 bits
+    assert_eq!([29, 30, 31, 32, u32::MAX].map(page_length), [29 << 58, usize::MAX, usize::MAX, usize::MAX, usize::MAX]);
 }
 
 #[test]

@@ -1,0 +1,15 @@
+-- `decimals::put_column`.
+use native.Mathlib.Omega.{arith}
+use borrow.Author.Needs.{needs}
+use Rattle.decimals.specs.Writing.{right-end, column-wrote}
+use Rattle.decimals.proofs.put_column.Statement.{statement}
+use Rattle.decimals.proofs.put_column.Tie as tie
+
+pub put-column-spec : {M : Type 1} → statement M
+put-column-spec =
+    tie.close
+    (tie.spec
+    (λ c κs. search needs)
+    (λ c κs. omega (arith, right-end _ (omega arith) _ (c .before .before .before .put-right .ensures)))
+    (λ c. search needs)
+    (λ c. search (column-wrote, needs)))

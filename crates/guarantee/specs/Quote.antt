@@ -1,0 +1,39 @@
+-- The quote page (document 02, request 2): every figure fits its width, for all greys and serials; and where the cap holds, the printed holes never exceed
+-- the printed cap.
+use mathlib.Core.List.{List}
+use Prim.Native.Nat.{ℕ, _*_, _^_, _≤_, _<_}
+use native.Mathlib.Omega.{arith}
+use native.Mathlib.Nat.{div-le-self, mul-le-mul}
+use lib.Pow.{pow-mono}
+use lib.ListN.{getD}
+use Rattle.definition.specs.Pyramid.{cellNumber}
+use Rattle.definition.specs.Blocks.{blockSide, greyAt, burntAt, greySum, dotsIn}
+use Rattle.definition.specs.QuotePage.{quoteCap, figures}
+use Rattle.quadtree.specs.Areas.{block-most}
+use Rattle.dots.specs.Marks.{burntAt-le}
+use Rattle.guarantee.specs.Demand3.{Each, UnderCap, InWidth}
+
+module _ (r : ℕ) (greys serials : List ℕ) (k a b : ℕ) where
+  abbrev s : ℕ
+  s = blockSide r k
+
+  dots-most : dotsIn r serials k a b ≤ s * s
+  unfolding dotsIn
+  dots-most = omega (arith, block-most r (burntAt r serials) 1 k a b (burntAt-le r serials))
+
+  greys-most : ((i : ℕ) → getD greys i 0 ≤ 255) → greySum r greys k a b ≤ 255 * (s * s)
+  unfolding greySum greyAt
+  greys-most bytes = block-most r (greyAt r greys) 255 k a b (λ x y. bytes (cellNumber r x y))
+
+  pub figures-fit : r ≤ 8 → k ≤ r → a < 2 ^ k → b < 2 ^ k → ((i : ℕ) → getD greys i 0 ≤ 255) → Each InWidth (figures r greys serials k a b)
+  unfolding figures quoteCap
+  figures-fit small level u v bytes =
+      let n = pow-mono {i = k} {j = 8} (omega arith) in
+      let m = pow-mono {i = r} {j = 8} small in
+      let side : s ≤ 256 = omega (arith, div-le-self (2 ^ r) (2 ^ k)) in
+      let square = mul-le-mul side side in
+      (omega arith, (omega arith, (omega (arith, greys-most bytes), (omega (arith, dots-most), (omega arith, tt)))))
+
+  pub under-quote : UnderCap r greys serials k a b → dotsIn r serials k a b ≤ quoteCap s (greySum r greys k a b)
+  unfolding quoteCap
+  under-quote cap = omega (arith, dots-most)

@@ -1,0 +1,150 @@
+// Quote page: "one line per aligned square of that level, by row then column. A line holds the entry's row a (3 wide) and column b (3),
+// grey sum (8), holes (5), cap (5), with one space between, right aligned with spaces, then byte 10: 29 bytes."
+use checks::Check;
+use definition::Refusal;
+use definition::TextAnswer;
+ghost use mathlib.Core.Path.{_≡_};
+ghost use mathlib.Core.List.{[], _∷_};
+ghost use Prim.Native.Nat.{_^_, _<_, _≤_};
+ghost use lib.ListN.{length};
+ghost use Rattle.definition.specs.Lists.{joined};
+ghost use Rattle.definition.specs.Answers.{textSays};
+ghost use Rattle.definition.specs.QuotePage.{quoteCap, figures, alignedLine, quoteText, quotePageRefusal, quotePageOf};
+ghost use Rattle.decimals.specs.Writing.{Wrote};
+ghost use Rattle.checks.specs.Checks.{checked};
+ghost use Rattle.quote_page.specs.Page.{PageAsked, pageLength};
+
+// The cap of a square of side s with a grey sum.
+fn cap(s: u64, grey: u64) -> u64
+    requires { ⌜ (s ≤ 256) × (grey < 2 ^ 32) ⌝ }
+    ensures { λ n. ⌜ n ≡ quoteCap s grey ⌝ }
+{
+    let square = s * s;
+    let most = (3 * grey + 764 + 1020 * s) / 765;
+    if most < square {
+        return most;
+    }
+    square
+}
+
+// A line of five figures.
+fn put_line(
+    out: &mut [u8],
+    at: usize,
+    row: u64,
+    column: u64,
+    grey: u64,
+    dots: u64,
+    cap: u64,
+) -> usize
+    requires { ⌜ at ≤ 2 ^ 61 ⌝ }
+    ensures { λ next. ⌜ Wrote (now (out .entry)) at (alignedLine ((3, row) ∷ (3, column) ∷ (8, grey) ∷ (5, dots) ∷ (5, cap) ∷ [])) next (now (out .exit)) ⌝ }
+{
+    let second = decimals::put_column(out, at, 3, row, 32);
+    let third = decimals::put_column(out, second, 3, column, 32);
+    let fourth = decimals::put_column(out, third, 8, grey, 32);
+    let fifth = decimals::put_column(out, fourth, 5, dots, 32);
+    decimals::put_column(out, fifth, 5, cap, 10)
+}
+
+// The line of the square (row, column) of level k.
+fn put_square(
+    out: &mut [u8],
+    at: usize,
+    greys: &[u8],
+    serials: &[u32],
+    r: usize,
+    k: usize,
+    row: usize,
+    column: usize,
+) -> usize
+    requires { ⌜ (at ≤ 2 ^ 61) × (row < 2 ^ k) × (column < 2 ^ k) × PageAsked (now greys) (now serials) r k ⌝ }
+    ensures { λ next. ⌜ Wrote (now (out .entry)) at (alignedLine (figures r (now (greys .entry)) (now (serials .entry)) k row column)) next (now (out .exit)) ⌝ }
+{
+    let s = sizes::pow2(r - k) as u64;
+    let grey = survey::block_greys(greys, r, k, row, column) as u64;
+    let dots = survey::block_dots(serials, r, k, row, column) as u64;
+    let most = cap(s, grey);
+    put_line(out, at, row as u64, column as u64, grey, dots, most)
+}
+
+// The lines of the squares of a row.
+fn put_row(
+    out: &mut [u8],
+    from: usize,
+    greys: &[u8],
+    serials: &[u32],
+    r: usize,
+    k: usize,
+    row: usize,
+) -> usize
+    requires { ⌜ (from ≤ 2 ^ 60) × (row < 2 ^ k) × PageAsked (now greys) (now serials) r k ⌝ }
+    ensures { λ next. ⌜ Wrote (now (out .entry)) from (joined (2 ^ k) (λ b. alignedLine (figures r (now (greys .entry)) (now (serials .entry)) k row b))) next (now (out .exit)) ⌝ }
+{
+    let count = sizes::pow2(k);
+    let mut at = from;
+    let mut column = 0;
+    while column < count {
+        at = put_square(out, at, greys, serials, r, k, row, column);
+        column += 1;
+    }
+    at
+}
+
+// The whole page.
+fn put_page(out: &mut [u8], greys: &[u8], serials: &[u32], r: usize, k: usize) -> usize
+    requires { ⌜ PageAsked (now greys) (now serials) r k ⌝ }
+    ensures { λ next. ⌜ Wrote (now (out .entry)) 0 (quoteText r (now (greys .entry)) (now (serials .entry)) k) next (now (out .exit)) ⌝ }
+{
+    let count = sizes::pow2(k);
+    let mut at = 0;
+    let mut row = 0;
+    while row < count {
+        at = put_row(out, at, greys, serials, r, k, row);
+        row += 1;
+    }
+    at
+}
+
+// The refusals 1, 2, 4, 6, 8, for lengths lent.
+fn check_quote(r: usize, greys: usize, serials: usize, k: usize, out: usize) -> Check
+    requires { ⌜ r ≤ 8 ⌝ }
+    ensures { λ c. ⌜ checked c ≡ quotePageRefusal r greys serials k (pageLength k) out ⌝ }
+{
+    if r == 0 {
+        return Check::Failed(Refusal::SideUnknown);
+    }
+    let cells = sizes::cell_count(r);
+    if greys < cells {
+        return Check::Failed(Refusal::GreysShort);
+    }
+    if serials < cells {
+        return Check::Failed(Refusal::SheetShort);
+    }
+    if r < k {
+        return Check::Failed(Refusal::BlockUnknown);
+    }
+    let page = 29 * sizes::cell_count(k);
+    if out < page {
+        return Check::Failed(Refusal::OutputShort);
+    }
+    Check::Passed
+}
+
+// Quote page: the page of a level, or a refusal with nothing written. It reads each cell once.
+pub fn quote_page(
+    side: u32,
+    greys: &[u8],
+    serials: &[u32],
+    level: u32,
+    out: &mut [u8],
+) -> TextAnswer
+    ensures { λ a. ⌜ record { said = textSays a; output = now (out .exit) } ≡ quotePageOf side (now (greys .entry)) (now (serials .entry)) level (now (out .entry)) ⌝ }
+{
+    let r = sizes::power_of(side);
+    let k = level as usize;
+    match check_quote(r, greys.len(), serials.len(), k, out.len()) {
+        Check::Failed(why) => TextAnswer::Refused(why),
+        Check::Passed => TextAnswer::Length(put_page(out, greys, serials, r, k)),
+    }
+}
