@@ -76,10 +76,6 @@ module _ {l l₁ l₂ : List ℕ} {at a b : ℕ} where
   pub one-more-space : (i : ℕ) → Wrote l at (replicate i space) a l₁ → Wrote l₁ a (space ∷ []) b l₂ → Wrote l at (replicate (i + 1) space) b l₂
   one-more-space i x y = rw (← replicate-append-replicate i 1 space) (wrote-append x y)
 
-  pub column-wrote : (width n end : ℕ) → Wrote l at (rightAligned width n) a l₁ → Wrote l₁ a (end ∷ []) b l₂ → Wrote l at (columnText width n end) b l₂
-  unfolding columnText
-  column-wrote width n end x y = wrote-append x y
-
   -- ---- a number behind spaces: its last digit behind all that comes before it, in a place less
   module _ (width n : ℕ) {before : ℕ} (e : before ≡ width - 1) where
     pub one-digit : n < 10 → Wrote l at (replicate before space) a l₁ → Wrote l₁ a ((48 + n) ∷ []) b l₂ → Wrote l at (rightAligned width n) b l₂
@@ -137,9 +133,10 @@ module _ (n : ℕ) (small : n < 2 ^ 64) where
   pub right-end : {l l₁ : List ℕ} {at r : ℕ} (width : ℕ) → Wrote l at (rightAligned width n) r l₁ → r ≤ at + width + 20
   right-end width w = omega (arith, w .place, length-right width n, length-number)
 
-  pub column-end : {l l₁ : List ℕ} {at r : ℕ} (width end : ℕ) → Wrote l at (columnText width n end) r l₁ → r ≤ at + width + 21
+  pub column-wrote : {l l₁ l₂ : List ℕ} {at a b : ℕ} (width end : ℕ) → Wrote l at (rightAligned width n) a l₁ → Wrote l₁ a (end ∷ []) b l₂
+      → Wrote l at (columnText width n end) b l₂ × (b ≤ at + width + 21)
   unfolding columnText
-  column-end width end w = omega (arith, w .place, length-append (rightAligned width n) (end ∷ []), length-right width n, length-number)
+  column-wrote width end x y = (wrote-append x y, omega (arith, right-end width x, y .place))
 
   pub length-fieldText : (end : ℕ) → length (fieldText n end) ≤ 21
   unfolding fieldText

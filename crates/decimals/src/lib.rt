@@ -107,7 +107,8 @@ fn one_less(width: usize) -> usize
     width - 1
 }
 
-// Stores a number's digits behind as many spaces as fill the width, as far as the buffer has places, and returns the place behind them.
+// Stores a number's digits behind as many spaces as fill the width, as far as the buffer has places, and returns the place behind them. A number
+// with more digits than the width is stored whole.
 fn put_right(out: &mut [u8], at: usize, width: usize, n: u64) -> usize
     requires { ⌜ at + width ≤ 2 ^ 62 ⌝ }
     ensures { λ next. ⌜ Wrote (now (out .entry)) at (rightAligned width n) next (now (out .exit)) ⌝ }
@@ -132,7 +133,7 @@ pub fn put_number(out: &mut [u8], at: usize, n: u64) -> usize
 // A number right aligned, with the byte that ends it.
 pub fn put_column(out: &mut [u8], at: usize, width: usize, n: u64, end: u8) -> usize
     requires { ⌜ at + width ≤ 2 ^ 62 ⌝ }
-    ensures { λ next. ⌜ Wrote (now (out .entry)) at (columnText width n end) next (now (out .exit)) ⌝ }
+    ensures { λ next. ⌜ Wrote (now (out .entry)) at (columnText width n end) next (now (out .exit)) × (next ≤ at + width + 21) ⌝ }
 {
     let last = put_right(out, at, width, n);
     put_byte(out, last, end)

@@ -61,6 +61,7 @@ unfoldable pub mapTextSays : MapTextAnswer → Said
 mapTextSays (MapText.Side n) = returned (n ∷ [])
 mapTextSays (MapText.Refused why) = refused (numberOf why)
 
+-- Drill List and Quote Page
 unfoldable pub textSays : TextAnswer → Said
 textSays (Text.Length n) = returned (n ∷ [])
 textSays (Text.Refused why) = refused (numberOf why)

@@ -25,6 +25,7 @@ unfoldable pub drillListRefusal : ℕ → ℕ → ℕ → ℕ → Bool → ℕ �
 drillListRefusal r pyramid serials order sound list output =
     lowest (sideUnknown r ∷ pyramidShort r pyramid ∷ sheetShort r serials ∷ sheetShort r order ∷ sheetUnsound sound ∷ outputShort list output ∷ [])
 
+-- "It returns its length; bytes past it stay."
 unfoldable pub drillListOf : Progress → List ℤ → List ℕ → List ℕ → List ℕ → TextOutcome
 drillListOf progress pyramid serials order output =
     let r = powerOf (progress .side) in

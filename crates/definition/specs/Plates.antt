@@ -157,7 +157,7 @@ listP3 = 50 ∷ 44 ∷ 50 ∷ 10 ∷ 49 ∷ 44 ∷ 48 ∷ 44 ∷ 48 ∷ 10 ∷ 5
 unfoldable pub listed : ℕ → TextOutcome
 listed n = let held = after 1 p3 (9 ∷ []) in drillListOf (held .progress) (held .pyramid) (held .serials) (held .order) (replicate n 7)
 
--- a line of its quote page: "  a   b      xyz     h     c"
+-- a line of P3's quote page: "  a   b      xyz     h     c"
 unfoldable pub lineP3 : ℕ → ℕ → ℕ → ℕ → ℕ → ℕ → ℕ → List ℕ
 lineP3 a b x y z h c =
     32 ∷ 32 ∷ (48 + a) ∷ 32 ∷ 32 ∷ 32 ∷ (48 + b) ∷ replicate 6 32 ++ (48 + x) ∷ (48 + y) ∷ (48 + z) ∷ replicate 5 32 ++ (48 + h) ∷ replicate 5 32 ++ (48 + c) ∷ 10 ∷ []
@@ -212,7 +212,7 @@ furtherPlates =
     ∷ (38, eqb (quoteCap 2 85) 3 && eqb (quoteCap 2 86) 4 && eqb (quoteCap 2 1020) 4)
     -- its refusals, the lowest number first
     ∷ (39, refuses (quotePageOf 3 [] [] 9 [] .said) 1 && refuses (quotePageOf 2 (0 ∷ []) [] 2 [] .said) 2 && refuses (quotePageOf 2 p1 (0 ∷ []) 2 [] .said) 4)
-    ∷ (40, refuses (quoted 2 999 .said) 6 && refuses (quoted 1 115 .said) 8 && same (quoted 0 28 .output) (replicate 28 7))
+    ∷ (40, refuses (quoted 2 0 .said) 6 && refuses (quoted 1 115 .said) 8 && same (quoted 0 28 .output) (replicate 28 7))
     ∷ []
 
 -- the number of the first row that doesn't hold; 0 if they all do

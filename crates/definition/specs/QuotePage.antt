@@ -16,10 +16,12 @@ abbrev pub Figure : Type 0
 Figure = ℕ × ℕ
 
 -- "A line holds the entry's row a (3 wide) and column b (3), grey sum (8), holes (5), cap (5)"
+abbrev pub columns : ℕ → ℕ → ℕ → ℕ → ℕ → List Figure
+columns a b grey dots cap = (3, a) ∷ (3, b) ∷ (8, grey) ∷ (5, dots) ∷ (5, cap) ∷ []
+
+-- those of an aligned square
 unfoldable pub figures : ℕ → List ℕ → List ℕ → ℕ → ℕ → ℕ → List Figure
-figures r greys serials k a b =
-    let grey = greySum r greys k a b in
-    (3, a) ∷ (3, b) ∷ (8, grey) ∷ (5, dotsIn r serials k a b) ∷ (5, quoteCap (blockSide r k) grey) ∷ []
+figures r greys serials k a b = let grey = greySum r greys k a b in columns a b grey (dotsIn r serials k a b) (quoteCap (blockSide r k) grey)
 
 -- "with one space between, right aligned with spaces, then byte 10"
 unfoldable pub alignedLine : List Figure → List ℕ
@@ -27,9 +29,12 @@ alignedLine [] = newline ∷ []
 alignedLine ((width, n) ∷ []) = rightAligned width n ++ newline ∷ []
 alignedLine ((width, n) ∷ next ∷ rest) = rightAligned width n ++ space ∷ alignedLine (next ∷ rest)
 
+abbrev pub quoteLine : ℕ → List ℕ → List ℕ → ℕ → ℕ → ℕ → List ℕ
+quoteLine r greys serials k a b = alignedLine (figures r greys serials k a b)
+
 -- "one line per aligned square of that level, by row then column"
 unfoldable pub quoteText : ℕ → List ℕ → List ℕ → ℕ → List ℕ
-quoteText r greys serials k = joined (2 ^ k) (λ a. joined (2 ^ k) (λ b. alignedLine (figures r greys serials k a b)))
+quoteText r greys serials k = joined (2 ^ k) (λ a. joined (2 ^ k) (quoteLine r greys serials k a))
 
 -- "Checks 1, 2, 4, 6, 8 apply in that order": from the side's power, the lengths lent, the level and the page's length
 unfoldable pub quotePageRefusal : ℕ → ℕ → ℕ → ℕ → ℕ → ℕ → ℕ

@@ -68,7 +68,7 @@ pub record TextOutcome : Type 0 where
   pub said : Said
   pub output : List ℕ
 
--- for a refusal's number, 0 where there is none: "It returns its length; bytes past it stay."
+-- for a refusal's number, 0 where there is none: Drill List "returns its length; bytes past it stay"; "A refusal leaves every buffer unchanged."
 unfoldable pub textInto : ℕ → List ℕ → List ℕ → TextOutcome
 textInto zero text output = record { said = returned (length text ∷ []); output = text ++ drop (length text) output }
 textInto (suc n) text output = record { said = refused (suc n); output = output }

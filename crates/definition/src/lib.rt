@@ -69,7 +69,7 @@ pub enum MapTextAnswer {
     Refused(Refusal),
 }
 
-// Drill List, quote page: the length of the text that was written.
+// Drill List and Quote Page: the length of the text that was written.
 pub enum TextAnswer {
     Length(usize),
     Refused(Refusal),

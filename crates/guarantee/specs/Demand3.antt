@@ -16,7 +16,7 @@ use Rattle.definition.specs.Model.{Halftone, topOf, modelStart, steps}
 use Rattle.definition.specs.Refusals.{powerOf}
 use Rattle.definition.specs.Load.{loadOf}
 use Rattle.definition.specs.Advance.{Reply, AdvanceOutcome}
-use Rattle.definition.specs.QuotePage.{Figure, quoteCap, figures}
+use Rattle.definition.specs.QuotePage.{Figure, figures}
 use Rattle.definition.specs.Calls.{Call, Held, heldAfterLoad, outcomesOf, heldAfterCalls, repliesOf, modelAfterCalls, modelReplies, isRefusal, granted}
 
 -- P holds of each element
@@ -46,13 +46,16 @@ UnderCap r greys serials k a b = 765 * dotsIn r serials k a b < 3 * greySum r gr
 abbrev pub OverFloor : ℕ → List ℕ → List ℕ → ℕ → ℕ → ℕ → Type 0
 OverFloor r greys serials k a b = 2 * greySum r greys k a b < 510 * dotsIn r serials k a b + 255 + 1530 * k + 2040 * (2 ^ r - blockSide r k)
 
--- .. and document 02's quote page: "The printed holes never exceed the printed cap", and each figure, a number with the width of its column, has no more
--- digits than places
+-- .. and document 02's quote page, of which a figure is a number with the width of its column. A figure has no more digits than places ..
 abbrev pub InWidth : Figure → Type 0
 InWidth (width, n) = n < 10 ^ width
 
+-- .. and of a line's five, the holes being the fourth and the cap the fifth, "The printed holes never exceed the printed cap"
+abbrev pub printed : List Figure → ℕ → ℕ
+printed line i = getD line i (0, 0) .1
+
 pub record Quoted (r : ℕ) (greys serials : List ℕ) (k a b : ℕ) : Type 0 where
-  pub within : dotsIn r serials k a b ≤ quoteCap (blockSide r k) (greySum r greys k a b)
+  pub within : printed (figures r greys serials k a b) 3 ≤ printed (figures r greys serials k a b) 4
   pub fits : Each InWidth (figures r greys serials k a b)
 
 -- One call of the list: if it isn't refused, it says "finished" exactly when all holes then number the total.

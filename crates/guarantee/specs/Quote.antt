@@ -11,7 +11,7 @@ use Rattle.definition.specs.Blocks.{blockSide, greyAt, burntAt, greySum, dotsIn
 use Rattle.definition.specs.QuotePage.{quoteCap, figures}
 use Rattle.quadtree.specs.Areas.{block-most}
 use Rattle.dots.specs.Marks.{burntAt-le}
-use Rattle.guarantee.specs.Demand3.{Each, UnderCap, InWidth}
+use Rattle.guarantee.specs.Demand3.{Each, UnderCap, InWidth, printed}
 
 module _ (r : ℕ) (greys serials : List ℕ) (k a b : ℕ) where
   abbrev s : ℕ
@@ -34,6 +34,6 @@ module _ (r : ℕ) (greys serials : List ℕ) (k a b : ℕ) where
       let square = mul-le-mul side side in
       (omega arith, (omega arith, (omega (arith, greys-most bytes), (omega (arith, dots-most), (omega arith, tt)))))
 
-  pub under-quote : UnderCap r greys serials k a b → dotsIn r serials k a b ≤ quoteCap s (greySum r greys k a b)
-  unfolding quoteCap
+  pub under-quote : UnderCap r greys serials k a b → printed (figures r greys serials k a b) 3 ≤ printed (figures r greys serials k a b) 4
+  unfolding figures quoteCap
   under-quote cap = omega (arith, dots-most)

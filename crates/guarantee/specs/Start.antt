@@ -31,10 +31,13 @@ use Rattle.guarantee.specs.Capped.{Capped}
 use Rattle.guarantee.specs.Lent.{heldOf}
 
 -- what holds of each element holds at each place, where it holds of the default
-pub each-getD : {A : Type 0} (P : A → Type 0) (l : List A) (d : A) → P d → Each P l → (i : ℕ) → P (getD l i d)
+each-getD : {A : Type 0} (P : A → Type 0) (l : List A) (d : A) → P d → Each P l → (i : ℕ) → P (getD l i d)
 each-getD P [] d z h i = z
 each-getD P (x ∷ xs) d z h zero = h .0
 each-getD P (x ∷ xs) d z h (suc i) = each-getD P xs d z (h .1) i
+
+pub grey-byte : (greys : List ℕ) → Each (λ grey. grey ≤ 255) greys → (i : ℕ) → getD greys i 0 ≤ 255
+grey-byte greys bytes i = each-getD (λ grey. grey ≤ 255) greys 0 (omega arith) bytes i
 
 -- the sum of all greys, as a sum over the map
 pub total-area : (r : ℕ) (greys : List ℕ) → greyTotal r greys ≡ area 0 0 (2 ^ r) (greyAt r greys)
@@ -58,7 +61,7 @@ module _ (r : ℕ) (greys : List ℕ) (bytes : Each (λ grey. grey ≤ 255) grey
 
   grey-le : (x y : ℕ) → greyAt r greys x y ≤ 255
   unfolding greyAt
-  grey-le x y = each-getD (λ grey. grey ≤ 255) greys 0 (omega arith) bytes (cellNumber r x y)
+  grey-le x y = grey-byte greys bytes (cellNumber r x y)
 
   start-sized : Sized r fresh
   unfolding modelStart

@@ -30,7 +30,7 @@ use Rattle.guarantee.specs.Demand3.{Each, EachBlock, Accepted, totalOf, 
 use Rattle.guarantee.specs.Floor.{floor}
 use Rattle.guarantee.specs.Quote.{figures-fit, under-quote}
 use Rattle.guarantee.specs.Capped.{Capped, capped-kept}
-use Rattle.guarantee.specs.Start.{each-getD, start-sheet, start-capped, accepted-loaded, loaded-held}
+use Rattle.guarantee.specs.Start.{grey-byte, start-sheet, start-capped, accepted-loaded, loaded-held}
 use Rattle.guarantee.specs.Lent.{heldOf}
 use Rattle.guarantee.specs.OneCall.{call-same, held-same}
 use Rattle.guarantee.specs.ManyCalls.{call-sheet, calls-sheet, calls-keep, calls-held, calls-replies, calls-number, calls-first, reply-finished, call-due}
@@ -181,7 +181,7 @@ module _ (kernel : Kernel) (fit : Fit kernel) (r : ℕ) (big : 2 ≤ 2 ^ r) (pow
           quotes = λ k a b h u v.
               record {
                 within = under-quote r greys (last .serials ++ s) k a b (capped-blocks k a b h u v);
-                fits = figures-fit r greys (last .serials ++ s) k a b (power-small (2 ^ r) (sym power)) h u v (each-getD (λ grey. grey ≤ 255) greys 0 (omega arith) bytes);
+                fits = figures-fit r greys (last .serials ++ s) k a b (power-small (2 ^ r) (sym power)) h u v (grey-byte greys bytes);
               };
           debt = rw at-top (capped .total);
           ends = ends-all p s o cs fresh (start-sheet r greys bytes) start-due;

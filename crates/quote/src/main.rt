@@ -17,7 +17,7 @@ fn print_page(answer: TextAnswer, page: &[u8]) {
     }
 }
 
-// Loads a map, runs it to its end, and writes its page.
+// Loads a map, runs it to its end, and writes its page. Neither call refuses: the map was read, and the buffers are those of side 32.
 fn quote_map(level: u32, side: u32, greys: &[u8]) {
     let mut pyramid = [0i64; 1365];
     let mut serials = [0u32; 1024];

@@ -1,4 +1,4 @@
--- The ways out of quote page: refused with nothing changed, and the page written.
+-- The ways out of Quote Page: refused with nothing changed, and the page written.
 use mathlib.Core.Path.{_≡_, sym, _∙_}
 use mathlib.Core.List.{List}
 use Prim.Native.Nat.{ℕ, _≤_, _<_}

@@ -6,7 +6,7 @@ use native.Mathlib.Omega.{arith}
 use lib.ListN.{length, length-append}
 use lib.Seq.{append-snoc}
 use Rattle.definition.specs.Text.{newline, space, rightAligned}
-use Rattle.definition.specs.QuotePage.{Figure, alignedLine}
+use Rattle.definition.specs.QuotePage.{Figure, columns, alignedLine}
 use Rattle.guarantee.specs.Demand3.{Each, InWidth}
 use Rattle.decimals.specs.Writing.{columnText, length-decimal, length-right, Wrote, wrote-append}
 
@@ -25,7 +25,7 @@ last-column width n x = x
 
 pub line-wrote : {l l₁ l₂ l₃ l₄ l₅ : List ℕ} {at b c d e f : ℕ} (row column grey dots cap : ℕ) → Wrote l at (columnText 3 row space) b l₁ → Wrote l₁ b (columnText 3 column space) c l₂
     → Wrote l₂ c (columnText 8 grey space) d l₃ → Wrote l₃ d (columnText 5 dots space) e l₄ → Wrote l₄ e (columnText 5 cap newline) f l₅
-    → Wrote l at (alignedLine ((3, row) ∷ (3, column) ∷ (8, grey) ∷ (5, dots) ∷ (5, cap) ∷ [])) f l₅
+    → Wrote l at (alignedLine (columns row column grey dots cap)) f l₅
 line-wrote row column grey dots cap u v w x y =
     then-column 3 row _ _ u (then-column 3 column _ _ v (then-column 8 grey _ _ w (then-column 5 dots _ _ x (last-column 5 cap y))))
 
@@ -43,8 +43,8 @@ module _ (width n : ℕ) (some : 0 < width) (fits : n < 10 ^ width) where
   unfolding alignedLine columnText
   length-last = length-column newline
 
-pub length-line : (row column grey dots cap : ℕ) → Each InWidth ((3, row) ∷ (3, column) ∷ (8, grey) ∷ (5, dots) ∷ (5, cap) ∷ [])
-    → length (alignedLine ((3, row) ∷ (3, column) ∷ (8, grey) ∷ (5, dots) ∷ (5, cap) ∷ [])) ≡ 29
+pub length-line : (row column grey dots cap : ℕ) → Each InWidth (columns row column grey dots cap)
+    → length (alignedLine (columns row column grey dots cap)) ≡ 29
 length-line row column grey dots cap f =
     omega (
       arith,

@@ -1,6 +1,6 @@
 -- The page of a level: what its functions ask for, and how long a line, a row of lines and the page are.
 use mathlib.Core.Path.{_≡_, _∙_}
-use mathlib.Core.List.{List, [], _∷_}
+use mathlib.Core.List.{List}
 use Prim.Native.Nat.{ℕ, zero, suc, _+_, _*_, _-_, _^_, _≤_, _<_}
 use native.Mathlib.Omega.{arith}
 use native.Mathlib.Nat.{mul-le-mul}
@@ -9,13 +9,13 @@ use lib.ListN.{length, getD, length-append}
 use Rattle.definition.specs.Lists.{joined}
 use Rattle.definition.specs.Pyramid.{cellCount}
 use Rattle.definition.specs.Blocks.{greySum, dotsIn}
-use Rattle.definition.specs.QuotePage.{quoteCap, figures, alignedLine, quoteText}
+use Rattle.definition.specs.QuotePage.{quoteCap, figures, columns, alignedLine, quoteLine, quoteText}
 use Rattle.quadtree.specs.Levels.{block-side}
 use Rattle.decimals.specs.Writing.{Wrote}
 use Rattle.guarantee.specs.Quote.{figures-fit}
 use Rattle.quote_page.specs.Lines.{length-line}
 
--- 29 bytes for each square of level k
+-- 29 bytes for each block of level k
 abbrev pub pageLength : ℕ → ℕ
 pageLength k = 29 * cellCount k
 
@@ -35,18 +35,15 @@ length-joined zero m f h = omega arith
 length-joined (suc n) m f h = omega (arith, length-append (joined n f) (f n), length-joined n m f (λ i l. h i (omega arith)), h n (omega arith))
 
 module _ (greys serials : List ℕ) {r k : ℕ} (powers : r ≤ 8) (level : k ≤ r) (bytes : (i : ℕ) → getD greys i 0 ≤ 255) where
-  abbrev lineAt : ℕ → ℕ → List ℕ
-  lineAt a b = alignedLine (figures r greys serials k a b)
-
-  line-length : (a b : ℕ) → a < 2 ^ k → b < 2 ^ k → length (lineAt a b) ≡ 29
+  line-length : (a b : ℕ) → a < 2 ^ k → b < 2 ^ k → length (quoteLine r greys serials k a b) ≡ 29
   unfolding figures
   line-length a b u v = length-line a b _ _ _ (figures-fit r greys serials k a b powers level u v bytes)
 
-  row-length : (a n : ℕ) → a < 2 ^ k → n ≤ 2 ^ k → length (joined n (lineAt a)) ≡ 29 * n
-  row-length a n u l = length-joined n 29 (lineAt a) (λ b v. line-length a b u (omega arith))
+  row-length : (a n : ℕ) → a < 2 ^ k → n ≤ 2 ^ k → length (joined n (quoteLine r greys serials k a)) ≡ 29 * n
+  row-length a n u l = length-joined n 29 (quoteLine r greys serials k a) (λ b v. line-length a b u (omega arith))
 
-  rows-length : (n : ℕ) → n ≤ 2 ^ k → length (joined n (λ a. joined (2 ^ k) (lineAt a))) ≡ 29 * 2 ^ k * n
-  rows-length n l = length-joined n (29 * 2 ^ k) (λ a. joined (2 ^ k) (lineAt a)) (λ a u. row-length a (2 ^ k) (omega arith) (omega arith))
+  rows-length : (n : ℕ) → n ≤ 2 ^ k → length (joined n (λ a. joined (2 ^ k) (quoteLine r greys serials k a))) ≡ 29 * 2 ^ k * n
+  rows-length n l = length-joined n (29 * 2 ^ k) (λ a. joined (2 ^ k) (quoteLine r greys serials k a)) (λ a u. row-length a (2 ^ k) (omega arith) (omega arith))
 
   pub page-length : length (quoteText r greys serials k) ≡ pageLength k
   unfolding quoteText
@@ -57,21 +54,21 @@ module _ {greys serials : List ℕ} {r k : ℕ} (h : PageAsked greys serials r k
   pub small-side : {side : ℕ} → side ≡ 2 ^ (r - k) → side ≤ 256
   small-side es = omega (arith, pow-mono {i = r - k} {j = 8} (omega (arith, h .powers)))
 
-  -- what the code has worked out for a square's line
-  module _ {side grey dots most : ℕ} (a b : ℕ) (es : side ≡ 2 ^ (r - k)) (eg : grey ≡ greySum r greys k a b) (ed : dots ≡ dotsIn r serials k a b) (em : most ≡ quoteCap side grey) where
-    pub square-wrote : {l l₁ : List ℕ} {at next : ℕ} → Wrote l at (alignedLine ((3, a) ∷ (3, b) ∷ (8, grey) ∷ (5, dots) ∷ (5, most) ∷ [])) next l₁ → Wrote l at (alignedLine (figures r greys serials k a b)) next l₁
+  -- what the code has worked out for a block's line
+  module _ {side grey dots cap : ℕ} (a b : ℕ) (es : side ≡ 2 ^ (r - k)) (eg : grey ≡ greySum r greys k a b) (ed : dots ≡ dotsIn r serials k a b) (ec : cap ≡ quoteCap side grey) where
+    pub block-wrote : {l l₁ : List ℕ} {at next : ℕ} → Wrote l at (alignedLine (columns a b grey dots cap)) next l₁ → Wrote l at (quoteLine r greys serials k a b) next l₁
     unfolding figures
-    square-wrote w = rw (← eg, ← ed, block-side r (r - k) k (omega (arith, h .level)), ← es, ← em) w
+    block-wrote w = rw (← eg, ← ed, block-side r (r - k) k (omega (arith, h .level)), ← es, ← ec) w
 
   -- where the writers stand
-  few-squares : 2 ^ k ≤ 256
-  few-squares = pow-mono {i = k} {j = 8} (omega (arith, h .level, h .powers))
+  few-blocks : 2 ^ k ≤ 256
+  few-blocks = pow-mono {i = k} {j = 8} (omega (arith, h .level, h .powers))
 
-  pub row-end : {l l₁ : List ℕ} {from at : ℕ} (a n : ℕ) → a < 2 ^ k → n ≤ 2 ^ k → Wrote l from (joined n (λ b. alignedLine (figures r greys serials k a b))) at l₁ → at ≤ from + 29 * 256
-  row-end a n u l w = omega (arith, w .place, row-length greys serials (h .powers) (h .level) (h .bytes) a n u l, few-squares)
+  pub row-end : {l l₁ : List ℕ} {from at : ℕ} (a n : ℕ) → a < 2 ^ k → n ≤ 2 ^ k → Wrote l from (joined n (quoteLine r greys serials k a)) at l₁ → at ≤ from + 29 * 256
+  row-end a n u l w = omega (arith, w .place, row-length greys serials (h .powers) (h .level) (h .bytes) a n u l, few-blocks)
 
-  pub rows-end : {l l₁ : List ℕ} {at : ℕ} (n : ℕ) → n ≤ 2 ^ k → Wrote l 0 (joined n (λ a. joined (2 ^ k) (λ b. alignedLine (figures r greys serials k a b)))) at l₁ → at ≤ 29 * 256 * 256
+  pub rows-end : {l l₁ : List ℕ} {at : ℕ} (n : ℕ) → n ≤ 2 ^ k → Wrote l 0 (joined n (λ a. joined (2 ^ k) (quoteLine r greys serials k a))) at l₁ → at ≤ 29 * 256 * 256
   rows-end n l w =
-      let most : 29 * 2 ^ k ≤ 29 * 256 = omega (arith, few-squares) in
-      let few : n ≤ 256 = omega (arith, few-squares) in
+      let most : 29 * 2 ^ k ≤ 29 * 256 = omega (arith, few-blocks) in
+      let few : n ≤ 256 = omega (arith, few-blocks) in
       omega (arith, w .place, rows-length greys serials (h .powers) (h .level) (h .bytes) n l, mul-le-mul most few)

@@ -1,28 +1,26 @@
-// Quote page: "one line per aligned square of that level, by row then column. A line holds the entry's row a (3 wide) and column b (3),
+// Quote Page: "one line per aligned square of that level, by row then column. A line holds the entry's row a (3 wide) and column b (3),
 // grey sum (8), holes (5), cap (5), with one space between, right aligned with spaces, then byte 10: 29 bytes."
 use checks::Check;
 use definition::Refusal;
 use definition::TextAnswer;
 ghost use mathlib.Core.Path.{_≡_};
-ghost use mathlib.Core.List.{[], _∷_};
 ghost use Prim.Native.Nat.{_^_, _<_, _≤_};
-ghost use lib.ListN.{length};
 ghost use Rattle.definition.specs.Lists.{joined};
 ghost use Rattle.definition.specs.Answers.{textSays};
-ghost use Rattle.definition.specs.QuotePage.{quoteCap, figures, alignedLine, quoteText, quotePageRefusal, quotePageOf};
+ghost use Rattle.definition.specs.QuotePage.{quoteCap, columns, alignedLine, quoteLine, quoteText, quotePageRefusal, quotePageOf};
 ghost use Rattle.decimals.specs.Writing.{Wrote};
 ghost use Rattle.checks.specs.Checks.{checked};
 ghost use Rattle.quote_page.specs.Page.{PageAsked, pageLength};
 
-// The cap of a square of side s with a grey sum.
-fn cap(s: u64, grey: u64) -> u64
+// The cap of a block of side s with a grey sum.
+fn quote_cap(s: u64, grey: u64) -> u64
     requires { ⌜ (s ≤ 256) × (grey < 2 ^ 32) ⌝ }
     ensures { λ n. ⌜ n ≡ quoteCap s grey ⌝ }
 {
     let square = s * s;
-    let most = (3 * grey + 764 + 1020 * s) / 765;
-    if most < square {
-        return most;
+    let quotient = (3 * grey + 764 + 1020 * s) / 765;
+    if quotient < square {
+        return quotient;
     }
     square
 }
@@ -38,7 +36,7 @@ fn put_line(
     cap: u64,
 ) -> usize
     requires { ⌜ at ≤ 2 ^ 61 ⌝ }
-    ensures { λ next. ⌜ Wrote (now (out .entry)) at (alignedLine ((3, row) ∷ (3, column) ∷ (8, grey) ∷ (5, dots) ∷ (5, cap) ∷ [])) next (now (out .exit)) ⌝ }
+    ensures { λ next. ⌜ Wrote (now (out .entry)) at (alignedLine (columns row column grey dots cap)) next (now (out .exit)) ⌝ }
 {
     let second = decimals::put_column(out, at, 3, row, 32);
     let third = decimals::put_column(out, second, 3, column, 32);
@@ -47,8 +45,8 @@ fn put_line(
     decimals::put_column(out, fifth, 5, cap, 10)
 }
 
-// The line of the square (row, column) of level k.
-fn put_square(
+// The line of the block (row, column) of level k.
+fn put_block(
     out: &mut [u8],
     at: usize,
     greys: &[u8],
@@ -59,16 +57,16 @@ fn put_square(
     column: usize,
 ) -> usize
     requires { ⌜ (at ≤ 2 ^ 61) × (row < 2 ^ k) × (column < 2 ^ k) × PageAsked (now greys) (now serials) r k ⌝ }
-    ensures { λ next. ⌜ Wrote (now (out .entry)) at (alignedLine (figures r (now (greys .entry)) (now (serials .entry)) k row column)) next (now (out .exit)) ⌝ }
+    ensures { λ next. ⌜ Wrote (now (out .entry)) at (quoteLine r (now (greys .entry)) (now (serials .entry)) k row column) next (now (out .exit)) ⌝ }
 {
     let s = sizes::pow2(r - k) as u64;
     let grey = survey::block_greys(greys, r, k, row, column) as u64;
     let dots = survey::block_dots(serials, r, k, row, column) as u64;
-    let most = cap(s, grey);
-    put_line(out, at, row as u64, column as u64, grey, dots, most)
+    let cap = quote_cap(s, grey);
+    put_line(out, at, row as u64, column as u64, grey, dots, cap)
 }
 
-// The lines of the squares of a row.
+// The lines of a row of blocks.
 fn put_row(
     out: &mut [u8],
     from: usize,
@@ -79,13 +77,13 @@ fn put_row(
     row: usize,
 ) -> usize
     requires { ⌜ (from ≤ 2 ^ 60) × (row < 2 ^ k) × PageAsked (now greys) (now serials) r k ⌝ }
-    ensures { λ next. ⌜ Wrote (now (out .entry)) from (joined (2 ^ k) (λ b. alignedLine (figures r (now (greys .entry)) (now (serials .entry)) k row b))) next (now (out .exit)) ⌝ }
+    ensures { λ next. ⌜ Wrote (now (out .entry)) from (joined (2 ^ k) (quoteLine r (now (greys .entry)) (now (serials .entry)) k row)) next (now (out .exit)) ⌝ }
 {
     let count = sizes::pow2(k);
     let mut at = from;
     let mut column = 0;
     while column < count {
-        at = put_square(out, at, greys, serials, r, k, row, column);
+        at = put_block(out, at, greys, serials, r, k, row, column);
         column += 1;
     }
     at
@@ -131,7 +129,7 @@ fn check_quote(r: usize, greys: usize, serials: usize, k: usize, out: usize) -> 
     Check::Passed
 }
 
-// Quote page: the page of a level, or a refusal with nothing written. It reads each cell once.
+// Quote Page: the page of a level, or a refusal with nothing written. It reads each cell once.
 pub fn quote_page(
     side: u32,
     greys: &[u8],

@@ -75,7 +75,7 @@ pub record MapTextCode : Type 0 where
 unfoldable pub mapTextCode : List ℕ → List ℕ → MapTextCode
 mapTextCode text greys = let o = mapTextOf text greys in record { code = codeOf (o .said); side = valueOf (o .said); greys = o .greys }
 
--- Drill List and quote page
+-- Drill List and Quote Page
 pub record TextCode : Type 0 where
   pub code : ℕ
   pub length : ℕ

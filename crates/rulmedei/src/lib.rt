@@ -175,7 +175,7 @@ pub extern "C" fn rulmedei_drill_list(
     text_code(answer, length)
 }
 
-// Quote page. The page's length is written to `length`, 0 where it refuses.
+// Quote Page. The page's length is written to `length`, 0 where it refuses.
 #[no_mangle]
 pub extern "C" fn rulmedei_quote_page(
     side: u32,

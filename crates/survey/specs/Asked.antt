@@ -1,4 +1,4 @@
--- What the two calls ask for, of a map of side 2^r: numbers that the refusals have been checked for, and lists that are long enough.
+-- What the sums over blocks and levels ask for, of a map of side 2^r: numbers that the refusals have been checked for, and lists that are long enough.
 use Prim.Native.Nat.{ℕ, _*_, _^_, _≤_, _<_}
 
 -- the block (row, column) of level k, and `lent` serials or greys lent

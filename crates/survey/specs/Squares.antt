@@ -24,7 +24,7 @@ rowSum f values from count = sumTo count (λ y. f (getD values (from + y) 0))
 abbrev pub squareSum : (ℕ → ℕ) → List ℕ → ℕ → ℕ → ℕ → ℕ → ℕ
 squareSum f values side s top left = sumTo s (λ x. rowSum f values ((top + x) * side + left) s)
 
--- the dots: 1 for each serial of one; and the greys themselves
+-- the dots, 1 for each serial that isn't 0; and the greys themselves
 abbrev pub rowDots : List ℕ → ℕ → ℕ → ℕ
 rowDots = rowSum burnt
 

@@ -1,4 +1,4 @@
-// The counting behind Tally and Levels: the dots and the greys of a block, and for each level the summed squares of its blocks' errors.
+// The counting behind Tally, Levels and Quote Page: the dots and the greys of a block, and for each level the summed squares of its blocks' errors.
 use checks::Check;
 use definition::LevelsAnswer;
 use definition::LevelsStatus;

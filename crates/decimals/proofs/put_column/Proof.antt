@@ -12,4 +12,4 @@ put-column-spec =
     (λ c κs. search needs)
     (λ c κs. omega (arith, right-end _ (omega arith) _ (c .before .before .before .put-right .ensures)))
     (λ c. search needs)
-    (λ c. search (column-wrote, needs)))
+    (λ c. column-wrote _ (omega arith) _ _ (c .before .before .before .before .before .before .put-right .ensures) (c .before .before .put-byte .ensures)))

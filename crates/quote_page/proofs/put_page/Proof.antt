@@ -3,7 +3,7 @@ use mathlib.Core.Path.{_≡_}
 use Prim.Native.Nat.{_-_, _^_, _≤_}
 use native.Mathlib.Omega.{arith}
 use Rattle.definition.specs.Lists.{joined}
-use Rattle.definition.specs.QuotePage.{figures, alignedLine, quoteText}
+use Rattle.definition.specs.QuotePage.{quoteLine, quoteText}
 use Rattle.decimals.specs.Writing.{Wrote, wrote-length, wrote-joined-none, wrote-joined-more}
 use Rattle.quote_page.specs.Page.{rows-end}
 use Rattle.quote_page.proofs.put_page.Statement.{statement}
@@ -11,7 +11,7 @@ use Rattle.quote_page.proofs.put_page.Tie as tie
 
 abbrev Inv-loop : tie.InvT-loop
 Inv-loop out₀ greys serials r k count at₀ row₀ out at row =
-    (row ≤ count) × Wrote out₀ 0 (joined row (λ a. joined (2 ^ k) (λ b. alignedLine (figures r greys serials k a b)))) at out
+    (row ≤ count) × Wrote out₀ 0 (joined row (λ a. joined (2 ^ k) (quoteLine r greys serials k a))) at out
 
 abbrev μ-loop : tie.MeasureT-loop
 μ-loop out₀ greys serials r k count at₀ row₀ out at row = count - row

@@ -3,7 +3,7 @@ use mathlib.Core.Path.{_≡_}
 use Prim.Native.Nat.{_-_, _^_, _≤_}
 use native.Mathlib.Omega.{arith}
 use Rattle.definition.specs.Lists.{joined}
-use Rattle.definition.specs.QuotePage.{figures, alignedLine}
+use Rattle.definition.specs.QuotePage.{quoteLine}
 use Rattle.decimals.specs.Writing.{Wrote, wrote-length, wrote-joined-none, wrote-joined-more}
 use Rattle.quote_page.specs.Page.{row-end}
 use Rattle.quote_page.proofs.put_row.Statement.{statement}
@@ -11,7 +11,7 @@ use Rattle.quote_page.proofs.put_row.Tie as tie
 
 abbrev Inv-loop : tie.InvT-loop
 Inv-loop out₀ from greys serials r k row count at₀ column₀ out at column =
-    (column ≤ count) × Wrote out₀ from (joined column (λ b. alignedLine (figures r greys serials k row b))) at out
+    (column ≤ count) × Wrote out₀ from (joined column (quoteLine r greys serials k row)) at out
 
 abbrev μ-loop : tie.MeasureT-loop
 μ-loop out₀ from greys serials r k row count at₀ column₀ out at column = count - column
@@ -31,6 +31,6 @@ put-row-spec =
     (omega (arith, row-end (asked .2) _ (t .loop .column) (asked .1) (omega (arith, z .pow2 .ensures)) (t .loop .inv .1)), asked .1, omega (arith, z .pow2 .ensures), asked .2))
     (λ c. omega arith)
     (λ c. omega arith)
-    (λ c. let t = c .before .before .before .before .before in (omega arith, wrote-joined-more _ (t .loop .column) (t .loop .inv .1) (c .before .before .put-square .ensures)))
+    (λ c. let t = c .before .before .before .before .before in (omega arith, wrote-joined-more _ (t .loop .column) (t .loop .inv .1) (c .before .before .put-block .ensures)))
     (λ c. wrote-length (c .before .loop .inv .1))
     (λ c. let t = c .before in let e : t .loop .column ≡ 2 ^ t .before .before .before .before .before .args .k = omega (arith, t .before .pow2 .ensures) in rw e at (t .loop .inv .1)))

@@ -1,19 +1,19 @@
--- `quote_page::cap`: the smaller of the two.
+-- `quote_page::quote_cap`: the smaller of the two.
 use native.Mathlib.Nat.{mul-le-mul}
 use native.Mathlib.Omega.{arith}
 use borrow.Author.Needs.{needs}
 use Rattle.definition.specs.QuotePage.{quoteCap}
-use Rattle.quote_page.proofs.cap.Statement.{statement}
-use Rattle.quote_page.proofs.cap.Tie as tie
+use Rattle.quote_page.proofs.quote_cap.Statement.{statement}
+use Rattle.quote_page.proofs.quote_cap.Tie as tie
 
 -- it is the quotient where that is smaller
 quotient : tie.Need-returns
 unfolding quoteCap
 quotient c = omega (arith, c .if1 .taken)
 
-pub cap-spec : {M : Type 1} → statement M
+pub quote-cap-spec : {M : Type 1} → statement M
 unfolding quoteCap
-cap-spec =
+quote-cap-spec =
     tie.close
     (tie.spec
     (λ c. omega (arith, mul-le-mul (c .pre .0) (c .pre .0)))
