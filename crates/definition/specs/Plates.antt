@@ -206,7 +206,7 @@ furtherPlates =
     ∷ (34, refuses (altered 0 (1 ∷ 0 ∷ 0 ∷ 0 ∷ []) (0 ∷ 0 ∷ 0 ∷ 0 ∷ []) (pos 0) (minus 65281) .said) 5)
     -- "64 alone on its line gives 2"
     ∷ (35, same (plateOf (54 ∷ 52 ∷ 10 ∷ [])) (refusedText 2) && same (plateOf (replicate 4100 48)) (refusedText 9))
-    -- document 02's quote page: P3's of level 0, with the byte past it, and of level 1; the cap just below a whole number, at one, and at s²
+    -- document 02's quote page: P3's of level 0, with the byte past it, and of level 1; the cap where the quotient is just below a whole number, just above it, and above s²
     ∷ (36, same (saidAs (quoted 0 30 .said)) (0 ∷ 29 ∷ []) && same (quoted 0 30 .output) (lineP3 0 0 5 1 2 2 4 ++ 7 ∷ []))
     ∷ (37, same (quoted 1 116 .output) (lineP3 0 0 1 2 8 1 1 ++ lineP3 0 1 1 2 8 0 1 ++ lineP3 1 0 1 2 8 0 1 ++ lineP3 1 1 1 2 8 1 1))
     ∷ (38, eqb (quoteCap 2 85) 3 && eqb (quoteCap 2 86) 4 && eqb (quoteCap 2 1020) 4)
