@@ -1,5 +1,5 @@
 /*
- * Rulmedei: grey maps to ordered lists of holes. The seven calls for C.
+ * Rulmedei: grey maps to ordered lists of holes. The seven calls for C, and the renewal of sums by itself.
  *
  * `rt staticlib rulmedei` writes target/staticlib/librulmedei.a, for x86-64 Linux. It needs the C library and nothing else.
  *
@@ -12,8 +12,8 @@
  * - During a call nothing else writes what is lent, and nothing else reads a part that the call may write.
  * - All parts lent to a call take fewer than 2^63 bytes together.
  *
- * Nothing else is asked. Numbers may have any value, parts any length and buffers any contents: what does not fit is refused. A call keeps
- * no pointer and has no state of its own, so calls on different buffers may run at the same time.
+ * Nothing else is asked. Numbers may have any value, parts any length and buffers any contents: what does not fit is refused, and by
+ * rulmedei_renew left alone. A call keeps no pointer and has no state of its own, so calls on different buffers may run at the same time.
  *
  * A slice is two arguments: a pointer to its first element, then the number of its elements.
  */
@@ -30,9 +30,11 @@ extern "C" {
 /*
  * What a call returns: RULMEDEI_DONE, for rulmedei_advance also RULMEDEI_MORE, or the number of a refusal. A refused call leaves pyramid,
  * serials, order, greys and out as they were. The lowest number that applies is returned; rulmedei_map_text has an order of its own.
+ * rulmedei_renew, which is none of the seven calls, has no refusal numbers: it returns RULMEDEI_DONE or RULMEDEI_NOT_RENEWED.
  */
 #define RULMEDEI_DONE 0
 #define RULMEDEI_MORE 100           /* rulmedei_advance: further holes are due */
+#define RULMEDEI_NOT_RENEWED 101    /* rulmedei_renew: outside what it promises; nothing was changed */
 #define RULMEDEI_SIDE_UNKNOWN 1     /* the side is not one of 2, 4, 8, 16, 32, 64, 128, 256 */
 #define RULMEDEI_GREYS_SHORT 2      /* the greys buffer is shorter than N * N */
 #define RULMEDEI_PYRAMID_SHORT 3    /* the pyramid is shorter than needed */
@@ -134,6 +136,22 @@ uint32_t rulmedei_quote_page(uint32_t side,
                              uint32_t level,
                              uint8_t *out, size_t out_length,
                              size_t *length);
+
+/*
+ * The renewal by itself. It is none of the seven calls: rulmedei_advance renews in this way after each hole, and here it can be had alone.
+ */
+
+/*
+ * Renew: makes each coarser entry over the cell (row, column), or over one of its up to eight neighbours on the map, the sum of its four
+ * entries on the level below, level by level up to the top. No other entry changes, not even a wrong one; the other sums need not be right.
+ *
+ * RULMEDEI_DONE says that it did so: the side is one of the eight, the pyramid is long enough, row and column are below the side, and each
+ * entry of the needed length is from -2^40 to 2^40. Else nothing has changed, and it returns RULMEDEI_NOT_RENEWED.
+ */
+uint32_t rulmedei_renew(uint32_t side,
+                        uint32_t row,
+                        uint32_t column,
+                        int64_t *pyramid, size_t pyramid_length);
 
 #ifdef __cplusplus
 }

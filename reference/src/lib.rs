@@ -1,5 +1,5 @@
-//! The reference: document 01, the calls that document 02 adds, and report 265 written down a second time, as simply as
-//! can be, so that the outputs of the proved engine can be matched against it. It shares no line with that engine.
+//! The reference: document 01, what document 02 adds, and report 265 written down a second time, as simply as can be,
+//! so that the outputs of the proved engine can be matched against it. It shares no line with that engine.
 //!
 //! Names that differ from document 01's words: a dot is its hole and to place a dot is to burn; a residual is its
 //! debt; to diffuse is to spread; a block is an aligned square; serials and order are the serial sheet and the order
@@ -17,6 +17,7 @@ mod plate;
 mod pyramid;
 mod quote;
 mod quote_page;
+mod renewal;
 mod run;
 mod run_cases;
 mod samples;
@@ -38,6 +39,7 @@ pub use plate::{plate, GREYS_ROOM, LONGEST_INPUT};
 pub use pyramid::{renew_all, renew_over};
 pub use quote::quote;
 pub use quote_page::quote_page;
+pub use renewal::renew;
 pub use run::Buffers;
 pub use shape::{cell_count, entry, level_start, neighbours, power, pyramid_length};
 pub use shape::{Neighbour, DOT, HALF_DOT, SIDES};

@@ -14,6 +14,7 @@ pub mod Text
 pub mod MapText
 pub mod DrillList
 pub mod QuotePage
+pub mod Renewal
 pub mod Plate
 pub mod Calls
 pub mod Expected

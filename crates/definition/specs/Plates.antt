@@ -1,7 +1,7 @@
 -- Document 01, "Plates to check by hand": P1 to P12 as one table, and further plates, whose figures the reference wrote, as another.
 -- One proof computes all of it on the definitions. Rows that make holes ask the calls and the model.
 use mathlib.Core.Path.{_≡_, refl}
-use mathlib.Core.Bool.{Bool, true, false, cond, _&&_}
+use mathlib.Core.Bool.{Bool, true, false, cond, not, _&&_}
 use mathlib.Core.List.{List, [], _∷_, _++_, map}
 use Prim.Native.Nat.{ℕ, zero, suc, _+_, _*_, _/_, _^_}
 use lib.Dec.{eqb}
@@ -23,6 +23,7 @@ use Rattle.definition.specs.Text.{digitsUpTo, decimal, rightAligned, lin
 use Rattle.definition.specs.MapText.{rowsText, mapText, valuesOf, readGreys, mapTextRefusal, readMap, mapTextOf}
 use Rattle.definition.specs.DrillList.{dotLines, drillText, drillListRefusal, drillListOf}
 use Rattle.definition.specs.QuotePage.{quoteCap, figures, alignedLine, quoteText, quotePageRefusal, quotePageOf}
+use Rattle.definition.specs.Renewal.{isNear, overThese, renewed, isSmall, entriesSmall, renewable, renewalOf}
 use Rattle.definition.specs.Plate.{refusedText, finishedOf, plateOf}
 use Rattle.definition.specs.Calls.{Call, Held, heldAfterLoad, callOf, heldAfter, outcomesOf, heldAfterCalls, repliesOf, modelRefusal, modelCall, modelReply, modelAfterCalls, modelReplies}
 use Rattle.definition.specs.Expected.{greys4, order4, serials4, pyramid4, levels4, greys8, order8, serials8, pyramid8, levels8}
@@ -175,6 +176,28 @@ unfoldable pub altered : ℕ → List ℕ → List ℕ → ℤ → ℤ → Reply
 altered off serials order y z =
     advanceOf plain (record { side = 2; dots = 1 }) 9 ((y +ℤ z +ℤ minus 2 +ℤ pos off) ∷ y ∷ z ∷ minus 1 ∷ minus 1 ∷ []) serials order .reply
 
+-- a pyramid one place longer than needed: these entries above level r, whose cells are `cells`, and a 7 behind them
+abbrev pub withCells : List ℤ → List ℤ → List ℤ
+withCells above cells = above ++ cells ++ pos 7 ∷ []
+
+-- the renewal around a cell of side 4 with the debts 1 to 16, where all entries above are 9, leaves this top and this level 1
+unfoldable pub renews4 : ℕ → ℕ → ℕ → List ℕ → Bool
+renews4 row column top level =
+    let cells = tabulateFrom 1 16 pos in
+    let outcome = renewalOf 4 row column (withCells (replicate 5 (pos 9)) cells) in
+    outcome .0 && sameZ (outcome .1) (withCells (pos top ∷ map pos level) cells)
+
+-- the same of side 8 with debts of 1, as top, level 1 and level 2
+unfoldable pub renews8 : ℕ → ℕ → List ℕ → Bool
+renews8 row column above =
+    let cells = replicate 64 (pos 1) in
+    let outcome = renewalOf 8 row column (withCells (replicate 21 (pos 9)) cells) in
+    outcome .0 && sameZ (outcome .1) (withCells (map pos above) cells)
+
+-- no renewal here: the pyramid stays
+unfoldable pub leftAlone : ℕ → ℕ → ℕ → List ℤ → Bool
+leftAlone side row column pyramid = let outcome = renewalOf side row column pyramid in not (outcome .0) && sameZ (outcome .1) pyramid
+
 unfoldable pub furtherPlates : List Row
 furtherPlates =
     -- the map of side 4 run to its end in one call, and in several; its Levels; the same of side 8
@@ -213,6 +236,13 @@ furtherPlates =
     -- its refusals, the lowest number first
     ∷ (39, refuses (quotePageOf 3 [] [] 9 [] .said) 1 && refuses (quotePageOf 2 (0 ∷ []) [] 2 [] .said) 2 && refuses (quotePageOf 2 p1 (0 ∷ []) 2 [] .said) 4)
     ∷ (40, refuses (quoted 2 0 .said) 6 && refuses (quoted 1 115 .said) 8 && same (quoted 0 28 .output) (replicate 28 7))
+    -- document 02's renewal on a wrong pyramid: under one entry of level 1, under two, under all four; with a level more; with all entries at an end of the range,
+    -- whatever lies behind; and where it is not made
+    ∷ (41, renews4 0 0 41 (14 ∷ 9 ∷ 9 ∷ 9 ∷ []) && renews4 3 3 81 (9 ∷ 9 ∷ 9 ∷ 54 ∷ []) && renews4 0 1 54 (14 ∷ 22 ∷ 9 ∷ 9 ∷ []))
+    ∷ (42, renews4 1 1 136 (14 ∷ 22 ∷ 46 ∷ 54 ∷ []) && renews8 2 4 (70 ∷ 26 ∷ 26 ∷ 9 ∷ 9 ∷ 9 ∷ 4 ∷ 4 ∷ 9 ∷ 9 ∷ 4 ∷ 4 ∷ 9 ∷ replicate 8 9))
+    ∷ (43, renewalOf 2 1 1 (replicate 5 (pos (2 ^ 40))) .0 && renewalOf 2 1 1 (replicate 5 (minus (2 ^ 40)) ++ pos (2 ^ 50) ∷ []) .0)
+    ∷ (44, leftAlone 2 0 0 (pos (2 ^ 40 + 1) ∷ replicate 4 (pos 1)) && leftAlone 2 0 0 (replicate 4 (pos 1) ++ minus (2 ^ 40 + 1) ∷ []))
+    ∷ (45, leftAlone 2 2 0 (replicate 5 (pos 1)) && leftAlone 2 0 2 (replicate 5 (pos 1)) && leftAlone 2 0 0 (replicate 4 (pos 1)) && leftAlone 3 0 0 (replicate 21 (pos 1)))
     ∷ []
 
 -- the number of the first row that doesn't hold; 0 if they all do
@@ -221,5 +251,5 @@ firstFailing [] = 0
 firstFailing (row ∷ rows) = elim (row .1) [ true ↦ firstFailing rows | false ↦ row .0 ]
 
 pub plates-hold : firstFailing (plates ++ furtherPlates) ≡ 0
-unfolding sumTo sumZTo allTo tabulateFrom joined repeated eqZ start placeIn rowAt columnAt levelOf inLevel entry four coarser pyramidOver blockSum blockSumZ greyAt burnt burntAt greySum greyTotal dotsIn allDots candidate firstOfEquals better largest descend plain within onMap weightAt share diffuse topOf modelStart missing placeDot step steps burntNear everyEntry fewDots numbered counted unused summed bounded owing isSound powerUpTo powerOf lowest loadRefusal loaded loadOf dotsDue saidAt sheetIn advanceRefusal advanced advanceOf tallyRefusal tallyOf errorAt squared levelSum levelsRefusal levelsOf digitsUpTo decimal rightAligned line lineEnds isDigit digitsThen fieldOf textInto rowsText mapText valuesOf readGreys mapTextRefusal readMap mapTextOf dotLines drillText drillListRefusal drillListOf quoteCap figures alignedLine quoteText quotePageRefusal quotePageOf refusedText finishedOf plateOf heldAfterLoad callOf heldAfter outcomesOf heldAfterCalls repliesOf modelRefusal modelCall modelReply modelAfterCalls modelReplies greys4 order4 serials4 pyramid4 levels4 greys8 order8 serials8 pyramid8 levels8 same sameZ saidAs refuses loadedMap callsOf after modelAfter replied answers leaves sharesFrom shares total p1 p2 p3 p6 textP3 listP3 listed lineP3 quoted owed altered plates furtherPlates firstFailing
+unfolding sumTo sumZTo allTo tabulateFrom joined repeated eqZ start placeIn rowAt columnAt levelOf inLevel entry four coarser pyramidOver blockSum blockSumZ greyAt burnt burntAt greySum greyTotal dotsIn allDots candidate firstOfEquals better largest descend plain within onMap weightAt share diffuse topOf modelStart missing placeDot step steps burntNear everyEntry fewDots numbered counted unused summed bounded owing isSound powerUpTo powerOf lowest loadRefusal loaded loadOf dotsDue saidAt sheetIn advanceRefusal advanced advanceOf tallyRefusal tallyOf errorAt squared levelSum levelsRefusal levelsOf digitsUpTo decimal rightAligned line lineEnds isDigit digitsThen fieldOf textInto rowsText mapText valuesOf readGreys mapTextRefusal readMap mapTextOf dotLines drillText drillListRefusal drillListOf quoteCap figures alignedLine quoteText quotePageRefusal quotePageOf isNear overThese renewed isSmall entriesSmall renewable renewalOf refusedText finishedOf plateOf heldAfterLoad callOf heldAfter outcomesOf heldAfterCalls repliesOf modelRefusal modelCall modelReply modelAfterCalls modelReplies greys4 order4 serials4 pyramid4 levels4 greys8 order8 serials8 pyramid8 levels8 same sameZ saidAs refuses loadedMap callsOf after modelAfter replied answers leaves sharesFrom shares total p1 p2 p3 p6 textP3 listP3 listed lineP3 quoted owed altered renews4 renews8 leftAlone plates furtherPlates firstFailing
 plates-hold = refl

@@ -1,5 +1,6 @@
 -- A dot placed by the code: the walk, the cells burnt, the sums over them, and the number noted.
 use mathlib.Core.Path.{_≡_, refl, sym, ap, _∙_}
+use mathlib.Core.Bool.{false}
 use mathlib.Core.List.{List, _++_}
 use Prim.Native.Nat.{ℕ, zero, suc, _+_, _*_, _-_, _^_, _≤_, _<_}
 use native.Mathlib.Omega.{arith}
@@ -8,27 +9,32 @@ use native.Mathlib.Numerals.{add-one}
 use native.Mathlib.Decide.{ℕ-discrete}
 use lib.Pow.{pow-mono}
 use lib.ListN.{length, getD, take, drop, set, length-set, length-drop, length-append}
-use lib.Seq.{length-take-le, getD-append-add, drop-at}
+use lib.Seq.{length-take-le}
 use lib.IntN.{ℤ, pos}
 use mir.Syntax.{w64}
 use mir.Val.{Fits}
 use borrow.Author.Tests.{eq-eqb, ne-eqb}
-use Rattle.definition.specs.Pyramid.{cellCount, start, placeIn, inLevel, pyramidOver}
+use Rattle.definition.specs.Pyramid.{cellCount, start, placeIn, inLevel, entry, pyramidOver}
 use Rattle.definition.specs.Descent.{firstOfEquals, descend}
 use Rattle.definition.specs.Diffusion.{Kernel, plain, weightAt, diffuse}
 use Rattle.definition.specs.Model.{Halftone, missing, placeDot, step}
+use Rattle.definition.specs.Renewal.{isNear, renewed}
 use Rattle.integers.specs.Tests.{true-T}
 use Rattle.quadtree.specs.Levels.{start-suc, start-mono, cell-lt, cells-few}
 use Rattle.quadtree.specs.Pyramids.{entry-drop, pyramid-cells}
+use Rattle.quadtree.specs.Renewal.{Changed, renewed-right}
 use Rattle.shares.specs.Kernels.{plain-fit}
-use Rattle.dots.specs.Steps.{Sheet, target, step-made, row-in, column-in, next-sheet}
-use Rattle.pyramid.specs.Asked.{Within, PyramidAsked}
+use Rattle.dots.specs.Kept.{sound-summed}
+use Rattle.dots.specs.Steps.{Sheet, target, step-made, row-in, column-in, next-sheet, next-away}
+use Rattle.pyramid.specs.Asked.{Within, Whole}
 use Rattle.pyramid.specs.Four.{within-mono}
-use Rattle.pyramid.specs.Upward.{tail-lent, tail-back}
+use Rattle.pyramid.specs.Small.{take-within, append-within}
+use Rattle.pyramid.specs.Turn.{tail-lent, tail-back}
 use Rattle.descent.specs.Asked.{DescentAsked}
 use Rattle.diffusion.specs.Asked.{PlaceAsked}
+use Rattle.renewal.specs.Asked.{SmallPyramid}
 use Rattle.dot.specs.Asked.{DotAsked, NoteAsked}
-use Rattle.dot.specs.Small.{mostResidual, sound-small, places-small}
+use Rattle.dot.specs.Small.{mostResidual, sound-small, places-small, all-small}
 
 start-eight : start 8 ≡ 21845
 start-eight = unfold start in refl
@@ -63,10 +69,10 @@ module _ (r : ℕ) (p : List ℤ) (ss o : List ℕ) (dots : ℕ) (h : DotAsked r
     at-target : (row, column) ≡ target plain r s
     at-target = rw (sub-zero r) at ec
 
-    row-lt : row < 2 ^ r
+    pub row-lt : row < 2 ^ r
     row-lt = rw (ap (λ (c : ℕ × ℕ). c .0) at-target) (row-in plain plain-fit r big s (h .sheet) (h .due))
 
-    column-lt : column < 2 ^ r
+    pub column-lt : column < 2 ^ r
     column-lt = rw (ap (λ (c : ℕ × ℕ). c .1) at-target) (column-in plain plain-fit r big s (h .sheet) (h .due))
 
     next-is : step plain r s ≡ placeDot plain r s (row, column)
@@ -124,21 +130,35 @@ module _ (r : ℕ) (p : List ℤ) (ss o : List ℕ) (dots : ℕ) (h : DotAsked r
         head-long : length (take off p) ≡ start r
         head-long = length-take-le off p off-in ∙ eo
 
-        pub sums-asked : PyramidAsked back r
-        sums-asked =
-            rw back-is
-            (record {
-              most = h .small;
-              whole = omega (arith, length-append (take off p) e, head-long, e-long, start-suc r, ap start (add-one r));
-              bound = mostResidual;
-              small = λ i. rw (rw head-long at (getD-append-add (take off p) e i (pos 0))) (e-small i);
-              room = omega (arith, cells-few r (h .small));
-            })
+        pub back-whole : Whole back r
+        back-whole = rw back-is (record { most = h .small; long = omega (arith, length-append (take off p) e, head-long, e-long, start-suc r, ap start (add-one r)) })
 
-        pub placed : {z : List ℤ} {s′ o′ : List ℕ} (side : ℕ) → side ≡ 2 ^ r → z ≡ pyramidOver r (drop (start r) back) → s′ ≡ set ss (row * side + column) (dots + 1) → o′ ≡ set o dots (row * side + column)
+        p-small : (i : ℕ) → Within (2 ^ 40) (getD p i (pos 0))
+        p-small i = within-mono _ _ _ (omega (arith, cells-few r (h .small))) (all-small r p mostResidual (sound-summed (h .sheet .sound)) (sound-small r s (h .sheet .sound)) (h .sheet .sized .pyramid) i)
+
+        pub back-small : SmallPyramid back
+        back-small = rw back-is (record { small = append-within (2 ^ 40) (take off p) e (take-within (2 ^ 40) off p p-small) (λ i. within-mono mostResidual (2 ^ 40) _ (omega arith) (e-small i)) })
+
+        -- only the cell and its neighbours have changed
+        stays : (x y : ℕ) → x < 2 ^ r → y < 2 ^ r → isNear row column x y ≡ false → inLevel r e x y ≡ entry p r x y
+        stays x y i j f = sym (pyramid-cells r e x y) ∙ rw (← over-e, at-target) (next-away plain plain-fit r big s (h .sheet) (h .due) x y i j (ap (λ (c : ℕ × ℕ). isNear (c .0) (c .1) x y) (sym at-target) ∙ f))
+
+        changed : Changed r (isNear row column) p e
+        changed =
+            record {
+              long = h .sheet .sized .pyramid;
+              full = e-long;
+              summed = sound-summed (h .sheet .sound);
+              away = λ x y i j f. sym (stays x y i j f);
+            }
+
+        renewed-is : renewed r (isNear row column) back ≡ pyramidOver r e
+        renewed-is = ap (renewed r (isNear row column)) (back-is ∙ ap (λ (n : ℕ). take n p ++ e) eo) ∙ renewed-right r (isNear row column) p e changed
+
+        pub placed : {z : List ℤ} {s′ o′ : List ℕ} (side : ℕ) → side ≡ 2 ^ r → z ≡ renewed r (isNear row column) back → s′ ≡ set ss (row * side + column) (dots + 1) → o′ ≡ set o dots (row * side + column)
             → record { pyramid = z; serials = s′; order = o′; dots = dots + 1 } ≡ step plain r s
         unfolding placeDot
-        placed side es ez e₁ e₂ = rw (next-is, ez, e₁, e₂, es, back-is, drop-at (take off p) e (start r) head-long, q, lent-is, add-one dots)
+        placed side es ez e₁ e₂ = rw (next-is, ez, renewed-is, e₁, e₂, es, q, lent-is, add-one dots)
 
     module _ (side : ℕ) (es : side ≡ 2 ^ r) where
       cell-in : row * side + column < 65536

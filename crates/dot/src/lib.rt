@@ -25,7 +25,7 @@ pub fn place_dot(pyramid: &mut [i64], serials: &mut [u32], order: &mut [u32], r:
     let column = cell.column;
     let cells = sizes::level_start(r);
     diffusion::place(&mut pyramid[cells..], r, row, column);
-    pyramid::sum_up(pyramid, r);
+    renewal::renew(pyramid, r, row, column);
     let side = sizes::pow2(r);
     note(serials, order, row * side + column, dots);
 }

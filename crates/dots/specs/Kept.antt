@@ -1,6 +1,7 @@
 -- A dot at a cell of a sound sheet that owes something: the cell is unburnt and owes at most one dot, and the sheet is sound afterwards.
 use mathlib.Core.Path.{_≡_, refl, sym, ap, ap₂, _∙_}
 use mathlib.Core.Logic.{_⊎_, inl, inr}
+use mathlib.Core.Bool.{false}
 use Prim.Native.Nat.{ℕ, suc, _+_, _*_, _-_, _^_, _≤_, _<_}
 use native.Mathlib.Omega.{arith}
 use native.Mathlib.Decide.{ℕ-discrete}
@@ -12,11 +13,12 @@ use Rattle.definition.specs.Blocks.{burntAt}
 use Rattle.definition.specs.Diffusion.{Kernel, weightAt}
 use Rattle.definition.specs.Model.{Halftone, placeDot}
 use Rattle.definition.specs.Sound.{burntNear, Sound}
+use Rattle.definition.specs.Renewal.{isNear}
 use Rattle.integers.specs.Linear.{zz, ints, up, up-or-dn, eq-pos-up}
 use Rattle.quadtree.specs.Points.{δ, δ-same, hit}
 use Rattle.quadtree.specs.Pyramids.{Summed}
 use Rattle.shares.specs.Kernels.{Fit}
-use Rattle.shares.specs.Neighbours.{spread, fall}
+use Rattle.shares.specs.Neighbours.{spread, fall, fall-away}
 use Rattle.shares.specs.Outflow.{weights-some}
 use Rattle.dots.specs.Placing.{Sized, placed-sized, placed-summed, placed-falls}
 use Rattle.dots.specs.Marks.{burntAt-le, Ordered, burnt-at, room, ordered'}
@@ -62,6 +64,10 @@ module _ (kernel : Kernel) (fit : Fit kernel) (r : ℕ) (big : 2 ≤ 2 ^ r) (s :
   -- no residual rises, and the cell's own is then 0 at most
   pub after-falls : (x y : ℕ) → x < 2 ^ r → y < 2 ^ r → entry (after .pyramid) r x y ≡ entry (s .pyramid) r x y -ℤ pos (took x y)
   after-falls = placed-falls kernel r s sized row column owed i j some owed-is owed-most
+
+  -- away from the cell and its neighbours nothing changes
+  pub after-away : (x y : ℕ) → x < 2 ^ r → y < 2 ^ r → isNear row column x y ≡ false → entry (after .pyramid) r x y ≡ entry (s .pyramid) r x y
+  after-away x y p q e = after-falls x y p q ∙ rw (fall-away kernel r row column (fit .turns) owed x y e) (simp zz (omega arith))
 
   abbrev around : ℕ → ℕ → ℕ
   around = spread kernel r row column (oneDot - owed)

@@ -14,6 +14,7 @@ use Rattle.definition.specs.Descent.{descend, firstOfEquals}
 use Rattle.definition.specs.Diffusion.{Kernel}
 use Rattle.definition.specs.Model.{Halftone, topOf, placeDot, step, steps}
 use Rattle.definition.specs.Sound.{Sound}
+use Rattle.definition.specs.Renewal.{isNear}
 use Rattle.definition.specs.Advance.{dotsDue}
 use Rattle.integers.specs.Linear.{ints, up, up-or-dn, natAbs-is}
 use Rattle.quadtree.specs.Areas.{area}
@@ -23,7 +24,7 @@ use Rattle.quadtree.specs.Guidance.{first-fair, Reached, descend-reached}
 use Rattle.shares.specs.Kernels.{Fit}
 use Rattle.shares.specs.Outflow.{fall-whole}
 use Rattle.dots.specs.Placing.{Sized}
-use Rattle.dots.specs.Kept.{sound-summed, owed, owed-most, took, after-sized, after-sound, after-falls, after-dots}
+use Rattle.dots.specs.Kept.{sound-summed, owed, owed-most, took, after-sized, after-sound, after-falls, after-away, after-dots}
 
 -- a sound sheet in buffers of just the needed lengths
 pub record Sheet (r : ℕ) (s : Halftone) : Type 0 where
@@ -100,6 +101,9 @@ module _ (kernel : Kernel) (fit : Fit kernel) (r : ℕ) (big : 2 ≤ 2 ^ r) wher
         areaZ-ext p q n (entry (next .pyramid) r) (λ x y. entry (s .pyramid) r x y -ℤ pos (taken x y))
         (λ x y i j. after-falls kernel fit r big s (sheet .sized) (sheet .sound) (target kernel r s .0) (target kernel r s .1) row-in column-in owes x y (omega arith) (omega arith))
         ∙ areaZ-fall p q n (entry (s .pyramid) r) taken
+
+    pub next-away : (x y : ℕ) → x < 2 ^ r → y < 2 ^ r → isNear (target kernel r s .0) (target kernel r s .1) x y ≡ false → entry (next .pyramid) r x y ≡ entry (s .pyramid) r x y
+    next-away = after-away kernel fit r big s (sheet .sized) (sheet .sound) (target kernel r s .0) (target kernel r s .1) row-in column-in owes
 
     pub next-top : topOf (next .pyramid) ≡ topOf (s .pyramid) -ℤ pos oneDot
     next-top =

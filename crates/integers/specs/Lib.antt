@@ -4,3 +4,4 @@ pub mod Sums
 pub mod Lists
 pub mod Machine
 pub mod Fill
+pub mod Loops

@@ -35,7 +35,22 @@ pub T-or-not : (b : Bool) → T b ⊎ T (not b)
 T-or-not true = inl tt
 T-or-not false = inr tt
 
+-- tests that hold together are the same
+pub same-test : (a b : Bool) → (T a → T b) → (T b → T a) → a ≡ b
+same-test true true f g = refl
+same-test true false f g = absurd (f tt)
+same-test false true f g = absurd (g tt)
+same-test false false f g = refl
+
 -- ════ and, or
+
+pub and-true : (a : Bool) → a ≡ (a && true)
+and-true true = refl
+and-true false = refl
+
+pub and-false : (a : Bool) → (a && false) ≡ false
+and-false true = refl
+and-false false = refl
 
 pub T-and : (a b : Bool) → T (a && b) → T a × T b
 T-and true b t = (tt, t)
@@ -44,6 +59,17 @@ T-and false b t = absurd t
 pub and-T : (a b : Bool) → T a → T b → T (a && b)
 and-T true b s t = t
 and-T false b s t = s
+
+-- the same of four
+pub T-four : (a b c d : Bool) → T (a && b && c && d) → T a × T b × T c × T d
+T-four a b c d t =
+    let u = T-and (a && b && c) d t in
+    let v = T-and (a && b) c (u .0) in
+    let w = T-and a b (v .0) in
+    (w .0, w .1, v .1, u .1)
+
+pub four-T : (a b c d : Bool) → T a → T b → T c → T d → T (a && b && c && d)
+four-T a b c d s t u v = and-T (a && b && c) d (and-T (a && b) c (and-T a b s t) u) v
 
 pub T-or : (a b : Bool) → T (a || b) → T a ⊎ T b
 T-or true b t = inl tt

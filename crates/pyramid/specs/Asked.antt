@@ -1,11 +1,11 @@
 -- What the functions of this crate are asked, and what they are told in terms of a part of a pyramid.
 use mathlib.Core.Path.{_≡_}
 use mathlib.Core.List.{List, _++_}
-use Prim.Native.Nat.{ℕ, _+_, _*_, _/_, _%_, _^_, _≤_, _<_}
+use Prim.Native.Nat.{ℕ, suc, _+_, _*_, _/_, _%_, _^_, _≤_, _<_}
 use lib.ListN.{length, getD, drop}
 use lib.IntN.{ℤ, pos, negℤ, _+ℤ_}
 use lib.Signed.{_≤ℤ_}
-use Rattle.definition.specs.Pyramid.{cellCount, needed, start, levelOf, coarser, pyramidOver}
+use Rattle.definition.specs.Pyramid.{cellCount, needed, start, levelOf, inLevel, four, pyramidOver}
 use Rattle.definition.specs.Blocks.{greyAt}
 
 -- the residual of a cell at the start
@@ -16,16 +16,20 @@ residualOf greys i = pos (256 * getD greys i 0)
 unfoldable pub fourAt : List ℤ → ℕ → ℕ → ℤ
 fourAt part top wide = getD part top (pos 0) +ℤ getD part (top + 1) (pos 0) +ℤ getD part (top + wide) (pos 0) +ℤ getD part (top + wide + 1) (pos 0)
 
--- in a part that begins with a level of side `side` and goes on with the next finer one: where the four below place i begin, and their sum
-unfoldable pub fourPlace : ℕ → ℕ → ℕ
-fourPlace side i = side * side + (2 * (i / side) * (2 * side) + 2 * (i % side))
+-- in a part that begins with a level of side `side` and goes on with the next finer one: the sum of the four below entry (a, b), and below the entry at place i
+unfoldable pub fourBelow : List ℤ → ℕ → ℕ → ℕ → ℤ
+fourBelow part side a b = fourAt part (side * side + (2 * a * (2 * side) + 2 * b)) (2 * side)
 
 unfoldable pub parentOf : List ℤ → ℕ → ℕ → ℤ
-parentOf part side i = fourAt part (fourPlace side i) (2 * side)
+parentOf part side i = fourBelow part side (i / side) (i % side)
 
--- the part with its first level, level k, filled from the next finer one
-unfoldable pub levelFilled : ℕ → List ℤ → List ℤ
-levelFilled k part = coarser k (drop (2 ^ k * 2 ^ k) part) ++ drop (2 ^ k * 2 ^ k) part
+-- in a part that begins with level k: the sum of the four below entry (a, b)
+unfoldable pub sumBelow : ℕ → List ℤ → ℕ → ℕ → ℤ
+sumBelow k part a b = four (inLevel (suc k) (drop (2 ^ k * 2 ^ k) part)) a b
+
+-- the part with f a b as entry (a, b) of that level, and the rest as it was
+unfoldable pub withLevel : ℕ → (ℕ → ℕ → ℤ) → List ℤ → List ℤ
+withLevel k f part = levelOf k f ++ drop (2 ^ k * 2 ^ k) part
 
 -- the pyramid that a map starts with
 unfoldable pub freshPyramid : ℕ → List ℕ → List ℤ
@@ -51,10 +55,13 @@ pub record LevelAsked (part : List ℤ) (side : ℕ) : Type 0 where
   pub whole : length part ≡ side * side + 2 * side * (2 * side)
   pub small : (i : ℕ) → Within (2 ^ 60) (getD part (side * side + i) (pos 0))
 
--- a whole pyramid of power k, whose cells are so small that no sum over them overflows
-pub record PyramidAsked (part : List ℤ) (k : ℕ) : Type 0 where
+-- a whole pyramid of power k
+pub record Whole (part : List ℤ) (k : ℕ) : Type 0 where
   pub most : k ≤ 8
-  pub whole : length part ≡ start (k + 1)
+  pub long : length part ≡ start (k + 1)
+
+-- its cells are so small that no sum over them overflows
+pub record SmallCells (part : List ℤ) (k : ℕ) : Type 0 where
   pub bound : ℕ
   pub small : (i : ℕ) → Within bound (getD part (start k + i) (pos 0))
   pub room : bound * (2 ^ k * 2 ^ k) ≤ 2 ^ 60

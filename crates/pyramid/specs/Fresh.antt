@@ -17,8 +17,9 @@ use Rattle.integers.specs.Linear.{zz, ints}
 use Rattle.integers.specs.Fill.{filled, filled-all}
 use Rattle.integers.specs.Lists.{length-tabulate, getD-tabulate, tabulate-ext}
 use Rattle.quadtree.specs.Levels.{start-suc, place-row-column, cells-few}
-use Rattle.pyramid.specs.Asked.{residualOf, freshPyramid, Within, PyramidAsked, FillAsked}
-use Rattle.pyramid.specs.Upward.{tail-lent, tail-back}
+use Rattle.pyramid.specs.Asked.{residualOf, freshPyramid, Within, Whole, SmallCells, FillAsked}
+use Rattle.pyramid.specs.Small.{zero-within}
+use Rattle.pyramid.specs.Turn.{tail-lent, tail-back}
 
 module _ (l : List ℤ) (greys : List ℕ) (r : ℕ) (h : FillAsked l (length greys) r) where
   long : length l ≡ start r + cellCount r
@@ -54,13 +55,18 @@ module _ (l : List ℤ) (greys : List ℕ) (r : ℕ) (h : FillAsked l (length gr
     where
       go : Dec (i < cellCount r) → Within 65280 (getD cells i (pos 0))
       go (yes lt) = rw (getD-tabulate (cellCount r) (residualOf greys) i (pos 0) lt) (let b = bytes i .fits in record { low = simp zz (omega ints); high = omega ints })
-      go (no ge) = rw (List·getD-eq-default cells (pos 0) {n = i} (omega (arith, length-tabulate 0 (cellCount r) (residualOf greys)))) (record { low = simp zz (omega arith); high = omega ints })
+      go (no ge) = rw (List·getD-eq-default cells (pos 0) {n = i} (omega (arith, length-tabulate 0 (cellCount r) (residualOf greys)))) (zero-within 65280)
 
-  celled-asked : ((i : ℕ) → Fits w8 (getD greys i 0)) → PyramidAsked celled r
-  celled-asked bytes =
+  celled-whole : Whole celled r
+  celled-whole =
       record {
         most = h .most;
-        whole = omega (arith, length-append (take (start r) l) cells, head-long, length-tabulate 0 (cellCount r) (residualOf greys), long, start-suc r, ap start (add-one r));
+        long = omega (arith, length-append (take (start r) l) cells, head-long, length-tabulate 0 (cellCount r) (residualOf greys), long, start-suc r, ap start (add-one r));
+      }
+
+  celled-small : ((i : ℕ) → Fits w8 (getD greys i 0)) → SmallCells celled r
+  celled-small bytes =
+      record {
         bound = 65280;
         small = λ i. rw (rw head-long at (getD-append-add (take (start r) l) cells i (pos 0))) (cell-within bytes i);
         room = omega (arith, cells-few r (h .most));
@@ -78,8 +84,11 @@ module _ (l : List ℤ) (greys : List ℕ) (r : ℕ) (h : FillAsked l (length gr
     abbrev back : List ℤ
     back = take off l ++ (e ++ drop (length l - off) (drop off l))
 
-    pub sums-asked : ((i : ℕ) → Fits w8 (getD greys i 0)) → PyramidAsked back r
-    sums-asked bytes = rw (back-celled off count eo es q) (celled-asked bytes)
+    pub back-whole : Whole back r
+    back-whole = rw (back-celled off count eo es q) celled-whole
+
+    pub back-small : ((i : ℕ) → Fits w8 (getD greys i 0)) → SmallCells back r
+    back-small bytes = rw (back-celled off count eo es q) (celled-small bytes)
 
     pub fresh : {z : List ℤ} → z ≡ pyramidOver r (drop (start r) back) → z ≡ freshPyramid r greys
     fresh ez = ez ∙ ap (λ (m : List ℤ). pyramidOver r (drop (start r) m)) (back-celled off count eo es q) ∙ celled-fresh

@@ -3,38 +3,45 @@ use mathlib.Core.Path.{_≡_, refl, sym, ap, ap₂, _∙_}
 use mathlib.Core.List.{List, _++_}
 use Prim.Native.Nat.{ℕ, suc, _+_, _*_, _/_, _%_, _^_, _≤_, _<_}
 use native.Mathlib.Omega.{arith}
-use native.Mathlib.Nat.{div-lt-iff-lt-mul, mod-lt, mul-le-mul-right, mul-pos, add-mul, add-assoc, pow-succ'}
+use native.Mathlib.Nat.{div-lt-iff-lt-mul, mod-lt, mul-le-mul, mul-le-mul-right, mul-pos, add-mul, add-assoc, pow-succ'}
 use lib.ListN.{length, getD, drop}
 use lib.Seq.{getD-drop}
 use lib.IntN.{ℤ, pos, _+ℤ_}
-use Rattle.definition.specs.Pyramid.{placeIn, rowAt, columnAt, levelOf, inLevel, four, coarser}
+use Rattle.definition.specs.Pyramid.{placeIn, rowAt, columnAt, levelOf, inLevel, four}
 use Rattle.integers.specs.Fill.{filled, length-filled, filled-past}
 use Rattle.integers.specs.Lists.{tabulate-ext}
-use Rattle.pyramid.specs.Asked.{fourAt, fourPlace, parentOf, levelFilled, FourAsked, LevelAsked}
+use Rattle.pyramid.specs.Asked.{fourAt, fourBelow, parentOf, sumBelow, withLevel, FourAsked, LevelAsked}
 
-module _ (part : List ℤ) (side : ℕ) (h : LevelAsked part side) (i : ℕ) (lt : i < side * side) where
-  -- the four below place i lie in the next level
-  pub four-inside : (i / side < side) × (2 * (i / side) * (2 * side) + 2 * (i % side) + 2 * side + 1 < 2 * side * (2 * side))
-  four-inside =
-      let a : i / side < side = div-lt-iff-lt-mul (h .some) .1 lt in
-      let b : i % side < side = mod-lt i (h .some) in
-      (a, omega (arith, mul-le-mul-right (2 * side) (double (i / side) side a), add-mul (2 * (i / side)) 2 (2 * side)))
-    where
-      double : (a s : ℕ) → a < s → 2 * a + 2 ≤ 2 * s
-      double a s q = omega arith
+-- the four below entry (a, b) lie in the next level
+module _ (part : List ℤ) (side : ℕ) (h : LevelAsked part side) (a b : ℕ) (p : a < side) (q : b < side) where
+  abbrev first : ℕ
+  first = 2 * a * (2 * side) + 2 * b
 
-  pub four-asked : FourAsked part (fourPlace side i) (2 * side)
-  unfolding fourPlace
+  four-inside : first + 2 * side + 1 < 2 * side * (2 * side)
+  four-inside = let double : 2 * a + 2 ≤ 2 * side = omega arith in omega (arith, mul-le-mul-right (2 * side) double, add-mul (2 * a) 2 (2 * side))
+
+  -- no number on the way to them is large
+  pub below-fits : (first + 2 * side + 1 < 2 * side * (2 * side)) × (side * side ≤ 16384)
+  below-fits = (four-inside, mul-le-mul (h .most) (h .most))
+
+  pub four-asked : FourAsked part (side * side + first) (2 * side)
   four-asked =
-      let k = four-inside .1 in
-      let x = 2 * (i / side) * (2 * side) + 2 * (i % side) in
+      let k = four-inside in
       record {
         room = omega (arith, h .whole);
-        first = h .small x;
-        second = rw (add-assoc (side * side) x 1) (h .small (x + 1));
-        third = rw (add-assoc (side * side) x (2 * side)) (h .small (x + 2 * side));
-        fourth = rw (add-assoc (side * side) x (2 * side), add-assoc (side * side) (x + 2 * side) 1) (h .small (x + 2 * side + 1));
+        first = h .small first;
+        second = rw (add-assoc (side * side) first 1) (h .small (first + 1));
+        third = rw (add-assoc (side * side) first (2 * side)) (h .small (first + 2 * side));
+        fourth = rw (add-assoc (side * side) first (2 * side), add-assoc (side * side) (first + 2 * side) 1) (h .small (first + 2 * side + 1));
       }
+
+-- the row and column of place i
+module _ (part : List ℤ) (side : ℕ) (h : LevelAsked part side) (i : ℕ) (lt : i < side * side) where
+  pub row-in : i / side < side
+  row-in = div-lt-iff-lt-mul (h .some) .1 lt
+
+  pub column-in : i % side < side
+  column-in = mod-lt i (h .some)
 
 pub asked-side : {part : List ℤ} {n side : ℕ} → side ≡ n → LevelAsked part n → LevelAsked part side
 asked-side e h = rw e h
@@ -59,7 +66,7 @@ module _ (part : List ℤ) (side : ℕ) (h : LevelAsked part side) (f : ℕ → 
       }
 
   pub parent-filled : (i : ℕ) → parentOf (filled f n part) side i ≡ parentOf part side i
-  unfolding parentOf fourAt fourPlace
+  unfolding parentOf fourBelow fourAt
   parent-filled i =
       let x = side * side + (2 * (i / side) * (2 * side) + 2 * (i % side)) in
       let same : (j : ℕ) → side * side ≤ j → getD (filled f n part) j (pos 0) ≡ getD part j (pos 0) = λ j q. filled-past f n part j (pos 0) (omega arith) in
@@ -74,15 +81,13 @@ module _ (k : ℕ) (part : List ℤ) where
   unfolding inLevel placeIn
   finer-at x y j e = ap (λ (m : ℕ). getD part m (pos 0)) (e ∙ rw (pow-succ' 2 k)) ∙ sym (getD-drop (2 ^ k * 2 ^ k) part (x * 2 ^ suc k + y) (pos 0))
 
-  parent-four : (i : ℕ) → parentOf part (2 ^ k) i ≡ four finer (rowAt k i) (columnAt k i)
-  unfolding parentOf fourAt fourPlace four rowAt columnAt
-  parent-four i =
-      let a = i / 2 ^ k in
-      let b = i % 2 ^ k in
+  pub four-at : (a b : ℕ) → fourBelow part (2 ^ k) a b ≡ sumBelow k part a b
+  unfolding fourBelow fourAt sumBelow four
+  four-at a b =
       ap₂ _+ℤ_
       (ap₂ _+ℤ_ (ap₂ _+ℤ_ (finer-at (2 * a) (2 * b) _ refl) (finer-at (2 * a) (2 * b + 1) _ (omega arith))) (finer-at (2 * a + 1) (2 * b) _ (omega arith)))
       (finer-at (2 * a + 1) (2 * b + 1) _ (omega arith))
 
-  pub filled-level : filled (parentOf part (2 ^ k)) (2 ^ k * 2 ^ k) part ≡ levelFilled k part
-  unfolding filled levelFilled coarser levelOf
-  filled-level = ap (λ (l : List ℤ). l ++ drop (2 ^ k * 2 ^ k) part) (tabulate-ext (2 ^ k * 2 ^ k) _ _ (λ i lt. parent-four i))
+  pub filled-level : filled (parentOf part (2 ^ k)) (2 ^ k * 2 ^ k) part ≡ withLevel k (sumBelow k part) part
+  unfolding filled withLevel sumBelow levelOf parentOf rowAt columnAt
+  filled-level = ap (λ (l : List ℤ). l ++ drop (2 ^ k * 2 ^ k) part) (tabulate-ext (2 ^ k * 2 ^ k) _ _ (λ i lt. four-at (i / 2 ^ k) (i % 2 ^ k)))

@@ -1,11 +1,11 @@
-// The pyramid of sums: cells from greys, one block of four, one level, all levels. Load fills with it, and so does renewal.
+// The pyramid of sums: cells from greys, one block of four, one level, all levels. Load fills with it; renewal and the test for a sound sheet take its sums of four.
 ghost use mathlib.Core.Path.{_≡_};
 ghost use Prim.Native.Nat.{_+_, _*_, _^_, _<_, _≤_};
 ghost use lib.ListN.{length, drop};
 ghost use lib.IntN.{pos};
 ghost use Rattle.definition.specs.Pyramid.{start, pyramidOver};
 ghost use Rattle.integers.specs.Fill.{filled};
-ghost use Rattle.pyramid.specs.Asked.{residualOf, fourAt, parentOf, levelFilled, freshPyramid, FourAsked, LevelAsked, PyramidAsked, FillAsked};
+ghost use Rattle.pyramid.specs.Asked.{residualOf, fourAt, fourBelow, parentOf, sumBelow, withLevel, freshPyramid, FourAsked, LevelAsked, Whole, SmallCells, FillAsked};
 
 // A cell's residual at the start: 256 x grey.
 fn residual(grey: u8) -> i64
@@ -36,22 +36,28 @@ pub fn sum_of_four(part: &[i64], top: usize, wide: usize) -> i64
     part[top] + part[top + 1] + part[low] + part[low + 1]
 }
 
-// The sum of the four entries below place i of the level of side `side` with which the part begins.
+// The sum of the four entries below entry (a, b) of the level of side `side` with which the part begins.
+pub fn sum_below(part: &[i64], side: usize, a: usize, b: usize) -> i64
+    requires { ⌜ LevelAsked (now part) side × (a < side) × (b < side) ⌝ }
+    ensures { λ z. ⌜ z ≡ fourBelow (now (part .entry)) side a b ⌝ }
+{
+    let wide = 2 * side;
+    sum_of_four(part, side * side + (2 * a * wide + 2 * b), wide)
+}
+
+// The same of the entry at place i.
 fn parent_sum(part: &[i64], side: usize, i: usize) -> i64
     requires { ⌜ LevelAsked (now part) side ⌝ }
     requires { ⌜ i < side * side ⌝ }
     ensures { λ z. ⌜ z ≡ parentOf (now (part .entry)) side i ⌝ }
 {
-    let wide = 2 * side;
-    let a = i / side;
-    let b = i % side;
-    sum_of_four(part, side * side + (2 * a * wide + 2 * b), wide)
+    sum_below(part, side, i / side, i % side)
 }
 
 // Fills level k, with which the part begins, from the next finer level, with which it goes on and ends.
 pub fn fill_level(part: &mut [i64], k: usize)
     requires { ⌜ (k ≤ 7) × LevelAsked (now part) (2 ^ k) ⌝ }
-    ensures { λ _. ⌜ now (part .exit) ≡ levelFilled k (now (part .entry)) ⌝ }
+    ensures { λ _. ⌜ now (part .exit) ≡ withLevel k (sumBelow k (now (part .entry))) (now (part .entry)) ⌝ }
 {
     let side = sizes::pow2(k);
     let size = side * side;
@@ -64,8 +70,8 @@ pub fn fill_level(part: &mut [i64], k: usize)
 }
 
 // Sums up all levels over level k, with which the part ends.
-pub fn sum_up(part: &mut [i64], k: usize)
-    requires { ⌜ PyramidAsked (now part) k ⌝ }
+fn sum_up(part: &mut [i64], k: usize)
+    requires { ⌜ Whole (now part) k × SmallCells (now part) k ⌝ }
     ensures { λ _. ⌜ now (part .exit) ≡ pyramidOver k (drop (start k) (now (part .entry))) ⌝ }
 {
     if 0 < k {

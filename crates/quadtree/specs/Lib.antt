@@ -5,4 +5,5 @@ pub mod Residues
 pub mod Levels
 pub mod Quarters
 pub mod Pyramids
+pub mod Renewal
 pub mod Guidance

@@ -1,5 +1,6 @@
 -- From what a call ensures and the case of its answer: what its function for C returns and writes. `t` is that case.
 use mathlib.Core.Path.{_≡_}
+use mathlib.Core.Bool.{Bool, cond}
 use mathlib.Core.List.{List}
 use Prim.Native.Nat.{ℕ}
 use lib.IntN.{ℤ}
@@ -20,7 +21,7 @@ use Rattle.definition.specs.declared.LevelsAnswer.{LevelsAnswer}
 use Rattle.definition.specs.declared.LevelsStatus.{LevelsStatus}
 use Rattle.definition.specs.declared.MapTextAnswer.{MapTextAnswer}
 use Rattle.definition.specs.declared.TextAnswer.{TextAnswer}
-use Rattle.rulmedei.specs.Codes.{codeOf, valueOf, loadCode, advanceCode, tallyCode, levelsCode, mapTextCode, textCode}
+use Rattle.rulmedei.specs.Codes.{codeOf, valueOf, loadCode, advanceCode, tallyCode, levelsCode, mapTextCode, textCode, renewCode}
 
 -- ---- the calls that answer a record with a status
 pub load-coded : (side : ℕ) (g : List ℕ) (p : List ℤ) (s o : List ℕ) (a : LoadAnswer) {p′ : List ℤ} {s′ o′ : List ℕ}
@@ -65,3 +66,8 @@ pub text-coded : {o : TextOutcome} {after : List ℕ} (a : TextAnswer) → recor
     → {n v : ℕ} → n ≡ codeOf (textSays a) → v ≡ valueOf (textSays a) → record { code = n; length = v; output = after } ≡ textCode o
 unfolding textCode
 text-coded a h n v = rw (← h, n, v)
+
+-- ---- the renewal, which answers whether it is made
+pub renew-coded : (outcome : Bool × List ℤ) {b : Bool} {p′ : List ℤ} → (b, p′) ≡ outcome → {t : Bool} → b ≡ t → {n : ℕ} → n ≡ cond t 0 101 → record { code = n; pyramid = p′ } ≡ renewCode outcome
+unfolding renewCode
+renew-coded outcome h is n = rw (← h, is, n)

@@ -1,4 +1,5 @@
 -- What the functions for C return and write, from what the calls' definitions say.
+use mathlib.Core.Bool.{Bool, cond}
 use mathlib.Core.List.{List, [], _∷_}
 use Prim.Native.Nat.{ℕ}
 use lib.IntN.{ℤ}
@@ -83,3 +84,11 @@ pub record TextCode : Type 0 where
 
 unfoldable pub textCode : TextOutcome → TextCode
 textCode o = record { code = codeOf (o .said); length = valueOf (o .said); output = o .output }
+
+-- the renewal by itself: whether it is made, and the pyramid
+pub record RenewCode : Type 0 where
+  pub code : ℕ
+  pub pyramid : List ℤ
+
+unfoldable pub renewCode : Bool × List ℤ → RenewCode
+renewCode outcome = record { code = cond (outcome .0) 0 101; pyramid = outcome .1 }

@@ -1,5 +1,6 @@
 // The calls for programs in C and Rust: numbers and slices only. Each returns a code: 0 where the call did its work, 100 where Advance says
-// more, or else document 01's number of the refusal. A slice is a pointer and a length (include/rulmedei.h says what a caller must ensure).
+// more, or else document 01's number of the refusal. The renewal by itself, no call of document 01, returns 0 or 101. A slice is a pointer and a
+// length (include/rulmedei.h says what a caller must ensure).
 use definition::AdvanceStatus;
 use definition::LevelsStatus;
 use definition::LoadStatus;
@@ -13,7 +14,8 @@ ghost use lib.Seq.{sets};
 ghost use Rattle.definition.specs.Answers.{textSays};
 ghost use Rattle.definition.specs.DrillList.{drillListOf};
 ghost use Rattle.definition.specs.QuotePage.{quotePageOf};
-ghost use Rattle.rulmedei.specs.Codes.{codeOf, valueOf, loadCode, advanceCode, tallyCode, levelsCode, mapTextCode, textCode};
+ghost use Rattle.definition.specs.Renewal.{renewalOf};
+ghost use Rattle.rulmedei.specs.Codes.{codeOf, valueOf, loadCode, advanceCode, tallyCode, levelsCode, mapTextCode, textCode, renewCode};
 
 // Load. The record is written to `progress_side` and `progress_dots`.
 #[no_mangle]
@@ -189,4 +191,15 @@ pub extern "C" fn rulmedei_quote_page(
 {
     let answer = quote_page::quote_page(side, greys, serials, level, out);
     text_code(answer, length)
+}
+
+// The renewal by itself, around the cell in this row and column. It is no call of document 01: 101 where it isn't made.
+#[no_mangle]
+pub extern "C" fn rulmedei_renew(side: u32, row: u32, column: u32, pyramid: &mut [i64]) -> u32
+    ensures { λ n. ⌜ record { code = n; pyramid = now (pyramid .exit) } ≡ renewCode (renewalOf side row column (now (pyramid .entry))) ⌝ }
+{
+    if renewal::renew_lent(side, row, column, pyramid) {
+        return 0;
+    }
+    101
 }

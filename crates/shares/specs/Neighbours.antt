@@ -1,15 +1,17 @@
 -- The places around a cell: which lie on the map, what they weigh, and what a dot at the cell takes from each.
 use mathlib.Core.Path.{_≡_, ap, _∙_}
 use mathlib.Core.Logic.{_≢_, _⊎_, inl, inr}
-use mathlib.Core.Bool.{not, _&&_}
+use mathlib.Core.Bool.{false, not, _&&_}
 use Prim.Native.Nat.{ℕ, _+_, _*_, _-_, _^_, _≤_, _<_}
 use native.Mathlib.Omega.{arith}
 use native.Mathlib.Nat.{mul-comm}
-use lib.Dec.{T, leb, leb→le, le→leb}
+use lib.Dec.{T, T-not, leb, leb→le, le→leb}
 use Rattle.definition.specs.Lists.{sumTo}
 use Rattle.definition.specs.Diffusion.{Kernel, rowNear, columnNear, within, onMap, weightAt, share}
-use Rattle.integers.specs.Tests.{bit, bit-true, bit-false, bit-and, cond-bit, T-and, and-T, T-or-not}
-use Rattle.quadtree.specs.Points.{δ}
+use Rattle.definition.specs.Renewal.{isNear}
+use Rattle.integers.specs.Sums.{sumTo-zero}
+use Rattle.integers.specs.Tests.{bit, bit-true, bit-false, bit-and, cond-bit, T-false, T-and, and-T, four-T, T-or-not}
+use Rattle.quadtree.specs.Points.{δ, hit}
 
 -- 1 if a row or column, counted from one before the map, lies on the map, else 0
 unfoldable pub on : ℕ → ℕ → ℕ
@@ -34,6 +36,11 @@ on-no r x h = go h (on-or r x)
     go (inl z) (inl k) = absurd (omega arith)
     go (inr z) (inl k) = absurd (omega arith)
     go z (inr k) = k
+
+-- a cell at most one row and one column away
+is-near : (row column x y : ℕ) → row ≤ x + 1 → x ≤ row + 1 → column ≤ y + 1 → y ≤ column + 1 → T (isNear row column x y)
+unfolding isNear
+is-near row column x y p q s t = four-T (leb row (x + 1)) (leb x (row + 1)) (leb column (y + 1)) (leb y (column + 1)) (le→leb _ _ p) (le→leb _ _ q) (le→leb _ _ s) (le→leb _ _ t)
 
 module _ (kernel : Kernel) (r row column : ℕ) where
   -- the weight of turn n, as a product
@@ -65,3 +72,21 @@ module _ (kernel : Kernel) (r row column : ℕ) where
 
   unfoldable pub fall : ℕ → ℕ → ℕ → ℕ
   fall w x y = δ row x * δ column y * w + spread (65280 - w) x y
+
+  -- away from the cell and its neighbours nothing is taken
+  pub fall-away : ((n : ℕ) → n < 9 → kernel .turn n < 9) → (w x y : ℕ) → isNear row column x y ≡ false → fall w x y ≡ 0
+  unfolding fall spread
+  fall-away turns w x y e = omega (arith, own, sumTo-zero 9 _ (λ n lt. none n (turns n lt)))
+    where
+      apart : (a b : ℕ) → row ≤ a + 1 → a ≤ row + 1 → column ≤ b + 1 → b ≤ column + 1 → δ a x * δ b y ≡ 0
+      apart a b p q s t = go (hit a b x y)
+        where
+          go : ((a ≡ x) × (b ≡ y)) ⊎ (δ a x * δ b y ≡ 0) → δ a x * δ b y ≡ 0
+          go (inl h) = absurd (T-not (isNear row column x y) (T-false (isNear row column x y) e) (is-near row column x y (omega arith) (omega arith) (omega arith) (omega arith)))
+          go (inr z) = z
+
+      own : δ row x * δ column y * w ≡ 0
+      own = rw (apart row column (omega arith) (omega arith) (omega arith) (omega arith)) (omega arith)
+
+      none : (n : ℕ) → kernel .turn n < 9 → δ (rowNear row (kernel .turn n) - 1) x * δ (columnNear column (kernel .turn n) - 1) y * share 9 (weightAt kernel r row column) (65280 - w) n ≡ 0
+      none n lt = rw (apart (rowNear row (kernel .turn n) - 1) (columnNear column (kernel .turn n) - 1) (omega arith) (omega arith) (omega arith) (omega arith)) (omega arith)

@@ -22,13 +22,11 @@ pub fn power_of(side: u32) -> usize
 }
 
 // 2 to the power of k.
-const POWERS: [usize; 9] = [1, 2, 4, 8, 16, 32, 64, 128, 256];
-
 pub fn pow2(k: usize) -> usize
     requires { ⌜ k ≤ 8 ⌝ }
     ensures { λ n. ⌜ n ≡ 2 ^ k ⌝ }
 {
-    POWERS[k]
+    1 << k
 }
 
 // The number of cells of a map of power r.
@@ -41,13 +39,11 @@ pub fn cell_count(r: usize) -> usize
 }
 
 // The place at which level k begins, or one past the pyramid where k is one more than the last level.
-const STARTS: [usize; 10] = [0, 1, 5, 21, 85, 341, 1365, 5461, 21845, 87381];
-
 pub fn level_start(k: usize) -> usize
     requires { ⌜ k ≤ 9 ⌝ }
     ensures { λ n. ⌜ n ≡ start k ⌝ }
 {
-    STARTS[k]
+    ((1 << (2 * k)) - 1) / 3
 }
 
 // The needed length of a pyramid of power r.

@@ -70,14 +70,14 @@ abbrev pub onSide : ℕ → ℕ → Bool
 onSide side x = leb 1 x && leb x side
 
 -- place p of the nine around a cell is another cell, on the map; and 1 if it is burnt too
-abbrev pub isNear : ℕ → ℕ → ℕ → ℕ → Bool
-isNear side row column p = not (eqb p 4) && (onSide side (rowNear row p) && onSide side (columnNear column p))
+abbrev pub isNeighbour : ℕ → ℕ → ℕ → ℕ → Bool
+isNeighbour side row column p = not (eqb p 4) && (onSide side (rowNear row p) && onSide side (columnNear column p))
 
 abbrev pub burntThere : ℕ → List ℕ → ℕ → ℕ → ℕ → ℕ
 burntThere side serials row column p = burnt (getD serials ((rowNear row p - 1) * side + (columnNear column p - 1)) 0)
 
 abbrev pub nearAt : ℕ → List ℕ → ℕ → ℕ → ℕ → ℕ
-nearAt side serials row column p = cond (isNear side row column p) (burntThere side serials row column p) 0
+nearAt side serials row column p = cond (isNeighbour side row column p) (burntThere side serials row column p) 0
 
 -- a cell of a map of side `side`
 pub record NearAsked (side serials row column : ℕ) : Type 0 where

@@ -19,14 +19,14 @@ use Rattle.definition.specs.Pyramid.{oneDot, cellCount, start, placeIn, rowAt, 
 use Rattle.definition.specs.Blocks.{burnt, burntAt}
 use Rattle.definition.specs.Diffusion.{rowNear, columnNear, within, onMap}
 use Rattle.definition.specs.Sound.{burntNear, everyEntry, bounded, owing}
-use Rattle.integers.specs.Tests.{T-true, T-and, and-T, ne→neqb, cond-T, cond-not, tests, allTo-at, allTo-all, everyEntry-at, everyEntry-all}
+use Rattle.integers.specs.Tests.{T-true, T-and, and-T, ne→neqb, cond-T, cond-not, tests, allTo-at, allTo-all, everyEntry-at, everyEntry-all, same-test, and-true, and-false}
 use Rattle.integers.specs.Linear.{zz, ints}
 use Rattle.integers.specs.Machine.{back64, of-bits, natAbs-fits, words, machine}
 use Rattle.quadtree.specs.Levels.{start-suc, cell-lt, place-lt, row-place, column-place, place-row-column, row-lt, column-lt}
 use Rattle.survey.specs.Totals.{Total}
 use Rattle.survey.specs.Squares.{dot-none, dot-one}
-use Rattle.sound.specs.Asked.{CellAsked, GridAsked, NearAsked, NearPlace, OwingAsked, isNear, burntThere, boundedCell, boundedAt, onSide, nearAt, owingCell, owingAt}
-use Rattle.sound.specs.Places.{Every, held, failed, same-test, and-true, and-false}
+use Rattle.sound.specs.Asked.{CellAsked, GridAsked, NearAsked, NearPlace, OwingAsked, isNeighbour, burntThere, boundedCell, boundedAt, onSide, nearAt, owingCell, owingAt}
+use Rattle.integers.specs.Loops.{Every, held, failed}
 
 -- a test of each entry of a level is one of each of its places
 pub every-place : (k : ℕ) (test : ℕ → ℕ → Bool) → everyEntry k test ≡ allTo (2 ^ k * 2 ^ k) (λ i. test (rowAt k i) (columnAt k i))
@@ -96,8 +96,8 @@ module _ (side : ℕ) (serials : List ℕ) (row column p : ℕ) where
   abbrev down : Bool
   down = onSide side (rowNear row p)
 
-  near-none : T (not (isNear side row column p)) → Total (nearAt side serials row column p) 1 0
-  near-none t = record { is = sym (cond-not (isNear side row column p) (burntThere side serials row column p) 0 t); small = omega arith }
+  near-none : T (not (isNeighbour side row column p)) → Total (nearAt side serials row column p) 1 0
+  near-none t = record { is = sym (cond-not (isNeighbour side row column p) (burntThere side serials row column p) 0 t); small = omega arith }
 
   pub near-self : p ≡ 4 → Total (nearAt side serials row column p) 1 0
   near-self e = near-none (rw e tt)
@@ -111,7 +111,7 @@ module _ (side : ℕ) (serials : List ℕ) (row column p : ℕ) where
   pub near-on : {a b : Bool} {n : ℕ} → (p ≡ 4 → ⊥) → a ≡ down → not a ≡ false → b ≡ across → not b ≡ false
       → Total (burntThere side serials row column p) 1 n → Total (nearAt side serials row column p) 1 n
   near-on q e f g k h =
-      record { is = h .is ∙ sym (cond-T (isNear side row column p) (burntThere side serials row column p) 0 (and-T (not (eqb p 4)) (down && across) (ne→neqb p 4 q) (and-T down across (T-true _ (held e f)) (T-true _ (held g k))))); small = h .small }
+      record { is = h .is ∙ sym (cond-T (isNeighbour side row column p) (burntThere side serials row column p) 0 (and-T (not (eqb p 4)) (down && across) (ne→neqb p 4 q) (and-T down across (T-true _ (held e f)) (T-true _ (held g k))))); small = h .small }
 
 -- ════ one cell's bound from below
 

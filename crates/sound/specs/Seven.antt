@@ -11,11 +11,11 @@ use Rattle.definition.specs.Pyramid.{oneDot, cellCount, entry}
 use Rattle.definition.specs.Blocks.{burntAt}
 use Rattle.definition.specs.Model.{Halftone}
 use Rattle.definition.specs.Sound.{burntNear, fewDots, numbered, counted, unused, summed, bounded, owing, isSound}
-use Rattle.integers.specs.Tests.{T-true, T-and, everyEntry-at, tests}
+use Rattle.integers.specs.Tests.{T-true, T-and, everyEntry-at, tests, and-true, and-false}
 use Rattle.integers.specs.Linear.{neg-le-up, zz, ints}
 use Rattle.pyramid.specs.Asked.{Within}
 use Rattle.sound.specs.Asked.{SoundAsked, NumberedAsked, SummedAsked}
-use Rattle.sound.specs.Places.{held, and-true, and-false}
+use Rattle.integers.specs.Loops.{held}
 use Rattle.dots.specs.Near.{burntNear-most}
 
 -- ════ what a test that holds tells the next

@@ -15,12 +15,12 @@ use lib.IntN.{ℤ, pos, _+ℤ_}
 use Rattle.definition.specs.Lists.{allTo, eqZ}
 use Rattle.definition.specs.Pyramid.{cellCount, start, placeIn, rowAt, columnAt, entry, four}
 use Rattle.definition.specs.Sound.{everyEntry}
-use Rattle.integers.specs.Tests.{eq→eqb, eqZ-eq, eq-eqZ}
+use Rattle.integers.specs.Tests.{eq→eqb, eqZ-eq, eq-eqZ, same-test}
 use Rattle.integers.specs.Machine.{ok64, eq-back}
 use Rattle.quadtree.specs.Levels.{quadruple, start-thrice, start-suc, start-mono}
 use Rattle.pyramid.specs.Asked.{fourAt}
 use Rattle.sound.specs.Asked.{SumAsked, SidesAsked, LevelAsked, belowPlace, sumHolds, sumAt, levelSummed}
-use Rattle.sound.specs.Places.{Every, same-test}
+use Rattle.integers.specs.Loops.{Every}
 use Rattle.sound.specs.Cells.{every-place, entry-place}
 
 -- ════ one place

@@ -5,7 +5,7 @@ use mathlib.Core.List.{List}
 use Prim.Native.Nat.{ℕ, zero, suc, _+_, _*_, _-_, _^_, _≤_, _<_}
 use native.Mathlib.Omega.{arith}
 use native.Mathlib.Decide.{ℕ-discrete}
-use native.Mathlib.Nat.{mul-le-mul, pow-succ', le-refl}
+use native.Mathlib.Nat.{mul-le-mul, le-refl}
 use lib.Pow.{pow-pos}
 use lib.Dec.{T}
 use lib.IntN.{ℤ}
@@ -14,9 +14,10 @@ use Rattle.definition.specs.Sound.{everyEntry, summed}
 use Rattle.integers.specs.Tests.{T-true, T-false, true-T, false-T, allTo-all, not-allTo, everyEntry-at, eqZ-eq}
 use Rattle.quadtree.specs.Levels.{quadruple, start-mono, row-lt, column-lt, cells-few}
 use Rattle.pyramid.specs.Asked.{Within}
-use Rattle.pyramid.specs.Four.{within-four, within-mono}
+use Rattle.pyramid.specs.Four.{within-mono}
+use Rattle.pyramid.specs.Small.{four-small}
 use Rattle.sound.specs.Asked.{LevelAsked, SummedAsked, levelSummed}
-use Rattle.sound.specs.Places.{held, failed}
+use Rattle.integers.specs.Loops.{held, failed}
 use Rattle.sound.specs.Cells.{entry-place}
 
 -- the levels from k on hold, and the entries of level k are small
@@ -26,18 +27,6 @@ pub record Upward (pyramid : List ℤ) (r k : ℕ) : Type 0 where
   pub bound : ℕ
   pub small : (x y : ℕ) → x < 2 ^ k → y < 2 ^ k → Within bound (entry pyramid k x y)
   pub room : bound * (2 ^ k * 2 ^ k) ≤ 2 ^ 36
-
--- the sum of four such entries of the next finer level
-four-small : (k bound : ℕ) (below : ℕ → ℕ → ℤ) → ((x y : ℕ) → x < 2 ^ suc k → y < 2 ^ suc k → Within bound (below x y)) → (x y : ℕ) → x < 2 ^ k → y < 2 ^ k → Within (4 * bound) (four below x y)
-unfolding four
-four-small k bound below small x y p q =
-    within-four bound _ _ _ _ (small (2 * x) (2 * y) (even p) (even q)) (small (2 * x) (2 * y + 1) (even p) (odd q)) (small (2 * x + 1) (2 * y) (odd p) (even q)) (small (2 * x + 1) (2 * y + 1) (odd p) (odd q))
-  where
-    even : {m : ℕ} → m < 2 ^ k → 2 * m < 2 ^ suc k
-    even l = rw (pow-succ' 2 k) (omega arith)
-
-    odd : {m : ℕ} → m < 2 ^ k → 2 * m + 1 < 2 ^ suc k
-    odd l = rw (pow-succ' 2 k) (omega arith)
 
 module _ {pyramid : List ℤ} {r : ℕ} (h : SummedAsked pyramid r) where
   pub last-level : Upward pyramid r r
@@ -67,7 +56,7 @@ module _ {pyramid : List ℤ} {r : ℕ} where
         most = omega (arith, u .most);
         held = λ m p q. go m p q (ℕ-discrete m k);
         bound = 4 * u .bound;
-        small = λ x y p q. rw (eqZ-eq (entry pyramid k x y) (four (entry pyramid (suc k)) x y) (everyEntry-at k (levelSummed pyramid k) t x y p q)) (four-small k (u .bound) (entry pyramid (suc k)) (u .small) x y p q);
+        small = λ x y p q. rw (eqZ-eq (entry pyramid k x y) (four (entry pyramid (suc k)) x y) (everyEntry-at k (levelSummed pyramid k) t x y p q)) (four-small (u .bound) k (entry pyramid (suc k)) (u .small) x y p q);
         room = omega (arith, u .room, ap (λ (n : ℕ). u .bound * n) (quadruple k));
       }
     where

@@ -1,5 +1,6 @@
 //! The team's own implementation in Rust of the same work: plain indexing, so every access is bounds-checked, and no
-//! unsafe code. Load fills the pyramid; Advance tests the sheet, then descends, burns, spreads and renews all sums.
+//! unsafe code. Load fills the pyramid and makes all sums; Advance tests the sheet, then descends, burns, spreads, and
+//! renews the sums over the burnt cell and its neighbours, each once.
 
 const DOT: i64 = 65_280;
 const HALF_DOT: i64 = 32_640;
@@ -17,19 +18,37 @@ pub fn load(power: usize, greys: &[u8], pyramid: &mut [i64], serials: &mut [u32]
         serials[place] = 0;
         order[place] = 0;
     }
-    renew(power, pyramid);
+    renew_all(power, pyramid);
 }
 
 /// All coarser sums, from the finest level up.
-fn renew(power: usize, pyramid: &mut [i64]) {
+fn renew_all(power: usize, pyramid: &mut [i64]) {
     for level in (0..power).rev() {
         for row in 0..1 << level {
             for column in 0..1 << level {
-                let sum = four(level, row, column, pyramid);
-                pyramid[level_start(level) + (row << level) + column] = sum;
+                renew_entry(level, row, column, pyramid);
             }
         }
     }
+}
+
+/// The coarser sums over a cell and its neighbours on the map, each once, from the finest level up.
+fn renew_over(power: usize, row: usize, column: usize, pyramid: &mut [i64]) {
+    let last = (1 << power) - 1;
+    let (mut top, mut low) = (row.saturating_sub(1), (row + 1).min(last));
+    let (mut left, mut right) = (column.saturating_sub(1), (column + 1).min(last));
+    for level in (0..power).rev() {
+        (top, low, left, right) = (top / 2, low / 2, left / 2, right / 2);
+        for row in top..=low {
+            for column in left..=right {
+                renew_entry(level, row, column, pyramid);
+            }
+        }
+    }
+}
+
+fn renew_entry(level: usize, row: usize, column: usize, pyramid: &mut [i64]) {
+    pyramid[level_start(level) + (row << level) + column] = four(level, row, column, pyramid);
 }
 
 /// The sum of the four entries below one.
@@ -69,7 +88,7 @@ fn place_dot(power: usize, dots: u32, pyramid: &mut [i64], serials: &mut [u32], 
     diffuse(power, row, column, lacking, &mut pyramid[level_start(power)..]);
     serials[cell] = dots + 1;
     order[dots as usize] = cell as u32;
-    renew(power, pyramid);
+    renew_over(power, row, column, pyramid);
 }
 
 /// From the top to the first of the largest of four, down to a cell.

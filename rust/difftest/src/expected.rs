@@ -7,6 +7,9 @@ use crate::library::Outcome;
 /// The code of "more".
 const MORE: u32 = 100;
 
+/// The code of a renewal that isn't promised.
+const NOT_RENEWED: u32 = 101;
+
 pub fn load(side: u32, greys: &[u8], pyramid: &mut [i64], serials: &mut [u32], order: &mut [u32]) -> Outcome {
     let answer = reference::load(side, greys, pyramid, serials, order);
     Outcome { code: code_of(answer.status), values: record(answer.progress) }
@@ -51,6 +54,11 @@ pub fn drill_list(progress: Progress, pyramid: &[i64], serials: &[u32], order: &
 pub fn quote_page(side: u32, greys: &[u8], serials: &[u32], level: u32, out: &mut [u8]) -> Outcome {
     let answer = reference::quote_page(side, greys, serials, level, out);
     Outcome { code: code_of(answer), values: vec![answer.unwrap_or(0) as u64] }
+}
+
+pub fn renew(side: u32, [row, column]: [u32; 2], pyramid: &mut [i64]) -> Outcome {
+    let renewed = reference::renew(side, row, column, pyramid);
+    Outcome { code: if renewed { 0 } else { NOT_RENEWED }, values: Vec::new() }
 }
 
 fn record(progress: Progress) -> Vec<u64> {

@@ -51,6 +51,10 @@ pub fn quote_page(side: u32, greys: &[u8], serials: &[u32], level: u32, out: &mu
     Outcome { code, values: vec![length as u64] }
 }
 
+pub fn renew(side: u32, [row, column]: [u32; 2], pyramid: &mut [i64]) -> Outcome {
+    Outcome { code: codes::renew(side, row, column, pyramid), values: Vec::new() }
+}
+
 /// The record as the library has it.
 fn ours(progress: Progress) -> rulmedei::Progress {
     rulmedei::Progress { side: progress.side, dots: progress.dots }

@@ -108,4 +108,20 @@ impl Random {
             i64::MIN,
         ])
     }
+
+    /// A number from -limit to limit, now and then one of these two.
+    pub fn within(&mut self, limit: i64) -> i64 {
+        let any = self.next() as i64 % (limit + 1);
+        match self.below(16) {
+            0 => limit,
+            1 => -limit,
+            _ => any,
+        }
+    }
+
+    /// A number below -2^40 or above 2^40, mostly by one.
+    pub fn beyond(&mut self) -> i64 {
+        const MOST: i64 = 1 << 40;
+        self.pick(&[MOST + 1, -MOST - 1, MOST + 1, -MOST - 1, 2 * MOST, i64::MAX, i64::MIN])
+    }
 }

@@ -147,6 +147,16 @@ impl SideBySide {
         self.counted("quote_page", ours)
     }
 
+    pub fn renew(&mut self, side: u32, cell: [u32; 2], pyramid: &mut [i64], lent: usize) -> Result<Outcome, Differs> {
+        let before = pyramid.to_vec();
+        let mut other = pyramid.to_vec();
+        let ours = library::renew(side, cell, &mut pyramid[..lent]);
+        let theirs = expected::renew(side, cell, &mut other[..lent]);
+        let inputs = (side, cell, &before, lent);
+        self.agreed("renew", &inputs, (&ours, &*pyramid), (&theirs, &other[..]))?;
+        self.counted("renew", ours)
+    }
+
     fn agreed<T: Debug + PartialEq>(&self, call: &str, inputs: &dyn Debug, ours: T, theirs: T) -> Result<(), Differs> {
         if ours == theirs {
             return Ok(());

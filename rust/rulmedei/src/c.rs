@@ -82,4 +82,6 @@ extern "C" {
         out_length: usize,
         length: *mut usize,
     ) -> u32;
+
+    pub fn rulmedei_renew(side: u32, row: u32, column: u32, pyramid: *mut i64, pyramid_length: usize) -> u32;
 }

@@ -1,5 +1,5 @@
 //! The calls with their codes, on slices: the number that a call returns (0 for done, 100 for more, else a refusal's), and what it writes beside
-//! the buffers.
+//! the buffers. And the renewal by itself, whose number is 0 or 101.
 
 use crate::c;
 use crate::Progress;
@@ -137,4 +137,10 @@ pub fn quote_page(side: u32, greys: &[u8], serials: &[u32], level: u32, out: &mu
         )
     };
     (code, length)
+}
+
+/// The code: 0 where it renewed, else 101.
+pub fn renew(side: u32, row: u32, column: u32, pyramid: &mut [i64]) -> u32 {
+    // SAFETY: the pointer and length are those of a slice.
+    unsafe { c::rulmedei_renew(side, row, column, pyramid.as_mut_ptr(), pyramid.len()) }
 }

@@ -3,6 +3,8 @@
 //!
 //! Map Text reads a map, Load fills the buffers, Advance makes holes until it is finished, and Drill List writes them down
 //! (`examples/list.rs`). Tally, Levels and Quote Page look at what was made.
+//!
+//! Besides the seven there is `renew`, the renewal of sums that Advance does after each hole, by itself.
 
 #[cfg(not(all(target_arch = "x86_64", target_os = "linux")))]
 compile_error!("the proved library is compiled for x86-64 Linux");
@@ -122,4 +124,14 @@ pub fn quote_page(side: u32, greys: &[u8], serials: &[u32], level: u32, out: &mu
     let (code, length) = codes::quote_page(side, greys, serials, level, out);
     did(code)?;
     Ok(length)
+}
+
+/// The renewal by itself, none of the seven calls: makes each coarser entry over the cell (row, column), or over one of its up to eight
+/// neighbours on the map, the sum of its four entries on the level below, level by level up to the top. No other entry changes, not even a
+/// wrong one; the other sums need not be right.
+///
+/// True where it did so: the side is one of the eight, the pyramid is long enough, row and column are below the side, and each entry of
+/// the needed length is from −2^40 to 2^40. Else false, and nothing has changed.
+pub fn renew(side: u32, row: u32, column: u32, pyramid: &mut [i64]) -> bool {
+    codes::renew(side, row, column, pyramid) == 0
 }

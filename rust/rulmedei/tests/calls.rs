@@ -1,8 +1,9 @@
 //! The calls on document 01's example, a map of side 2 with four greys of 128, and each refusal once; those of Quote Page in their order.
+//! And the renewal by itself.
 
 use rulmedei::{
-    advance, cells, drill_list, levels, load, map_text, page_length, pyramid_length, quote_page, tally, Advanced,
-    Progress, Refusal,
+    advance, cells, drill_list, levels, load, map_text, page_length, pyramid_length, quote_page, renew, tally,
+    Advanced, Progress, Refusal,
 };
 
 const GREYS: [u8; 4] = [128; 4];
@@ -167,4 +168,45 @@ fn a_refused_advance_changes_nothing() {
     let serials = sheet.serials;
     assert_eq!(sheet.advance(record(1), 1).map_err(Refusal::number), Err(5));
     assert_eq!(sheet.serials, serials);
+}
+
+/// Side 4: the top, the four sums, the sixteen cells, and a place past them. Each sum is wrong.
+fn wrong_sums() -> [i64; 22] {
+    [-1, -2, -3, -4, -5, 1, 2, 3, 4, 5, 6, 7, 8, 9, 10, 11, 12, 13, 14, 15, 16, i64::MAX]
+}
+
+#[test]
+fn renew_makes_the_sums_over_a_cell_and_its_neighbours() {
+    // one sum lies over a corner and its neighbours; two lie over a cell of the rim and its, all four over one inside and its
+    for (row, column, sums) in [
+        (0, 0, [14 - 3 - 4 - 5, 14, -3, -4, -5]),
+        (3, 3, [-2 - 3 - 4 + 54, -2, -3, -4, 54]),
+        (0, 2, [14 + 22 - 4 - 5, 14, 22, -4, -5]),
+        (2, 1, [136, 14, 22, 46, 54]),
+    ] {
+        let mut pyramid = wrong_sums();
+        assert!(renew(4, row, column, &mut pyramid));
+        assert_eq!(pyramid[..5], sums);
+        assert_eq!(pyramid[5..], wrong_sums()[5..]);
+    }
+}
+
+#[test]
+fn renew_changes_nothing_outside_its_promise() {
+    let refused = |side, row, column, before: &[i64]| {
+        let mut pyramid = before.to_vec();
+        !renew(side, row, column, &mut pyramid) && pyramid == before
+    };
+    let wrong = wrong_sums();
+    assert!(refused(3, 0, 0, &wrong));
+    assert!(refused(4, 0, 0, &wrong[..20]));
+    assert!(refused(4, 4, 0, &wrong));
+    assert!(refused(4, 0, u32::MAX, &wrong));
+    for (place, entry) in [(0, 1 << 40), (20, -1 << 40)] {
+        let mut pyramid = wrong;
+        pyramid[place] = entry;
+        assert!(!refused(4, 0, 0, &pyramid));
+        pyramid[place] += entry.signum();
+        assert!(refused(4, 0, 0, &pyramid));
+    }
 }

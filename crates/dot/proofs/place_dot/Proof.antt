@@ -1,6 +1,6 @@
 -- `dot::place_dot`: the walk, the cells, the sums over them, the number noted.
 use borrow.Author.Needs.{needs}
-use Rattle.dot.specs.Placed.{off-bytes, off-in, place-asked, sums-asked, side-fits, cell-fits, note-asked, placed}
+use Rattle.dot.specs.Placed.{off-bytes, off-in, place-asked, row-lt, column-lt, back-whole, back-small, side-fits, cell-fits, note-asked, placed}
 use Rattle.dot.proofs.place_dot.Statement.{statement}
 use Rattle.dot.proofs.place_dot.Tie as tie
 
@@ -15,7 +15,7 @@ place-dot-spec =
     (λ c. search (off-in, needs))
     (λ c. search needs)
     (λ c κs. search (place-asked, needs))
-    (λ c κs. search (sums-asked, needs))
+    (λ c κs. (search (back-whole, needs), search (back-small, needs), search (row-lt, column-lt, needs), search (row-lt, column-lt, needs)))
     (λ c κs. search needs)
     (λ c. search (side-fits, needs))
     (λ c. search (cell-fits, needs))

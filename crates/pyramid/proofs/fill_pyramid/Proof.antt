@@ -1,7 +1,7 @@
 -- `pyramid::fill_pyramid`: the cells, then all levels over them.
 use native.Mathlib.Omega.{arith}
 use borrow.Author.Needs.{needs}
-use Rattle.pyramid.specs.Fresh.{cells-in, cells-room, sums-asked, fresh}
+use Rattle.pyramid.specs.Fresh.{cells-in, cells-room, back-whole, back-small, fresh}
 use Rattle.pyramid.proofs.fill_pyramid.Statement.{statement}
 use Rattle.pyramid.proofs.fill_pyramid.Tie as tie
 
@@ -16,6 +16,6 @@ fill-pyramid-spec =
     (λ c. search (cells-in, needs))
     (λ c. search needs)
     (λ c κs. (search (cells-room, needs), search needs))
-    (λ c κs. search (sums-asked, needs))
+    (λ c κs. (search (back-whole, needs), search (back-small, needs)))
     (λ c. search needs)
     (λ c. search (fresh, needs)))

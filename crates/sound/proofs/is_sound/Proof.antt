@@ -1,7 +1,7 @@
 -- `sound::is_sound`: a test that fails decides; the sums, which need the bounds, come last.
 use borrow.Author.Needs.{needs}
 use Rattle.sound.specs.Seven.{numbered-asked, summed-asked, few-no, numbered-no, counted-no, unused-no, bounded-no, owing-no, all-but-sums}
-use Rattle.sound.specs.Places.{held, failed}
+use Rattle.integers.specs.Loops.{held, failed}
 use Rattle.sound.proofs.is_sound.Statement.{statement}
 use Rattle.sound.proofs.is_sound.Tie as tie
 

@@ -3,7 +3,7 @@ use Prim.Native.Nat.{_-_}
 use native.Mathlib.Omega.{arith}
 use borrow.Author.Needs.{needs}
 use Rattle.sound.specs.Asked.{sumAt}
-use Rattle.sound.specs.Places.{Held, none, turn, fails, passes}
+use Rattle.integers.specs.Loops.{Held, none, turn, fails, passes}
 use Rattle.sound.specs.Sums.{sides-asked, in-square, level-every}
 use Rattle.sound.proofs.level_summed.Statement.{statement}
 use Rattle.sound.proofs.level_summed.Tie as tie

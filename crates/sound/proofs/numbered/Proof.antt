@@ -3,7 +3,8 @@ use Prim.Native.Nat.{_-_}
 use native.Mathlib.Omega.{arith}
 use borrow.Author.Needs.{needs}
 use Rattle.sound.specs.Asked.{nextAt}
-use Rattle.sound.specs.Places.{Held, none, turn, fails, passes, numbered-every}
+use Rattle.integers.specs.Loops.{Held, none, turn, fails, passes}
+use Rattle.sound.specs.Places.{numbered-every}
 use Rattle.sound.proofs.numbered.Statement.{statement}
 use Rattle.sound.proofs.numbered.Tie as tie
 

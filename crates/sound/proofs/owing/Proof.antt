@@ -3,7 +3,7 @@ use Prim.Native.Nat.{_-_}
 use native.Mathlib.Omega.{arith}
 use borrow.Author.Needs.{needs}
 use Rattle.sound.specs.Asked.{owingAt}
-use Rattle.sound.specs.Places.{Held, none, turn, fails, passes}
+use Rattle.integers.specs.Loops.{Held, none, turn, fails, passes}
 use Rattle.sound.specs.Cells.{owing-every, owing-asked}
 use Rattle.sound.proofs.owing.Statement.{statement}
 use Rattle.sound.proofs.owing.Tie as tie

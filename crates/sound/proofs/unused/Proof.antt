@@ -3,7 +3,8 @@ use Prim.Native.Nat.{_-_}
 use native.Mathlib.Omega.{arith}
 use borrow.Author.Needs.{needs}
 use Rattle.sound.specs.Asked.{freeAt}
-use Rattle.sound.specs.Places.{Held, none, turn, fails, passes, unused-every}
+use Rattle.integers.specs.Loops.{Held, none, turn, fails, passes}
+use Rattle.sound.specs.Places.{unused-every}
 use Rattle.sound.proofs.unused.Statement.{statement}
 use Rattle.sound.proofs.unused.Tie as tie
 

@@ -1,0 +1,18 @@
+-- `renewal::is_renewable`: each test in turn.
+use borrow.Author.Needs.{needs}
+use Rattle.refusals.specs.Powers.{power-small}
+use Rattle.renewal.specs.Lent.{no-side, too-short, off-row, off-column, then-small}
+use Rattle.renewal.proofs.is_renewable.Statement.{statement}
+use Rattle.renewal.proofs.is_renewable.Tie as tie
+
+pub is-renewable-spec : {M : Type 1} → statement M
+is-renewable-spec =
+    tie.close
+    (tie.spec
+    (λ c. search (no-side, needs))
+    (λ c κs. search (power-small, needs))
+    (λ c. search (too-short, needs))
+    (λ c. search (off-row, needs))
+    (λ c. search (off-column, needs))
+    (λ c κs. search needs)
+    (λ c. search (then-small, needs)))

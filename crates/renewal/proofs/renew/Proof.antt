@@ -1,0 +1,24 @@
+-- `renewal::renew`.
+use native.Mathlib.Omega.{arith}
+use borrow.Author.Needs.{needs}
+use Rattle.renewal.specs.Around.{small-entries, renewed-around}
+use Rattle.renewal.proofs.renew.Statement.{statement}
+use Rattle.renewal.proofs.renew.Tie as tie
+
+pub renew-spec : {M : Type 1} → statement M
+renew-spec =
+    tie.close
+    (tie.spec
+    (λ c κs. search needs)
+    (λ c κs. search needs)
+    (λ c κs. search needs)
+    (λ c κs. search needs)
+    (λ c κs. search needs)
+    (λ c κs. (
+      search needs,
+      search (small-entries, needs),
+      record { in-order = omega arith; near = omega arith; inside = omega arith },
+      record { in-order = omega arith; near = omega arith; inside = omega arith },
+    ))
+    (λ c. search needs)
+    (λ c. search (renewed-around, needs)))

@@ -1,0 +1,34 @@
+//! The renewal by itself: document 02's request 3, whose sentences are quoted here.
+
+use crate::pyramid::renew_over;
+use crate::shape::{neighbours, power, pyramid_length};
+
+/// "any pyramid with entries from −2^40 to 2^40"
+const MOST: i64 = 1 << 40;
+
+/// "for the burnt cell and each neighbour, the one entry over it on every level up to the top. The renewal by itself
+/// is promised too: lent any pyramid with entries from −2^40 to 2^40, it leaves every coarser entry over these cells
+/// as the sum of its four, and no other entry changes, not even a wrong one." The cell is (row, column). False where
+/// the request promises nothing; then nothing changes.
+pub fn renew(side: u32, row: u32, column: u32, pyramid: &mut [i64]) -> bool {
+    let Some(power) = promised(side, row, column, pyramid) else {
+        return false;
+    };
+    let (row, column) = (row as usize, column as usize);
+    let mut cells = vec![(row, column)];
+    for neighbour in neighbours(side, row, column) {
+        cells.push((neighbour.row, neighbour.column));
+    }
+    renew_over(power, pyramid, &cells);
+    true
+}
+
+/// The power, if the request promises something: one of the eight sides, a cell of the map, and a pyramid whose needed
+/// part is there with every entry from −2^40 to 2^40.
+fn promised(side: u32, row: u32, column: u32, pyramid: &[i64]) -> Option<u32> {
+    let power = power(side).ok()?;
+    let needed = pyramid.get(..pyramid_length(power))?;
+    let on_map = row < side && column < side;
+    let in_range = needed.iter().all(|entry| (-MOST..=MOST).contains(entry));
+    (on_map && in_range).then_some(power)
+}
