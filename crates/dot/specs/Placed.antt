@@ -30,7 +30,6 @@ use Rattle.pyramid.specs.Asked.{Within, Whole}
 use Rattle.pyramid.specs.Four.{within-mono}
 use Rattle.pyramid.specs.Small.{take-within, append-within}
 use Rattle.pyramid.specs.Turn.{tail-lent, tail-back}
-use Rattle.descent.specs.Asked.{DescentAsked}
 use Rattle.diffusion.specs.Asked.{PlaceAsked}
 use Rattle.renewal.specs.Asked.{SmallPyramid}
 use Rattle.dot.specs.Asked.{DotAsked, NoteAsked}
@@ -60,9 +59,6 @@ module _ (r : ℕ) (p : List ℤ) (ss o : List ℕ) (dots : ℕ) (h : DotAsked r
 
   cells-long : length (drop (start r) p) ≡ cellCount r
   cells-long = omega (arith, length-drop (start r) p, long)
-
-  pub descent-asked : DescentAsked (length p) r 0 0 0
-  descent-asked = record { most = h .small; level = omega arith; row = omega arith; column = omega arith; whole = omega (arith, h .sheet .sized .pyramid) }
 
   -- the cell that the walk reaches
   module _ (row column : ℕ) (ec : (row, column) ≡ descend firstOfEquals p (r - 0) 0 0 0) where

@@ -21,8 +21,8 @@ module _ (part : List ℤ) (side : ℕ) (h : LevelAsked part side) (a b : ℕ) (
   four-inside = let double : 2 * a + 2 ≤ 2 * side = omega arith in omega (arith, mul-le-mul-right (2 * side) double, add-mul (2 * a) 2 (2 * side))
 
   -- no number on the way to them is large
-  pub below-fits : (first + 2 * side + 1 < 2 * side * (2 * side)) × (side * side ≤ 16384)
-  below-fits = (four-inside, mul-le-mul (h .most) (h .most))
+  pub below-fits : (a * side ≤ side * side) × (b * side ≤ side * side) × (side * side ≤ 16384)
+  below-fits = let le : a ≤ side = omega arith in let le' : b ≤ side = omega arith in (mul-le-mul-right side le, mul-le-mul-right side le', mul-le-mul (h .most) (h .most))
 
   pub four-asked : FourAsked part (side * side + first) (2 * side)
   four-asked =
