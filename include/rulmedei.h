@@ -1,5 +1,5 @@
 /*
- * Rulmedei: grey maps to ordered lists of holes. The seven calls for C, and the renewal of sums by itself.
+ * Rulmedei: grey maps to ordered lists of holes. The eight calls for C, and the renewal of sums by itself.
  *
  * `rt staticlib rulmedei` writes target/staticlib/librulmedei.a, for x86-64 Linux. It needs the C library and nothing else.
  *
@@ -30,7 +30,7 @@ extern "C" {
 /*
  * What a call returns: RULMEDEI_DONE, for rulmedei_advance also RULMEDEI_MORE, or the number of a refusal. A refused call leaves pyramid,
  * serials, order, greys and out as they were. The lowest number that applies is returned; rulmedei_map_text has an order of its own.
- * rulmedei_renew, which is none of the seven calls, has no refusal numbers: it returns RULMEDEI_DONE or RULMEDEI_NOT_RENEWED.
+ * rulmedei_renew, which is none of the eight calls, has no refusal numbers: it returns RULMEDEI_DONE or RULMEDEI_NOT_RENEWED.
  */
 #define RULMEDEI_DONE 0
 #define RULMEDEI_MORE 100           /* rulmedei_advance: further holes are due */
@@ -138,7 +138,17 @@ uint32_t rulmedei_quote_page(uint32_t side,
                              size_t *length);
 
 /*
- * The renewal by itself. It is none of the seven calls: rulmedei_advance renews in this way after each hole, and here it can be had alone.
+ * Sample: fills the greys, by row, from a seed. The state is the seed at first; for each grey it becomes (1664525 * state + 1013904223)
+ * modulo 2^32, and the grey is the new state divided by 2^24, rounded down. The state reached is written to state, 0 where it refuses. A
+ * further call with the state reached as its seed goes on where this one ended. Greys past N * N stay. Refusals: 1, 2.
+ */
+uint32_t rulmedei_sample(uint32_t seed,
+                         uint32_t side,
+                         uint8_t *greys, size_t greys_length,
+                         uint32_t *state);
+
+/*
+ * The renewal by itself. It is none of the eight calls: rulmedei_advance renews in this way after each hole, and here it can be had alone.
  */
 
 /*

@@ -1,12 +1,12 @@
 //! The reference's program: `write` writes the stored files, `check` compares them, `plate` is document 01's
-//! program `plate`, `quote` the program that prints document 02's quote page.
+//! program `plate`, `quote` the program that prints document 02's quote page, `sample` the one that prints its sample.
 
 use std::fs;
 use std::io::{self, Read, Write};
 use std::path::{Path, PathBuf};
 use std::process::ExitCode;
 
-use reference::{plate, quote, stored, LONGEST_INPUT};
+use reference::{plate, quote, sample_text, stored, LONGEST_INPUT};
 
 fn main() -> ExitCode {
     let words: Vec<String> = std::env::args().skip(1).collect();
@@ -17,7 +17,8 @@ fn main() -> ExitCode {
         // one byte more than the longest input is enough to tell that it's longer
         ["plate"] => print(io::stdin().take(LONGEST_INPUT as u64 + 1), plate),
         ["quote"] => print(io::stdin(), quote),
-        _ => Err("use: reference write | check | plate | quote".to_string()),
+        ["sample"] => print(io::empty(), |_| sample_text()),
+        _ => Err("use: reference write | check | plate | quote | sample".to_string()),
     };
     match done {
         Ok(status) => status,

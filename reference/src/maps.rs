@@ -1,5 +1,7 @@
 //! The named maps whose runs are stored.
 
+use crate::sample::fill;
+
 /// The names of the maps, in the order of the stored files.
 pub const NAMES: [&str; 13] = [
     "flat-0",
@@ -51,14 +53,9 @@ fn by_cell(side: u32, rule: impl Fn(u32, u32) -> u32) -> Vec<u8> {
     greys
 }
 
-/// Greys of the generator: each step the state becomes (1664525 × state + 1013904223) mod 2^32, and its highest
-/// eight bits are the next grey.
+/// Greys of the generator of samples, as many as are asked for.
 pub fn generated(start: u32, count: usize) -> Vec<u8> {
-    let mut state = start;
-    let mut greys = Vec::new();
-    for _ in 0..count {
-        state = state.wrapping_mul(1_664_525).wrapping_add(1_013_904_223);
-        greys.push((state >> 24) as u8);
-    }
+    let mut greys = vec![0; count];
+    fill(start, &mut greys);
     greys
 }

@@ -11,6 +11,7 @@ use crate::plate::plate;
 use crate::quote::quote;
 use crate::run::run;
 use crate::run_cases;
+use crate::sample::sample_text;
 use crate::samples::{samples, SIDE};
 use crate::shape::SIDES;
 use crate::survey_cases;
@@ -29,6 +30,8 @@ pub fn files() -> Result<Vec<(String, Vec<u8>)>, Refusal> {
     files.extend(program_files("panel_run", run_cases::input_and_output()?));
     files.extend(program_files("panel_texts", text_cases::input_and_output()?));
     files.extend(sample_files());
+    // the program crate `sample` reads no input
+    files.push(("crates/sample/stdout".to_string(), sample_text()));
     Ok(files)
 }
 

@@ -389,6 +389,35 @@ fn quote_page_refuses_in_order() {
     }
 }
 
+/// The number of Sample for a greys buffer of this length, which a refusal leaves as it was.
+fn sample_number(seed: u32, side: u32, length: usize) -> u32 {
+    let before: Vec<u8> = (0..length).map(|place| place as u8).collect();
+    let mut greys = before.clone();
+    let answer = sample(seed, side, &mut greys);
+    assert!(answer.is_ok() || greys == before);
+    answer.map_or_else(Refusal::number, |_| 0)
+}
+
+#[test]
+fn sample_refuses() {
+    for seed in [0, 1, 1 << 31, u32::MAX] {
+        for side in SIDES {
+            let (n, _) = needed(side);
+            assert_eq!(sample_number(seed, side, n), 0);
+            assert_eq!(sample_number(seed, side, n + 1), 0);
+            for short in [0, 1, n / 2, n - 1] {
+                assert_eq!(sample_number(seed, side, short), 2);
+            }
+        }
+        // 1 comes before 2
+        for side in NO_SIDES {
+            assert_eq!(sample_number(seed, side, 0), 1);
+            assert_eq!(sample_number(seed, side, 300), 1);
+            assert_eq!(sample_number(seed, side, 70_000), 1);
+        }
+    }
+}
+
 /// The number of Map Text for a greys buffer of this length, which a refusal leaves as it was.
 fn text_number(text: &[u8], length: usize) -> u32 {
     let mut greys = vec![99; length];

@@ -1,7 +1,10 @@
 // What a call's check finds before anything is read or written: nothing, or the first row of document 01's table that applies.
 use definition::Refusal;
 ghost use mathlib.Core.Path.{_≡_};
+ghost use Prim.Native.Nat.{_≤_};
 ghost use Rattle.definition.specs.Answers.{numberOf};
+ghost use Rattle.definition.specs.Refusals.{greysRefusal};
+ghost use Rattle.checks.specs.Checks.{checked};
 
 pub enum Check {
     Passed,
@@ -23,4 +26,19 @@ pub fn number_of(why: Refusal) -> u32
         Refusal::OutputShort => 8,
         Refusal::InputLong => 9,
     }
+}
+
+// Refusals 1 and 2, from the side's power and the places of the greys buffer.
+pub fn check_greys(r: usize, lent: usize) -> Check
+    requires { ⌜ r ≤ 8 ⌝ }
+    ensures { λ c. ⌜ checked c ≡ greysRefusal r lent ⌝ }
+{
+    let cells = sizes::cell_count(r);
+    if r == 0 {
+        return Check::Failed(Refusal::SideUnknown);
+    }
+    if lent < cells {
+        return Check::Failed(Refusal::GreysShort);
+    }
+    Check::Passed
 }

@@ -16,6 +16,8 @@ use Rattle.definition.specs.declared.MapTextAnswer.{MapTextAnswer}
 use Rattle.definition.specs.declared.MapTextAnswer.the-variants as MapText
 use Rattle.definition.specs.declared.TextAnswer.{TextAnswer}
 use Rattle.definition.specs.declared.TextAnswer.the-variants as Text
+use Rattle.definition.specs.declared.SampleAnswer.{SampleAnswer}
+use Rattle.definition.specs.declared.SampleAnswer.the-variants as Sample
 
 -- What a call says: the values that it returns; or "finished", or "more"; or the number of a refusal.
 pub data Said : Type 0 where
@@ -23,6 +25,11 @@ pub data Said : Type 0 where
   finished : Said
   more : Said
   refused : ℕ → Said
+
+-- What a call that fills greys says, and the greys afterwards.
+pub record GreysOutcome : Type 0 where
+  pub said : Said
+  pub greys : List ℕ
 
 -- the column "Returned" of the table
 unfoldable pub numberOf : Refusal → ℕ
@@ -65,3 +72,8 @@ mapTextSays (MapText.Refused why) = refused (numberOf why)
 unfoldable pub textSays : TextAnswer → Said
 textSays (Text.Length n) = returned (n ∷ [])
 textSays (Text.Refused why) = refused (numberOf why)
+
+-- document 02's sample
+unfoldable pub sampleSays : SampleAnswer → Said
+sampleSays (Sample.State n) = returned (n ∷ [])
+sampleSays (Sample.Refused why) = refused (numberOf why)

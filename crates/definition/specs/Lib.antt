@@ -15,6 +15,7 @@ pub mod MapText
 pub mod DrillList
 pub mod QuotePage
 pub mod Renewal
+pub mod Sample
 pub mod Plate
 pub mod Calls
 pub mod Expected

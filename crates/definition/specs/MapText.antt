@@ -4,8 +4,8 @@ use mathlib.Core.Option.{Option, some, none}
 use Prim.Native.Nat.{ℕ, zero, suc}
 use lib.ListN.{length, take, drop}
 use Rattle.definition.specs.Lists.{repeated}
-use Rattle.definition.specs.Answers.{Said, returned, refused}
-use Rattle.definition.specs.Refusals.{powerOf, sideUnknown, greysShort, lowest}
+use Rattle.definition.specs.Answers.{GreysOutcome, returned, refused}
+use Rattle.definition.specs.Refusals.{powerOf, greysRefusal}
 use Rattle.definition.specs.Text.{newline, line, lineEnds, field, malformed, fieldOf}
 
 -- m lines of n numbers each
@@ -36,10 +36,6 @@ pub data Reading : Type 0 where
 unfoldable pub readGreys : ℕ → List ℕ → Reading
 readGreys side text = elim (valuesOf 255 (repeated side (lineEnds side)) text) [ none ↦ rejected 7 | some greys ↦ accepted side greys ]
 
--- "then 1; then 2": from the side's power and the places of the greys buffer
-unfoldable pub mapTextRefusal : ℕ → ℕ → ℕ
-mapTextRefusal r room = lowest (sideUnknown r ∷ greysShort r room ∷ [])
-
 -- "The lowest number that applies is returned, except in Map Text: a first line that isn't one to three digits, no leading zero, and
 -- byte 10 is 7; then 1; then 2; then 7 for the rest." The greys buffer has `room` places.
 unfoldable pub readMap : List ℕ → ℕ → Reading
@@ -48,15 +44,11 @@ readMap text room =
       | malformed ↦ rejected 7
       | field side rest ↦
           let r = powerOf side in
-          elim (mapTextRefusal r room) [ zero ↦ readGreys side rest | suc n ↦ rejected (suc n) ]
+          elim (greysRefusal r room) [ zero ↦ readGreys side rest | suc n ↦ rejected (suc n) ]
     ]
 
-pub record MapTextOutcome : Type 0 where
-  pub said : Said
-  pub greys : List ℕ
-
 -- "The call returns the side and writes the N² greys by row; places past them stay." A refusal leaves them all.
-unfoldable pub mapTextOf : List ℕ → List ℕ → MapTextOutcome
+unfoldable pub mapTextOf : List ℕ → List ℕ → GreysOutcome
 mapTextOf text greys =
     elim (readMap text (length greys)) [
       | accepted side values ↦ record { said = returned (side ∷ []); greys = values ++ drop (length values) greys }

@@ -5,7 +5,7 @@ use mathlib.Core.Bool.{Bool, true, false, cond, not, _&&_}
 use mathlib.Core.List.{List, [], _∷_, _++_, map}
 use Prim.Native.Nat.{ℕ, zero, suc, _+_, _*_, _/_, _^_}
 use lib.Dec.{eqb}
-use lib.ListN.{set, replicate}
+use lib.ListN.{set, take, replicate}
 use lib.IntN.{ℤ, pos, negℤ, _+ℤ_}
 use Rattle.definition.specs.Lists.{sumTo, sumZTo, allTo, tabulateFrom, joined, repeated, eqZ}
 use Rattle.definition.specs.Answers.{Said, returned, finished, more, refused}
@@ -15,15 +15,16 @@ use Rattle.definition.specs.Descent.{candidate, firstOfEquals, better, l
 use Rattle.definition.specs.Diffusion.{plain, within, onMap, weightAt, share, diffuse}
 use Rattle.definition.specs.Model.{Halftone, topOf, modelStart, missing, placeDot, step, steps}
 use Rattle.definition.specs.Sound.{burntNear, everyEntry, fewDots, numbered, counted, unused, summed, bounded, owing, isSound}
-use Rattle.definition.specs.Refusals.{Row, powerUpTo, powerOf, lowest}
+use Rattle.definition.specs.Refusals.{Row, powerUpTo, powerOf, lowest, greysRefusal}
 use Rattle.definition.specs.Load.{loadRefusal, loaded, loadOf}
 use Rattle.definition.specs.Advance.{Reply, dotsDue, saidAt, sheetIn, advanceRefusal, advanced, advanceOf}
 use Rattle.definition.specs.Survey.{tallyRefusal, tallyOf, errorAt, squared, levelSum, levelsRefusal, levelsOf}
 use Rattle.definition.specs.Text.{digitsUpTo, decimal, rightAligned, line, lineEnds, isDigit, digitsThen, fieldOf, TextOutcome, textInto}
-use Rattle.definition.specs.MapText.{rowsText, mapText, valuesOf, readGreys, mapTextRefusal, readMap, mapTextOf}
+use Rattle.definition.specs.MapText.{rowsText, mapText, valuesOf, readGreys, readMap, mapTextOf}
 use Rattle.definition.specs.DrillList.{dotLines, drillText, drillListRefusal, drillListOf}
 use Rattle.definition.specs.QuotePage.{quoteCap, figures, alignedLine, quoteText, quotePageRefusal, quotePageOf}
 use Rattle.definition.specs.Renewal.{isNear, overThese, renewed, isSmall, entriesSmall, renewable, renewalOf}
+use Rattle.definition.specs.Sample.{nextState, greyOf, sampleGreys, stateAfter, sampleOf, sampleText}
 use Rattle.definition.specs.Plate.{refusedText, finishedOf, plateOf}
 use Rattle.definition.specs.Calls.{Call, Held, heldAfterLoad, callOf, heldAfter, outcomesOf, heldAfterCalls, repliesOf, modelRefusal, modelCall, modelReply, modelAfterCalls, modelReplies}
 use Rattle.definition.specs.Expected.{greys4, order4, serials4, pyramid4, levels4, greys8, order8, serials8, pyramid8, levels8}
@@ -198,6 +199,14 @@ renews8 row column above =
 unfoldable pub leftAlone : ℕ → ℕ → ℕ → List ℤ → Bool
 leftAlone side row column pyramid = let outcome = renewalOf side row column pyramid in not (outcome .0) && sameZ (outcome .1) pyramid
 
+-- the sample of side 2 from a seed on, into a buffer of five places with 7s in them, reaches this state and leaves these greys
+unfoldable pub samples : ℕ → ℕ → List ℕ → Bool
+samples seed state greys = let outcome = sampleOf seed 2 (replicate 5 7) in same (saidAs (outcome .said)) (0 ∷ state ∷ []) && same (outcome .greys) (greys ++ 7 ∷ [])
+
+-- "32", "60,94,129,180," ..: what the program `sample` prints first
+unfoldable pub sampleBegins : List ℕ
+sampleBegins = 51 ∷ 50 ∷ 10 ∷ 54 ∷ 48 ∷ 44 ∷ 57 ∷ 52 ∷ 44 ∷ 49 ∷ 50 ∷ 57 ∷ 44 ∷ 49 ∷ 56 ∷ 48 ∷ 44 ∷ []
+
 unfoldable pub furtherPlates : List Row
 furtherPlates =
     -- the map of side 4 run to its end in one call, and in several; its Levels; the same of side 8
@@ -243,6 +252,11 @@ furtherPlates =
     ∷ (43, renewalOf 2 1 1 (replicate 5 (pos (2 ^ 40))) .0 && renewalOf 2 1 1 (replicate 5 (minus (2 ^ 40)) ++ pos (2 ^ 50) ∷ []) .0)
     ∷ (44, leftAlone 2 0 0 (pos (2 ^ 40 + 1) ∷ replicate 4 (pos 1)) && leftAlone 2 0 0 (replicate 4 (pos 1) ++ minus (2 ^ 40 + 1) ∷ []))
     ∷ (45, leftAlone 2 2 0 (replicate 5 (pos 1)) && leftAlone 2 0 2 (replicate 5 (pos 1)) && leftAlone 2 0 0 (replicate 4 (pos 1)) && leftAlone 3 0 0 (replicate 21 (pos 1)))
+    -- document 02's sample: "Seed 0 begins 60, 71, 209, 170"; from the state reached; from the largest seed; its refusals; what the program prints
+    ∷ (46, samples 0 2868466484 (60 ∷ 71 ∷ 209 ∷ 170 ∷ []))
+    ∷ (47, samples 2868466484 2748932008 (98 ∷ 159 ∷ 87 ∷ 163 ∷ []) && samples 4294967295 2709482403 (60 ∷ 48 ∷ 34 ∷ 161 ∷ []))
+    ∷ (48, refuses (sampleOf 0 3 [] .said) 1 && refuses (sampleOf 0 2 (7 ∷ 7 ∷ 7 ∷ []) .said) 2 && same (sampleOf 0 2 (7 ∷ 7 ∷ 7 ∷ []) .greys) (7 ∷ 7 ∷ 7 ∷ []))
+    ∷ (49, same (take 17 sampleText) sampleBegins)
     ∷ []
 
 -- the number of the first row that doesn't hold; 0 if they all do
@@ -251,5 +265,5 @@ firstFailing [] = 0
 firstFailing (row ∷ rows) = elim (row .1) [ true ↦ firstFailing rows | false ↦ row .0 ]
 
 pub plates-hold : firstFailing (plates ++ furtherPlates) ≡ 0
-unfolding sumTo sumZTo allTo tabulateFrom joined repeated eqZ start placeIn rowAt columnAt levelOf inLevel entry four coarser pyramidOver blockSum blockSumZ greyAt burnt burntAt greySum greyTotal dotsIn allDots candidate firstOfEquals better largest descend plain within onMap weightAt share diffuse topOf modelStart missing placeDot step steps burntNear everyEntry fewDots numbered counted unused summed bounded owing isSound powerUpTo powerOf lowest loadRefusal loaded loadOf dotsDue saidAt sheetIn advanceRefusal advanced advanceOf tallyRefusal tallyOf errorAt squared levelSum levelsRefusal levelsOf digitsUpTo decimal rightAligned line lineEnds isDigit digitsThen fieldOf textInto rowsText mapText valuesOf readGreys mapTextRefusal readMap mapTextOf dotLines drillText drillListRefusal drillListOf quoteCap figures alignedLine quoteText quotePageRefusal quotePageOf isNear overThese renewed isSmall entriesSmall renewable renewalOf refusedText finishedOf plateOf heldAfterLoad callOf heldAfter outcomesOf heldAfterCalls repliesOf modelRefusal modelCall modelReply modelAfterCalls modelReplies greys4 order4 serials4 pyramid4 levels4 greys8 order8 serials8 pyramid8 levels8 same sameZ saidAs refuses loadedMap callsOf after modelAfter replied answers leaves sharesFrom shares total p1 p2 p3 p6 textP3 listP3 listed lineP3 quoted owed altered renews4 renews8 leftAlone plates furtherPlates firstFailing
+unfolding sumTo sumZTo allTo tabulateFrom joined repeated eqZ start placeIn rowAt columnAt levelOf inLevel entry four coarser pyramidOver blockSum blockSumZ greyAt burnt burntAt greySum greyTotal dotsIn allDots candidate firstOfEquals better largest descend plain within onMap weightAt share diffuse topOf modelStart missing placeDot step steps burntNear everyEntry fewDots numbered counted unused summed bounded owing isSound powerUpTo powerOf lowest greysRefusal loadRefusal loaded loadOf dotsDue saidAt sheetIn advanceRefusal advanced advanceOf tallyRefusal tallyOf errorAt squared levelSum levelsRefusal levelsOf digitsUpTo decimal rightAligned line lineEnds isDigit digitsThen fieldOf textInto rowsText mapText valuesOf readGreys readMap mapTextOf dotLines drillText drillListRefusal drillListOf quoteCap figures alignedLine quoteText quotePageRefusal quotePageOf isNear overThese renewed isSmall entriesSmall renewable renewalOf nextState greyOf sampleGreys stateAfter sampleOf sampleText refusedText finishedOf plateOf heldAfterLoad callOf heldAfter outcomesOf heldAfterCalls repliesOf modelRefusal modelCall modelReply modelAfterCalls modelReplies greys4 order4 serials4 pyramid4 levels4 greys8 order8 serials8 pyramid8 levels8 same sameZ saidAs refuses loadedMap callsOf after modelAfter replied answers leaves sharesFrom shares total p1 p2 p3 p6 textP3 listP3 listed lineP3 quoted owed altered renews4 renews8 leftAlone samples sampleBegins plates furtherPlates firstFailing
 plates-hold = refl

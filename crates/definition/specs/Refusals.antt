@@ -1,4 +1,5 @@
--- Document 01, "When a call says no": the table's rows. Each call lists its own, with the lengths that it is lent.
+-- Document 01, "When a call says no": the table's rows. Each call lists its own, with the lengths that it is lent; Map Text and document 02's
+-- sample share theirs, `greysRefusal`.
 use mathlib.Core.Bool.{Bool, cond, not, _||_}
 use mathlib.Core.List.{List, [], _∷_}
 use Prim.Native.Nat.{ℕ, zero, suc, _^_}
@@ -53,3 +54,7 @@ outputShort list lent = (8, ltb lent list)
 unfoldable pub lowest : List Row → ℕ
 lowest [] = 0
 lowest (row ∷ rows) = cond (row .1) (row .0) (lowest rows)
+
+-- "side isn't one of the eight", then "greys buffer shorter than N²": from the side's power and the places lent
+unfoldable pub greysRefusal : ℕ → ℕ → ℕ
+greysRefusal r lent = lowest (sideUnknown r ∷ greysShort r lent ∷ [])

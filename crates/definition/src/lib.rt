@@ -74,3 +74,9 @@ pub enum TextAnswer {
     Length(usize),
     Refused(Refusal),
 }
+
+// The sample: the state that was reached.
+pub enum SampleAnswer {
+    State(u32),
+    Refused(Refusal),
+}

@@ -5,21 +5,19 @@ use mathlib.Core.List.{List, [], _∷_, _++_}
 use mathlib.Core.Logic.{_↔_}
 use mathlib.Core.Option.{some, none}
 use Prim.Native.Nat.{ℕ, zero, suc, _*_, _<_, _≤_}
-use native.Mathlib.Decide.{decLt, decLe}
 use native.Mathlib.Nat.{suc-ne-zero}
 use native.Mathlib.Omega.{arith}
 use lib.ListN.{length, getD, drop}
 use lib.Seq.{append-snoc}
-use borrow.Author.Tests.{eq-eqb, ne-eqb, lt-ltb, le-ltb}
 use Rattle.definition.specs.Lists.{repeated}
-use Rattle.definition.specs.Answers.{returned}
-use Rattle.definition.specs.Pyramid.{cellCount}
-use Rattle.definition.specs.Refusals.{powerOf, lowest}
+use Rattle.definition.specs.Answers.{GreysOutcome, returned}
+use Rattle.definition.specs.Refusals.{powerOf, greysRefusal}
 use Rattle.definition.specs.Text.{newline, decimal, line, lineEnds, field, malformed, isDigit, fieldOf}
-use Rattle.definition.specs.MapText.{mapText, valuesOf, accepted, rejected, readGreys, mapTextRefusal, readMap, MapTextOutcome, mapTextOf}
+use Rattle.definition.specs.MapText.{mapText, valuesOf, accepted, rejected, readGreys, readMap, mapTextOf}
 use Rattle.grammar.specs.Fields.{field-of-decimal, text-of-field}
 use Rattle.grammar.specs.Lines.{fieldsText, rowsText-fields, length-repeated-lineEnds, repeated-lineEnds-no-digits, values-of-fields, fields-of-values}
 use Rattle.refusals.specs.Powers.{side-positive, side-most, cellCount-side}
+use Rattle.refusals.specs.Lowest.{greys-none}
 
 -- a text is that of a map which fits a greys buffer of `room` places
 pub record MapOf (text : List ℕ) (room side : ℕ) (greys : List ℕ) : Type 0 where
@@ -35,26 +33,11 @@ pub mapText-fields : (side : ℕ) (greys : List ℕ) → 0 < side → length gre
 unfolding mapText line
 mapText-fields side greys p h = rw (append-snoc, rowsText-fields side side greys p h)
 
-pub mapTextRefusal-none-iff : (r room : ℕ) → (mapTextRefusal r room ≡ 0) ↔ ((0 < r) × (cellCount r ≤ room))
-unfolding mapTextRefusal lowest
-mapTextRefusal-none-iff r room = (
-  λ e.
-      elim (decLt 0 r) [
-        | no p ↦ let e′ = rw (eq-eqb r 0 (omega arith)) at e in absurd (omega arith)
-        | yes p ↦
-            elim (decLe (cellCount r) room) [
-              | no h ↦ let e′ = rw (ne-eqb r 0 (λ z. omega arith), lt-ltb room (cellCount r) (omega arith)) at e in absurd (omega arith)
-              | yes h ↦ (p, h)
-            ]
-      ],
-  λ h. rw (ne-eqb r 0 (λ z. omega arith), le-ltb room (cellCount r) (h .1)),
-)
-
 -- what the reader finds in a text that it accepts
 record Found (text : List ℕ) (room side : ℕ) (greys : List ℕ) : Type 0 where
   rest : List ℕ
   first-line : fieldOf 999 newline text ≡ field side rest
-  no-refusal : mapTextRefusal (powerOf side) room ≡ 0
+  no-refusal : greysRefusal (powerOf side) room ≡ 0
   lines : valuesOf 255 (repeated side (lineEnds side)) rest ≡ some greys
 
 module _ (text : List ℕ) (room side : ℕ) (greys : List ℕ) where
@@ -69,7 +52,7 @@ module _ (text : List ℕ) (room side : ℕ) (greys : List ℕ) where
         | malformed ↦ λ q. absurd (suc-ne-zero 0 (cc (rw (q, readMap) at e)))
         | field n rest ↦
             λ q.
-            (elim (mapTextRefusal (powerOf n) room) as (λ k. mapTextRefusal (powerOf n) room ≡ k → Found text room side greys) [
+            (elim (greysRefusal (powerOf n) room) as (λ k. greysRefusal (powerOf n) room ≡ k → Found text room side greys) [
               | suc k ↦ λ r. absurd (suc-ne-zero 0 (cc (rw (q, r, readMap) at e)))
               | zero ↦
                   λ r.
@@ -97,7 +80,7 @@ module _ (text : List ℕ) (room side : ℕ) (greys : List ℕ) where
       record {
         rest = rest;
         first-line = rw (m .bytes, mapText-fields side greys p count) (field-of-decimal 999 newline refl side rest (omega (arith, side-most side known)));
-        no-refusal = mapTextRefusal-none-iff (powerOf side) room .1 (omega (arith, cellCount-side side known));
+        no-refusal = greys-none (powerOf side) room .1 (omega (arith, cellCount-side side known));
         lines =
             values-of-fields 255 ends greys (repeated-lineEnds-no-digits side side) (omega (arith, length-repeated-lineEnds side side p))
             (λ i h. omega (arith, m .small i h));
@@ -105,7 +88,7 @@ module _ (text : List ℕ) (room side : ℕ) (greys : List ℕ) where
 
   found-map : Found text room side greys → MapOf text room side greys
   found-map f =
-      let known = mapTextRefusal-none-iff (powerOf side) room .0 (f .no-refusal) in
+      let known = greys-none (powerOf side) room .0 (f .no-refusal) in
       let p = side-positive side (known .0) in
       let v = fields-of-values 255 (omega arith) (repeated side (lineEnds side)) (f .rest) greys (f .lines) in
       let count = v .count ∙ length-repeated-lineEnds side side p in
@@ -146,5 +129,5 @@ map-text-returned-iff text buffer side = (
             λ q. let n-is : n ≡ side = cc (rw (q, mapTextOf) at e) in (greys, grammar text (length buffer) side greys .0 (rw n-is at q))
         | rejected n ↦ λ q. absurd (suc-ne-zero 0 (cc (rw (q, mapTextOf) at e)))
       ]) refl,
-  λ m. ap (λ (o : MapTextOutcome). o .said) (map-text-outcome text buffer side (m .0) (m .1)),
+  λ m. ap (λ (o : GreysOutcome). o .said) (map-text-outcome text buffer side (m .0) (m .1)),
 )

@@ -11,6 +11,15 @@ use Rattle.definition.specs.Lists.{tabulate, tabulateFrom}
 use Rattle.integers.specs.Lists.{length-tabulate, set-append-add}
 
 module _ {A : Type 0} where
+  -- n places before the rest of a list: one store more behind them, and the length
+  pub front-store : (front l : List A) (v : A) {n : ℕ} → length front ≡ n → n < length l → set (front ++ drop n l) n v ≡ (front ++ v ∷ []) ++ drop (n + 1) l
+  front-store front l v {n} e h =
+      let at : length front + 0 ≡ n = omega arith in
+      rw at at (set-append-add front (drop n l) 0 v) ∙ rw (drop-cons l n v h, add-one n, append-assoc)
+
+  pub length-front : (front l : List A) {n : ℕ} → length front ≡ n → n ≤ length l → length (front ++ drop n l) ≡ length l
+  length-front front l {n} e h = omega (arith, length-append front (drop n l), length-drop n l)
+
   unfoldable pub filled : (ℕ → A) → ℕ → List A → List A
   filled f n l = tabulate n f ++ drop n l
 
@@ -28,18 +37,12 @@ module _ {A : Type 0} where
   unfolding filled
   filled-store f n l {p} {v} h e q =
       let t = tabulate n f in
-      let long : length t ≡ n = length-tabulate 0 n f in
-      let at : length t + 0 ≡ n = omega arith in
-      ap (λ (u : List A). set u n v) e
-      ∙ rw at at (set-append-add t (drop n l) 0 v)
-      ∙ ap (λ (u : List A). t ++ set u 0 v) (drop-cons l n v h)
-      ∙ sym (append-assoc t (v ∷ []) (drop (suc n) l))
-      ∙ ap (λ (u : List A). u ++ drop (suc n) l) (ap (λ (u : A). t ++ u ∷ []) (q ∙ ap f (sym (zero-add n))) ∙ sym (tabulate-snoc f 0 n))
-      ∙ rw (add-one n)
+      let last : t ++ v ∷ [] ≡ tabulate (suc n) f = ap (λ (u : A). t ++ u ∷ []) (q ∙ ap f (sym (zero-add n))) ∙ sym (tabulate-snoc f 0 n) in
+      ap (λ (u : List A). set u n v) e ∙ front-store t l v (length-tabulate 0 n f) h ∙ rw (last, add-one n)
 
   pub length-filled : (f : ℕ → A) (n : ℕ) (l : List A) → n ≤ length l → length (filled f n l) ≡ length l
   unfolding filled
-  length-filled f n l h = omega (arith, length-append (tabulate n f) (drop n l), length-tabulate 0 n f, length-drop n l)
+  length-filled f n l h = length-front (tabulate n f) l (length-tabulate 0 n f) h
 
   -- the places past the first n are as they were
   pub filled-past : (f : ℕ → A) (n : ℕ) (l : List A) (i : ℕ) (d : A) → n ≤ i → getD (filled f n l) i d ≡ getD l i d

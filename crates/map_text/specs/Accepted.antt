@@ -6,8 +6,8 @@ use mathlib.Core.Logic.{_↔_}
 use Prim.Native.Nat.{ℕ, _*_}
 use native.Mathlib.Nat.{suc-ne-zero}
 use lib.ListN.{length, drop}
-use Rattle.definition.specs.Answers.{returned, mapTextSays}
-use Rattle.definition.specs.MapText.{MapTextOutcome, mapTextOf}
+use Rattle.definition.specs.Answers.{GreysOutcome, returned, mapTextSays}
+use Rattle.definition.specs.MapText.{mapTextOf}
 use Rattle.definition.specs.declared.MapTextAnswer.{MapTextAnswer}
 use Rattle.definition.specs.declared.MapTextAnswer.the-variants.{Side, Refused}
 use Rattle.grammar.specs.Grammar.{MapOf, map-text-outcome, map-text-returned-iff}
@@ -21,10 +21,10 @@ module _ (text buffer after : List ℕ) (a : MapTextAnswer) (promise : record { 
   pub accepts-iff : (side : ℕ) → (a ≡ Side side) ↔ ((greys : List ℕ) × MapOf text (length buffer) side greys)
   unfolding mapTextSays
   accepts-iff side =
-      let said = ap (λ (o : MapTextOutcome). o .said) promise in (
+      let said = ap (λ (o : GreysOutcome). o .said) promise in (
         λ e. map-text-returned-iff text buffer side .0 (sym said ∙ ap mapTextSays e),
         λ m. returned-side a side (said ∙ map-text-returned-iff text buffer side .1 m),
       )
 
   pub leaves-greys : (side : ℕ) (greys : List ℕ) → MapOf text (length buffer) side greys → after ≡ greys ++ drop (side * side) buffer
-  leaves-greys side greys m = ap (λ (o : MapTextOutcome). o .greys) (promise ∙ map-text-outcome text buffer side greys m)
+  leaves-greys side greys m = ap (λ (o : GreysOutcome). o .greys) (promise ∙ map-text-outcome text buffer side greys m)

@@ -9,19 +9,19 @@ use lib.ListN.{length, drop}
 use lib.Seq.{sets}
 use borrow.Author.Tests.{not-true, not-false}
 use Rattle.definition.specs.Answers.{mapTextSays, numberOf}
-use Rattle.definition.specs.Refusals.{powerOf}
+use Rattle.definition.specs.Refusals.{powerOf, greysRefusal}
 use Rattle.definition.specs.Text.{newline, field, malformed, fieldOf}
-use Rattle.definition.specs.MapText.{valuesOf, readGreys, mapTextRefusal, readMap, mapTextOf}
+use Rattle.definition.specs.MapText.{valuesOf, readGreys, readMap, mapTextOf}
 use Rattle.definition.specs.declared.Refusal.{Refusal}
 use Rattle.definition.specs.declared.Refusal.the-variants.{TextMalformed}
 use Rattle.definition.specs.declared.MapTextAnswer.the-variants.{Side, Refused}
 use Rattle.refusals.specs.Powers.{side-positive, side-most, cellCount-side}
+use Rattle.refusals.specs.Lowest.{greys-none}
 use Rattle.refusals.specs.Numbers.{number-positive}
 use Rattle.checks.specs.Checks.{checked, passed-none, failed-number}
 use Rattle.checks.specs.declared.Check.{Check}
 use Rattle.checks.specs.declared.Check.the-variants.{Passed, Failed}
 use Rattle.grammar.specs.Lines.{length-repeated-lineEnds, fields-of-values}
-use Rattle.grammar.specs.Grammar.{mapTextRefusal-none-iff}
 use Rattle.decimals.specs.Reading.{fieldIn}
 use Rattle.decimals.specs.Writing.{sets-front, empty-front}
 use Rattle.decimals.specs.declared.Number.{Number}
@@ -31,7 +31,7 @@ use Rattle.map_text.specs.Greys.{mapEnds, greysFrom, GreysRead}
 -- a text's first line ends before the place `from` and says a side that isn't refused, for a greys buffer of `room` places
 pub record FirstLine (text : List ℕ) (room side from : ℕ) : Type 0 where
   pub line : fieldOf 999 newline text ≡ field side (drop from text)
-  pub no-refusal : mapTextRefusal (powerOf side) room ≡ 0
+  pub no-refusal : greysRefusal (powerOf side) room ≡ 0
 
 -- a run that has values to store finds them all, and leaves them stored
 left-by-all : (all : Bool) {stored after : List ℕ} → some stored ≡ cond all (some after) none → after ≡ stored
@@ -41,10 +41,10 @@ left-by-all false {stored} e = absurd (Option·some-ne-none stored e)
 -- ---- behind the first line
 module _ (text greys : List ℕ) (side from : ℕ) (first : FirstLine text (length greys) side from) where
   known : 0 < powerOf side
-  known = mapTextRefusal-none-iff (powerOf side) (length greys) .0 (first .no-refusal) .0
+  known = greys-none (powerOf side) (length greys) .0 (first .no-refusal) .0
 
   fits : side * side ≤ length greys
-  fits = omega (arith, cellCount-side side known, mapTextRefusal-none-iff (powerOf side) (length greys) .0 (first .no-refusal))
+  fits = omega (arith, cellCount-side side known, greys-none (powerOf side) (length greys) .0 (first .no-refusal))
 
   pub side-in : (0 < side) × (side ≤ 256)
   side-in = (side-positive side known, side-most side known)
@@ -85,7 +85,7 @@ module _ (text greys : List ℕ) (number : Number) (f : fieldIn text number ≡ 
   no-first-line e = let m : fieldOf 999 newline text ≡ malformed = sym f ∙ ap (fieldIn text) e in rw (m, mapTextOf, readMap)
 
   module _ {side from r : ℕ} (e : number ≡ Read side from) (er : r ≡ powerOf side) (check : Check)
-      (h : checked check ≡ mapTextRefusal r (length greys)) where
+      (h : checked check ≡ greysRefusal r (length greys)) where
     line-is : fieldOf 999 newline text ≡ field side (drop from text)
     unfolding fieldIn
     line-is = sym f ∙ ap (fieldIn text) e
@@ -96,5 +96,5 @@ module _ (text greys : List ℕ) (number : Number) (f : fieldIn text number ≡ 
     pub first-line-refused : {why : Refusal} → check ≡ Failed why → record { said = mapTextSays (Refused why); greys = greys } ≡ mapTextOf text greys
     unfolding mapTextOf readMap mapTextSays
     first-line-refused {why} failed =
-        let n : mapTextRefusal (powerOf side) (length greys) ≡ suc (numberOf why - 1) = rw (← er) (failed-number check h why failed) in
+        let n : greysRefusal (powerOf side) (length greys) ≡ suc (numberOf why - 1) = rw (← er) (failed-number check h why failed) in
         rw (line-is, n, mapTextOf, readMap, ← number-positive why)

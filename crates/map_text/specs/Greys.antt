@@ -57,7 +57,7 @@ endAt-next-row : (side i : ℕ) → endAt side (side + i) ≡ endAt side i
 unfolding endAt
 endAt-next-row side i = let e : side + i + 1 ≡ side + (i + 1) = omega arith in rw (e, add-mod-left side (i + 1))
 
-rows-ends-at : (side rows i : ℕ) → 0 < side → i < rows * side → getD (repeated rows (lineEnds side)) i 0 ≡ endAt side i
+pub rows-ends-at : (side rows i : ℕ) → 0 < side → i < rows * side → getD (repeated rows (lineEnds side)) i 0 ≡ endAt side i
 unfolding repeated
 rows-ends-at side zero i p h = absurd (omega arith)
 rows-ends-at side (suc rows) i p h =

@@ -1,3 +1,4 @@
 pub mod Greys
 pub mod Calls
 pub mod Accepted
+pub mod Written

@@ -1,16 +1,17 @@
-// Map Text: "The call returns the side and writes the N² greys by row; places past them stay."
+// Map texts. The reader, Map Text: "The call returns the side and writes the N² greys by row; places past them stay." And the writer.
 use checks::Check;
 use decimals::Number;
 use definition::MapTextAnswer;
 use definition::Refusal;
 ghost use mathlib.Core.Path.{_≡_};
-ghost use Prim.Native.Nat.{_*_, _≤_, _<_};
+ghost use Prim.Native.Nat.{_^_, _≤_, _<_};
 ghost use lib.ListN.{length};
 ghost use Rattle.definition.specs.Answers.{mapTextSays};
-ghost use Rattle.definition.specs.MapText.{mapTextRefusal, mapTextOf};
-ghost use Rattle.checks.specs.Checks.{checked};
+ghost use Rattle.definition.specs.MapText.{mapText, mapTextOf};
+ghost use Rattle.decimals.specs.Writing.{Wrote};
 ghost use Rattle.map_text.specs.Greys.{endAt, GreysRead};
 ghost use Rattle.map_text.specs.Calls.{FirstLine};
+ghost use Rattle.map_text.specs.Written.{MapLent, greysText};
 
 // The byte that ends grey i of a map: a comma, or byte 10 at the end of a row.
 fn end_at(side: usize, i: usize) -> u8
@@ -43,21 +44,6 @@ fn read_greys(text: &[u8], from: usize, side: usize, greys: &mut [u8]) -> bool
     text.len() <= at
 }
 
-// "then 1; then 2": from the side's power and the places of the greys buffer.
-fn check_map(r: usize, room: usize) -> Check
-    requires { ⌜ r ≤ 8 ⌝ }
-    ensures { λ c. ⌜ checked c ≡ mapTextRefusal r room ⌝ }
-{
-    let cells = sizes::cell_count(r);
-    if r == 0 {
-        return Check::Failed(Refusal::SideUnknown);
-    }
-    if room < cells {
-        return Check::Failed(Refusal::GreysShort);
-    }
-    Check::Passed
-}
-
 // The greys behind a first line that says a good side: tested, then stored.
 fn read_map(text: &[u8], from: usize, side: u32, greys: &mut [u8]) -> MapTextAnswer
     requires { ⌜ FirstLine (now text) (length (now greys)) side from ⌝ }
@@ -78,10 +64,33 @@ pub fn map_text(text: &[u8], greys: &mut [u8]) -> MapTextAnswer
         Number::Malformed => MapTextAnswer::Refused(Refusal::TextMalformed),
         Number::Read(side, at) => {
             let r = sizes::power_of(side);
-            match check_map(r, greys.len()) {
+            match checks::check_greys(r, greys.len()) {
                 Check::Failed(why) => MapTextAnswer::Refused(why),
                 Check::Passed => read_map(text, at, side, greys),
             }
         }
     }
+}
+
+// Stores the greys of a map, each with the byte that ends it, from a place on.
+fn put_greys(out: &mut [u8], from: usize, side: usize, greys: &[u8]) -> usize
+    requires { ⌜ (from ≤ 2 ^ 61) × MapLent side (length (now greys)) ⌝ }
+    ensures { λ next. ⌜ Wrote (now (out .entry)) from (greysText side (now (greys .entry)) (length (now (greys .entry)))) next (now (out .exit)) ⌝ }
+{
+    let mut at = from;
+    let mut i = 0;
+    while i < greys.len() {
+        at = decimals::put_field(out, at, greys[i] as u64, end_at(side, i));
+        i += 1;
+    }
+    at
+}
+
+// The one text of a map, as far as the buffer has places; returns its length.
+pub fn put_map(out: &mut [u8], side: usize, greys: &[u8]) -> usize
+    requires { ⌜ MapLent side (length (now greys)) ⌝ }
+    ensures { λ next. ⌜ Wrote (now (out .entry)) 0 (mapText side (now (greys .entry))) next (now (out .exit)) ⌝ }
+{
+    let at = decimals::put_field(out, 0, side as u64, 10);
+    put_greys(out, at, side, greys)
 }

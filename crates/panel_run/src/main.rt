@@ -107,33 +107,12 @@ fn print_call(budget: u32, answer: AdvanceAnswer) {
     }
 }
 
-// The state that follows one of the generator.
-fn next_state(state: u64) -> u64 {
-    (1664525 * (state % 4294967296) + 1013904223) % 4294967296
-}
-
-// The grey of a state: its highest byte.
-fn grey_of(state: u64) -> u8 {
-    (state / 16777216 % 256) as u8
-}
-
-// Generates a grey for each place.
-fn generate_greys(seed: u32, greys: &mut [u8]) {
-    let mut state = seed as u64;
-    let mut i = 0;
-    while i < greys.len() {
-        state = next_state(state);
-        greys[i] = grey_of(state);
-        i += 1;
-    }
-}
-
-// Reads the greys of seed 0, or generates those of another, and returns the place behind what was read.
-fn make_greys(text: &[u8], from: usize, seed: u32, greys: &mut [u8]) -> usize {
+// Reads the greys of seed 0, or fills in the sample of another, and returns the place behind what was read.
+fn make_greys(text: &[u8], from: usize, seed: u32, side: u32, greys: &mut [u8]) -> usize {
     if seed == 0 {
         return console::read_bytes(text, from, greys);
     }
-    generate_greys(seed, greys);
+    let _ = sample_map::sample(seed, side, greys);
     from
 }
 
@@ -238,7 +217,7 @@ fn run(
     serials: &mut [u32],
     order: &mut [u32],
 ) -> usize {
-    let calls = make_greys(text, from, seed, greys);
+    let calls = make_greys(text, from, seed, side, greys);
     let answer = load::load(side, greys, pyramid, serials, order);
     console::print_load(answer);
     let progress = answer.progress;

@@ -28,7 +28,7 @@ use Rattle.integers.specs.Tests.{true-T}
 use Rattle.dots.specs.Steps.{Sheet}
 use Rattle.dots.specs.SoundTest.{sound-test}
 use Rattle.guarantee.specs.Lent.{heldOf}
-use Rattle.plate_text.specs.Printing.{Printed}
+use Rattle.decimals.specs.Printed.{Printed}
 use Rattle.plate_text.specs.Lengths.{list-length}
 use Rattle.plate_text.specs.Finished.{finishedIn, MapAsked, power-again, finished-sheet}
 

@@ -6,11 +6,11 @@ use native.Mathlib.Nat.{suc-ne-zero}
 use native.Mathlib.Omega.{arith}
 use borrow.Author.Tests.{lt-ltb, le-ltb}
 use lib.ListN.{length, drop, length-append}
-use Rattle.definition.specs.Answers.{refused, mapTextSays, numberOf}
+use Rattle.definition.specs.Answers.{GreysOutcome, refused, mapTextSays, numberOf}
 use Rattle.definition.specs.Pyramid.{cellCount}
 use Rattle.definition.specs.Diffusion.{plain}
 use Rattle.definition.specs.Refusals.{powerOf}
-use Rattle.definition.specs.MapText.{accepted, rejected, readMap, MapTextOutcome, mapTextOf}
+use Rattle.definition.specs.MapText.{accepted, rejected, readMap, mapTextOf}
 use Rattle.definition.specs.DrillList.{drillText}
 use Rattle.definition.specs.Plate.{refusedText, finishedOf, plateOf}
 use Rattle.definition.specs.declared.Refusal.{Refusal}
@@ -19,7 +19,7 @@ use Rattle.definition.specs.declared.MapTextAnswer.the-variants.{Side, Refused}
 use Rattle.refusals.specs.Powers.{cellCount-side}
 use Rattle.grammar.specs.Grammar.{MapOf, grammar}
 use Rattle.map_text.specs.Accepted.{accepts-iff, leaves-greys}
-use Rattle.plate_text.specs.Printing.{Printed}
+use Rattle.decimals.specs.Printed.{Printed}
 use Rattle.plate_text.specs.Lengths.{needed-few}
 use Rattle.plate_text.specs.Greys.{start-front, front-sheet}
 use Rattle.plate_text.specs.Finished.{MapAsked}
@@ -46,7 +46,7 @@ module _ (input buffer : List ℕ) (whole : length buffer ≡ 1024) {greys : Lis
   refused-rejected : {why : Refusal} → a ≡ Refused why → readMap input (length buffer) ≡ rejected (numberOf why)
   unfolding mapTextOf mapTextSays
   refused-rejected {why} e =
-      let told : refused (numberOf why) ≡ mapTextOf input buffer .said = ap mapTextSays (sym e) ∙ ap (λ (o : MapTextOutcome). o .said) promise in
+      let told : refused (numberOf why) ≡ mapTextOf input buffer .said = ap mapTextSays (sym e) ∙ ap (λ (o : GreysOutcome). o .said) promise in
       (elim (readMap input (length buffer)) as (λ o. readMap input (length buffer) ≡ o → readMap input (length buffer) ≡ rejected (numberOf why)) [
         | accepted side values ↦ λ q. absurd (suc-ne-zero 0 (cc (rw (q, mapTextOf) at told)))
         | rejected k ↦ λ q. let k-is : k ≡ numberOf why = cc (rw (q, mapTextOf) at told) in q ∙ ap rejected k-is

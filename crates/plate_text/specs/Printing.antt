@@ -1,36 +1,15 @@
--- What is printed: a text at the start of a buffer that has room for it. The bytes of a word, one by one, and the line of a refusal.
-use mathlib.Core.Path.{_≡_, refl, ap, _∙_}
+-- The bytes of a word, stored one by one, and the line of a refusal.
+use mathlib.Core.Path.{_≡_, refl, ap}
 use mathlib.Core.List.{List, [], _∷_, _++_}
 use Prim.Native.Nat.{ℕ, _+_, _^_, _≤_, _<_}
-use native.Mathlib.Nat.{zero-add}
 use native.Mathlib.Numerals.{add-one}
 use native.Mathlib.Omega.{arith}
-use lib.ListN.{length, getD, take, drop, length-append}
-use lib.Seq.{take-all, take-at, take-suc}
+use lib.ListN.{length, getD, take, length-append}
+use lib.Seq.{take-all, take-suc}
 use Rattle.definition.specs.Text.{line}
 use Rattle.definition.specs.Plate.{refusedText}
-use Rattle.decimals.specs.Writing.{Wrote, wrote-append, sets-front, fieldText, length-fieldText}
-
--- the first n bytes are the text, and what lay behind them stays
-pub record Printed (text before : List ℕ) (n : ℕ) (after : List ℕ) : Type 0 where
-  pub room : length text ≤ length before
-  pub count : n ≡ length text
-  pub written : after ≡ text ++ drop (length text) before
-
-wrote-printed : {text before after : List ℕ} {n : ℕ} → length text ≤ length before → Wrote before 0 text n after → Printed text before n after
-wrote-printed {text} {before} room w =
-    record {
-      room = room;
-      count = w .place ∙ zero-add (length text);
-      written = w .stored ∙ sets-front text before room;
-    }
-
-module _ {text before after : List ℕ} {n : ℕ} (h : Printed text before n after) where
-  pub printed-text : take n after ≡ text
-  printed-text = rw (h .written) (take-at text (drop (length text) before) n (omega (arith, h .count)))
-
-  pub printed-in : n ≤ length before
-  printed-in = omega (arith, h .count, h .room)
+use Rattle.decimals.specs.Writing.{Wrote, wrote-append, fieldText, length-fieldText}
+use Rattle.decimals.specs.Printed.{Printed, wrote-printed}
 
 -- ---- bytes, from the first place on: one more, and all
 module _ {l l₁ : List ℕ} (bytes : List ℕ) (j : ℕ) (w : Wrote l 0 (take j bytes) j l₁) where

@@ -11,7 +11,7 @@ ghost use Rattle.definition.specs.Refusals.{powerOf};
 ghost use Rattle.definition.specs.DrillList.{drillText};
 ghost use Rattle.definition.specs.Plate.{refusedText, finishedOf, plateOf};
 ghost use Rattle.decimals.specs.Writing.{Wrote};
-ghost use Rattle.plate_text.specs.Printing.{Printed};
+ghost use Rattle.decimals.specs.Printed.{Printed};
 ghost use Rattle.plate_text.specs.Finished.{finishedIn, MapAsked};
 
 // A text of at most 11,300 bytes. The longest list of side 32 has 1,024 lines of at most 11 bytes, and a first one of at most 8.

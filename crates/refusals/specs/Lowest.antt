@@ -8,7 +8,7 @@ use native.Mathlib.Omega.{arith}
 use lib.Dec.{ltb, eqb}
 use borrow.Author.Tests.{ltb-false, le-ltb, eqb-false, ne-eqb}
 use Rattle.definition.specs.Pyramid.{needed, cellCount}
-use Rattle.definition.specs.Refusals.{Row, sideUnknown, greysShort, pyramidShort, sheetShort, lowest}
+use Rattle.definition.specs.Refusals.{Row, sideUnknown, greysShort, pyramidShort, sheetShort, lowest, greysRefusal}
 use Rattle.definition.specs.Load.{loadRefusal}
 
 pub lowest-here : (n : ℕ) (b : Bool) (rows : List Row) → b ≡ true → lowest ((n, b) ∷ rows) ≡ n
@@ -23,6 +23,17 @@ pub lowest-none : (n : ℕ) (b : Bool) (rows : List Row) → 0 < n → lowest ((
 unfolding lowest
 lowest-none n true rows h e = absurd (omega arith)
 lowest-none n false rows h e = (refl, e)
+
+-- one of the eight sides, and a greys buffer that is long enough
+pub greys-none : (r lent : ℕ) → (greysRefusal r lent ≡ 0) ↔ ((0 < r) × (cellCount r ≤ lent))
+unfolding greysRefusal
+greys-none r lent = (
+  λ e.
+      let r₁ = lowest-none 1 (eqb r 0) _ (omega arith) e in
+      let r₂ = lowest-none 2 (ltb lent (cellCount r)) _ (omega arith) (r₁ .1) in
+      (omega (arith, eqb-false r 0 (r₁ .0)), ltb-false _ _ (r₂ .0)),
+  λ h. lowest-past 1 (eqb r 0) _ (ne-eqb r 0 (λ e. omega arith)) ∙ lowest-past 2 (ltb lent (cellCount r)) _ (le-ltb _ _ (h .1)) ∙ unfold lowest in refl,
+)
 
 -- what Load accepts: one of the eight sides, and buffers that are long enough
 pub record LoadLent (r greys pyramid serials order : ℕ) : Type 0 where

@@ -5,12 +5,11 @@ use mathlib.Core.List.{List}
 use Prim.Native.Nat.{ℕ}
 use lib.IntN.{ℤ}
 use lib.Seq.{sets}
-use Rattle.definition.specs.Answers.{loadSays, advanceSays, tallySays, levelsSays, mapTextSays, textSays}
+use Rattle.definition.specs.Answers.{Said, GreysOutcome, loadSays, advanceSays, tallySays, levelsSays, textSays}
 use Rattle.definition.specs.Load.{loadOf}
 use Rattle.definition.specs.Diffusion.{plain}
 use Rattle.definition.specs.Advance.{advanceOf}
 use Rattle.definition.specs.Survey.{tallyOf, levelsOf}
-use Rattle.definition.specs.MapText.{mapTextOf}
 use Rattle.definition.specs.Text.{TextOutcome}
 use Rattle.definition.specs.declared.LoadAnswer.{LoadAnswer}
 use Rattle.definition.specs.declared.LoadStatus.{LoadStatus}
@@ -19,9 +18,8 @@ use Rattle.definition.specs.declared.AdvanceStatus.{AdvanceStatus}
 use Rattle.definition.specs.declared.TallyAnswer.{TallyAnswer}
 use Rattle.definition.specs.declared.LevelsAnswer.{LevelsAnswer}
 use Rattle.definition.specs.declared.LevelsStatus.{LevelsStatus}
-use Rattle.definition.specs.declared.MapTextAnswer.{MapTextAnswer}
 use Rattle.definition.specs.declared.TextAnswer.{TextAnswer}
-use Rattle.rulmedei.specs.Codes.{codeOf, valueOf, loadCode, advanceCode, tallyCode, levelsCode, mapTextCode, textCode, renewCode}
+use Rattle.rulmedei.specs.Codes.{codeOf, valueOf, loadCode, advanceCode, tallyCode, levelsCode, greysCode, textCode, renewCode}
 
 -- ---- the calls that answer a record with a status
 pub load-coded : (side : ℕ) (g : List ℕ) (p : List ℤ) (s o : List ℕ) (a : LoadAnswer) {p′ : List ℤ} {s′ o′ : List ℕ}
@@ -52,11 +50,11 @@ pub tally-coded : (side : ℕ) (s : List ℕ) (k row column : ℕ) (a : TallyAns
 unfolding tallyCode
 tally-coded side s k row column a h is n v = rw (← h, is, n, v)
 
-pub map-text-coded : (text greys : List ℕ) {after : List ℕ} (a : MapTextAnswer) → record { said = mapTextSays a; greys = after } ≡ mapTextOf text greys
-    → {t : MapTextAnswer} → a ≡ t → {n v : ℕ} → n ≡ codeOf (mapTextSays t) → v ≡ valueOf (mapTextSays t)
-    → record { code = n; side = v; greys = after } ≡ mapTextCode text greys
-unfolding mapTextCode
-map-text-coded text greys a h is n v = rw (← h, is, n, v)
+-- Map Text and the sample: `says` is what the answer says
+pub greys-coded : {Answer : Type 0} (says : Answer → Said) {o : GreysOutcome} {after : List ℕ} (a : Answer) → record { said = says a; greys = after } ≡ o
+    → {t : Answer} → a ≡ t → {n v : ℕ} → n ≡ codeOf (says t) → v ≡ valueOf (says t) → record { code = n; value = v; greys = after } ≡ greysCode o
+unfolding greysCode
+greys-coded says a h is n v = rw (← h, is, n, v)
 
 -- what `text_code` returns and writes
 pub case-coded : (a : TextAnswer) {t : TextAnswer} → a ≡ t → {n v : ℕ} → n ≡ codeOf (textSays t) → v ≡ valueOf (textSays t) → (n ≡ codeOf (textSays a)) × (v ≡ valueOf (textSays a))

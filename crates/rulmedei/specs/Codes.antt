@@ -4,12 +4,11 @@ use mathlib.Core.List.{List, [], _∷_}
 use Prim.Native.Nat.{ℕ}
 use lib.IntN.{ℤ}
 use lib.Seq.{sets}
-use Rattle.definition.specs.Answers.{Said, returned, finished, more, refused}
+use Rattle.definition.specs.Answers.{Said, GreysOutcome, returned, finished, more, refused}
 use Rattle.definition.specs.Load.{loadOf}
 use Rattle.definition.specs.Diffusion.{plain}
 use Rattle.definition.specs.Advance.{advanceOf}
 use Rattle.definition.specs.Survey.{tallyOf, levelsOf}
-use Rattle.definition.specs.MapText.{mapTextOf}
 use Rattle.definition.specs.Text.{TextOutcome}
 
 -- 0 where the call did its work, 100 for "more", else the number of the refusal
@@ -68,13 +67,14 @@ pub record LevelsCode : Type 0 where
 unfoldable pub levelsCode : ℕ → List ℕ → List ℕ → List ℕ → LevelsCode
 levelsCode side greys serials sums = let o = levelsOf side greys serials in record { code = codeOf (o .said); sums = sets sums 0 (o .sums) }
 
-pub record MapTextCode : Type 0 where
+-- Map Text and the sample
+pub record GreysCode : Type 0 where
   pub code : ℕ
-  pub side : ℕ
+  pub value : ℕ
   pub greys : List ℕ
 
-unfoldable pub mapTextCode : List ℕ → List ℕ → MapTextCode
-mapTextCode text greys = let o = mapTextOf text greys in record { code = codeOf (o .said); side = valueOf (o .said); greys = o .greys }
+unfoldable pub greysCode : GreysOutcome → GreysCode
+greysCode o = record { code = codeOf (o .said); value = valueOf (o .said); greys = o .greys }
 
 -- Drill List and Quote Page
 pub record TextCode : Type 0 where

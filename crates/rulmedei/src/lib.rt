@@ -6,16 +6,19 @@ use definition::LevelsStatus;
 use definition::LoadStatus;
 use definition::MapTextAnswer;
 use definition::Progress;
+use definition::SampleAnswer;
 use definition::TallyAnswer;
 use definition::TextAnswer;
 ghost use mathlib.Core.Path.{_≡_};
 ghost use lib.ListN.{set};
 ghost use lib.Seq.{sets};
 ghost use Rattle.definition.specs.Answers.{textSays};
+ghost use Rattle.definition.specs.MapText.{mapTextOf};
 ghost use Rattle.definition.specs.DrillList.{drillListOf};
 ghost use Rattle.definition.specs.QuotePage.{quotePageOf};
 ghost use Rattle.definition.specs.Renewal.{renewalOf};
-ghost use Rattle.rulmedei.specs.Codes.{codeOf, valueOf, loadCode, advanceCode, tallyCode, levelsCode, mapTextCode, textCode, renewCode};
+ghost use Rattle.definition.specs.Sample.{sampleOf};
+ghost use Rattle.rulmedei.specs.Codes.{codeOf, valueOf, loadCode, advanceCode, tallyCode, levelsCode, greysCode, textCode, renewCode};
 
 // Load. The record is written to `progress_side` and `progress_dots`.
 #[no_mangle]
@@ -130,7 +133,7 @@ pub extern "C" fn rulmedei_levels(side: u32, greys: &[u8], serials: &[u32], sums
 // Map Text. The side is written to `side`, 0 where it refuses.
 #[no_mangle]
 pub extern "C" fn rulmedei_map_text(text: &[u8], greys: &mut [u8], side: &mut u32) -> u32
-    ensures { λ n. ⌜ record { code = n; side = now (side .exit); greys = now (greys .exit) } ≡ mapTextCode (now (text .entry)) (now (greys .entry)) ⌝ }
+    ensures { λ n. ⌜ record { code = n; value = now (side .exit); greys = now (greys .exit) } ≡ greysCode (mapTextOf (now (text .entry)) (now (greys .entry))) ⌝ }
 {
     match map_text::map_text(text, greys) {
         MapTextAnswer::Side(n) => {
@@ -191,6 +194,23 @@ pub extern "C" fn rulmedei_quote_page(
 {
     let answer = quote_page::quote_page(side, greys, serials, level, out);
     text_code(answer, length)
+}
+
+// The sample. The state reached is written to `state`, 0 where it refuses.
+#[no_mangle]
+pub extern "C" fn rulmedei_sample(seed: u32, side: u32, greys: &mut [u8], state: &mut u32) -> u32
+    ensures { λ n. ⌜ record { code = n; value = now (state .exit); greys = now (greys .exit) } ≡ greysCode (sampleOf seed side (now (greys .entry))) ⌝ }
+{
+    match sample_map::sample(seed, side, greys) {
+        SampleAnswer::State(n) => {
+            *state = n;
+            0
+        }
+        SampleAnswer::Refused(why) => {
+            *state = 0;
+            checks::number_of(why)
+        }
+    }
 }
 
 // The renewal by itself, around the cell in this row and column. It is no call of document 01: 101 where it isn't made.

@@ -1,4 +1,4 @@
-//! The benchmark: side 256, pseudo-random greys, Load and one Advance to the end, by the library and by the team's own
+//! The benchmark: side 256, the sample of seed 1, Load and one Advance to the end, by the library and by the team's own
 //! Rust. Runs alternate, every buffer is cleared before each, the median of nine is taken. Printed: both times, their
 //! ratio, and the time of the test for a sound sheet alone (an Advance of budget 0 on the loaded sheet).
 
@@ -8,6 +8,7 @@ use std::time::Instant;
 
 const POWER: usize = 8;
 const SIDE: u32 = 256;
+const SEED: u32 = 1;
 const CELLS: usize = 65_536;
 const PYRAMID: usize = 87_381;
 const RUNS: usize = 9;
@@ -34,7 +35,7 @@ struct Run {
 }
 
 fn main() {
-    let greys = generated(1, CELLS);
+    let greys = sampled();
     let (mut ours, mut theirs) = (Vec::new(), Vec::new());
     for _ in 0..RUNS {
         let (library, rust) = (by_library(&greys), by_rust(&greys));
@@ -98,13 +99,9 @@ fn print_line(what: &str, runs: &[Run], of: impl Fn(&Run) -> f64) {
     println!("{what}: {:.3} ms", 1000.0 * median(runs, of));
 }
 
-/// Document 02's generator: the highest byte of each state.
-fn generated(seed: u32, count: usize) -> Vec<u8> {
-    let mut state = seed;
-    (0..count)
-        .map(|_| {
-            state = state.wrapping_mul(1_664_525).wrapping_add(1_013_904_223);
-            (state >> 24) as u8
-        })
-        .collect()
+/// The greys, by the library's own call.
+fn sampled() -> Vec<u8> {
+    let mut greys = vec![0; CELLS];
+    rulmedei::sample(SEED, SIDE, &mut greys).expect("sample");
+    greys
 }

@@ -1,5 +1,5 @@
-//! The cases: loads, runs of calls with lent parts and damage between them, sheets that no Load made, noise, and texts;
-//! and the renewal by itself on wrong pyramids. Pages are asked for on runs and on noise.
+//! The cases: loads, runs of calls with lent parts and damage between them, sheets that no Load made, noise, samples
+//! one after another, and texts; and the renewal by itself on wrong pyramids. Pages are asked for on runs and on noise.
 
 use reference::{cell_count, power, pyramid_length, renew_all, write_map_text, Progress};
 use rulmedei::page_length;
@@ -9,12 +9,13 @@ use crate::side_by_side::{Differs, Lent, Sheet, SideBySide};
 
 /// One case, of a kind drawn at random.
 pub fn one_case(random: &mut Random, calls: &mut SideBySide) -> Result<(), Differs> {
-    match random.below(12) {
+    match random.below(13) {
         0 | 1 => load_case(random, calls),
         2..=4 => run_case(random, calls),
         5 => made_up_case(random, calls),
         6 => noise_case(random, calls),
         7 | 8 => renewal_case(random, calls),
+        9 => sample_case(random, calls),
         _ => text_case(random, calls),
     }
 }
@@ -317,6 +318,27 @@ fn coordinate(random: &mut Random, side: u32) -> u32 {
         6 => random.pick(&[side, side.wrapping_add(1), u32::MAX, 1 << 31, word]),
         _ => any,
     }
+}
+
+/// Sample into one buffer of noise after another, each from the state that the call before returned, which is 0 where
+/// that one was refused.
+fn sample_case(random: &mut Random, calls: &mut SideBySide) -> Result<(), Differs> {
+    let mut state = seed(random);
+    for _ in 0..1 + random.below(3) {
+        let side = random.side();
+        let count = random.length(needed(side).0);
+        let mut greys = random.bytes(count);
+        let lent = lent_greys(random, side, &greys).len();
+        let answer = calls.sample(state, side, &mut greys, lent)?;
+        state = answer.values[0] as u32;
+    }
+    Ok(())
+}
+
+/// A seed at an end of the range or in its middle, or any.
+fn seed(random: &mut Random) -> u32 {
+    let any = random.next() as u32;
+    random.pick(&[0, 1, u32::MAX, 1 << 31, any, any, any, any])
 }
 
 /// A map's text with some bytes changed.

@@ -56,6 +56,11 @@ pub fn quote_page(side: u32, greys: &[u8], serials: &[u32], level: u32, out: &mu
     Outcome { code: code_of(answer), values: vec![answer.unwrap_or(0) as u64] }
 }
 
+pub fn sample(seed: u32, side: u32, greys: &mut [u8]) -> Outcome {
+    let answer = reference::sample(seed, side, greys);
+    Outcome { code: code_of(answer), values: vec![answer.unwrap_or(0).into()] }
+}
+
 pub fn renew(side: u32, [row, column]: [u32; 2], pyramid: &mut [i64]) -> Outcome {
     let renewed = reference::renew(side, row, column, pyramid);
     Outcome { code: if renewed { 0 } else { NOT_RENEWED }, values: Vec::new() }

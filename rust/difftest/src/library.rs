@@ -51,6 +51,11 @@ pub fn quote_page(side: u32, greys: &[u8], serials: &[u32], level: u32, out: &mu
     Outcome { code, values: vec![length as u64] }
 }
 
+pub fn sample(seed: u32, side: u32, greys: &mut [u8]) -> Outcome {
+    let (code, state) = codes::sample(seed, side, greys);
+    Outcome { code, values: vec![state.into()] }
+}
+
 pub fn renew(side: u32, [row, column]: [u32; 2], pyramid: &mut [i64]) -> Outcome {
     Outcome { code: codes::renew(side, row, column, pyramid), values: Vec::new() }
 }

@@ -147,6 +147,16 @@ impl SideBySide {
         self.counted("quote_page", ours)
     }
 
+    pub fn sample(&mut self, seed: u32, side: u32, greys: &mut [u8], lent: usize) -> Result<Outcome, Differs> {
+        let before = greys.to_vec();
+        let mut other = greys.to_vec();
+        let ours = library::sample(seed, side, &mut greys[..lent]);
+        let theirs = expected::sample(seed, side, &mut other[..lent]);
+        let inputs = (seed, side, &before, lent);
+        self.agreed("sample", &inputs, (&ours, &*greys), (&theirs, &other[..]))?;
+        self.counted("sample", ours)
+    }
+
     pub fn renew(&mut self, side: u32, cell: [u32; 2], pyramid: &mut [i64], lent: usize) -> Result<Outcome, Differs> {
         let before = pyramid.to_vec();
         let mut other = pyramid.to_vec();

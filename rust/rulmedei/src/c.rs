@@ -83,5 +83,7 @@ extern "C" {
         length: *mut usize,
     ) -> u32;
 
+    pub fn rulmedei_sample(seed: u32, side: u32, greys: *mut u8, greys_length: usize, state: *mut u32) -> u32;
+
     pub fn rulmedei_renew(side: u32, row: u32, column: u32, pyramid: *mut i64, pyramid_length: usize) -> u32;
 }

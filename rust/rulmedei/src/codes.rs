@@ -139,6 +139,14 @@ pub fn quote_page(side: u32, greys: &[u8], serials: &[u32], level: u32, out: &mu
     (code, length)
 }
 
+/// The code, and the state reached.
+pub fn sample(seed: u32, side: u32, greys: &mut [u8]) -> (u32, u32) {
+    let mut state = UNWRITTEN;
+    // SAFETY: the pointer and length are those of a slice, and `state` is a local.
+    let code = unsafe { c::rulmedei_sample(seed, side, greys.as_mut_ptr(), greys.len(), &mut state) };
+    (code, state)
+}
+
 /// The code: 0 where it renewed, else 101.
 pub fn renew(side: u32, row: u32, column: u32, pyramid: &mut [i64]) -> u32 {
     // SAFETY: the pointer and length are those of a slice.

@@ -1,10 +1,10 @@
-//! Grey maps to ordered lists of holes: the seven calls of the proved library, on slices that the caller lends. No call asks anything of its
+//! Grey maps to ordered lists of holes: the eight calls of the proved library, on slices that the caller lends. No call asks anything of its
 //! arguments; what doesn't fit is refused, and a refused call leaves every buffer as it was.
 //!
 //! Map Text reads a map, Load fills the buffers, Advance makes holes until it is finished, and Drill List writes them down
-//! (`examples/list.rs`). Tally, Levels and Quote Page look at what was made.
+//! (`examples/list.rs`). Tally, Levels and Quote Page look at what was made. Sample makes a map from a seed.
 //!
-//! Besides the seven there is `renew`, the renewal of sums that Advance does after each hole, by itself.
+//! Besides the eight there is `renew`, the renewal of sums that Advance does after each hole, by itself.
 
 #[cfg(not(all(target_arch = "x86_64", target_os = "linux")))]
 compile_error!("the proved library is compiled for x86-64 Linux");
@@ -126,7 +126,16 @@ pub fn quote_page(side: u32, greys: &[u8], serials: &[u32], level: u32, out: &mu
     Ok(length)
 }
 
-/// The renewal by itself, none of the seven calls: makes each coarser entry over the cell (row, column), or over one of its up to eight
+/// Sample: fills the greys, by row, from a seed; returns the state reached. The state is the seed at first; for each grey it becomes
+/// (1,664,525 × state + 1,013,904,223) modulo 2^32, and the grey is the new state divided by 2^24, rounded down. A further call with the
+/// state reached as its seed goes on where this one ended. Greys past N² stay. Refusals: 1, 2.
+pub fn sample(seed: u32, side: u32, greys: &mut [u8]) -> Result<u32, Refusal> {
+    let (code, state) = codes::sample(seed, side, greys);
+    did(code)?;
+    Ok(state)
+}
+
+/// The renewal by itself, none of the eight calls: makes each coarser entry over the cell (row, column), or over one of its up to eight
 /// neighbours on the map, the sum of its four entries on the level below, level by level up to the top. No other entry changes, not even a
 /// wrong one; the other sums need not be right.
 ///

@@ -56,7 +56,7 @@ impl fmt::Display for Refusal {
 
 impl Error for Refusal {}
 
-/// What a code says: 0 that the call did its work, any other the refusal of that number. (The seven calls return no further codes.)
+/// What a code says: 0 that the call did its work, any other the refusal of that number. (The eight calls return no further codes.)
 pub(crate) fn did(code: u32) -> Result<(), Refusal> {
     if code == 0 {
         return Ok(());

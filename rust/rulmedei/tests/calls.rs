@@ -1,8 +1,8 @@
-//! The calls on document 01's example, a map of side 2 with four greys of 128, and each refusal once; those of Quote Page in their order.
-//! And the renewal by itself.
+//! The calls on document 01's example, a map of side 2 with four greys of 128, and each refusal once; those of Quote Page and Sample in
+//! their order. Samples of sides 2 and 4. And the renewal by itself.
 
 use rulmedei::{
-    advance, cells, drill_list, levels, load, map_text, page_length, pyramid_length, quote_page, renew, tally,
+    advance, cells, drill_list, levels, load, map_text, page_length, pyramid_length, quote_page, renew, sample, tally,
     Advanced, Progress, Refusal,
 };
 
@@ -130,6 +130,42 @@ fn quote_page_refuses_in_order() {
     assert_eq!(number(2, &GREYS, &sheet.serials, 1, 115), Err(8));
     assert_eq!(number(2, &GREYS, &sheet.serials, 0, 28), Err(8));
     assert_eq!(out, [9; 115]);
+}
+
+#[test]
+fn sample_fills_the_greys() {
+    let mut greys = [9; 5];
+    assert_eq!(sample(0, 2, &mut greys), Ok(2_868_466_484));
+    assert_eq!(greys, [60, 71, 209, 170, 9]);
+    assert_eq!(sample(u32::MAX, 2, &mut greys), Ok(2_709_482_403));
+    assert_eq!(greys, [60, 48, 34, 161, 9]);
+}
+
+#[test]
+fn sample_goes_on_from_the_state_reached() {
+    let mut whole = [9; 16];
+    let end = sample(1, 4, &mut whole).unwrap();
+    let mut state = 1;
+    for quarter in whole.chunks(4) {
+        let mut greys = [9; 4];
+        state = sample(state, 2, &mut greys).unwrap();
+        assert_eq!(greys, quarter);
+    }
+    assert_eq!(state, end);
+}
+
+#[test]
+fn sample_refuses_in_order() {
+    let mut greys = [9; 15];
+    let mut number = |side, length: usize| sample(1, side, &mut greys[..length]).map_err(Refusal::number);
+    for no_side in [0, 1, 3, 512, u32::MAX] {
+        assert_eq!(number(no_side, 0), Err(1));
+        assert_eq!(number(no_side, 15), Err(1));
+    }
+    assert_eq!(number(2, 0), Err(2));
+    assert_eq!(number(2, 3), Err(2));
+    assert_eq!(number(4, 15), Err(2));
+    assert_eq!(greys, [9; 15]);
 }
 
 #[test]

@@ -1,6 +1,6 @@
 -- `plate_text::plate_text`.
 use borrow.Author.Needs.{needs}
-use Rattle.plate_text.specs.Printing.{printed-text, printed-in}
+use Rattle.decimals.specs.Printed.{printed-text, printed-in}
 use Rattle.plate_text.proofs.plate_text.Statement.{statement}
 use Rattle.plate_text.proofs.plate_text.Tie as tie
 
