@@ -19,6 +19,7 @@ pub record MapLent (side count : ℕ) : Type 0 where
   pub most : side ≤ 256
   pub whole : count ≡ side * side
 
+-- these are at most 65,536
 pub few : {side count : ℕ} → MapLent side count → count ≤ 65536
 few {side} lent = omega (arith, lent .whole, size-small side (lent .most))
 
