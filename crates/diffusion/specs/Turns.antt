@@ -50,7 +50,7 @@ pub turns-none : (cells : List ℤ) (r row column d : ℕ) → Turns cells r row
 turns-none cells r row column d = record { few = omega arith; sum = sum-none r row column; list = diffuse-none r row column d cells }
 
 module _ (cells : List ℤ) (r row column d : ℕ) (h : DiffuseAsked cells r row column d) (part : List ℤ) (before p : ℕ) (t : Turns cells r row column d part before p) (lt : p < 9) (w all : ℕ)
-    (ew : w ≡ weightAt plain r row column p) (ea : all ≡ sumTo 9 (weightAt plain r row column)) (s : ℕ) (es : s ≡ d * (before + w) / all - d * before / all) where
+    (ew : w ≡ weightAt plain r row column p) (s : ℕ) (es : s ≡ d * (before + w) / all - d * before / all) where
   pub turn-asked : ShareAsked part r row column p w s
   turn-asked =
       record {
@@ -62,8 +62,8 @@ module _ (cells : List ℤ) (r row column d : ℕ) (h : DiffuseAsked cells r row
         small = λ i. rw (t .list) (within-mono _ _ _ (omega arith) (diffuse-within r row column d cells (h .fair) (h .small) p (t .few) i));
       }
 
-  pub turn : {next : List ℤ} → next ≡ shareTaken r row column p s part → Turns cells r row column d next (before + w) (p + 1)
-  turn e =
+  pub turn : {next : List ℤ} → all ≡ sumTo 9 (weightAt plain r row column) → next ≡ shareTaken r row column p s part → Turns cells r row column d next (before + w) (p + 1)
+  turn ea e =
       record {
         few = omega arith;
         sum = sum-more r row column p (t .sum) ew;
