@@ -1,4 +1,4 @@
-//! The cases of the program crate `panel_run`: its standard input, and what it ought to write.
+//! The cases of the program crate `run_cases`: its standard input, and what it ought to write.
 
 use crate::answers::{AdvanceAnswer, Ended, Progress, Refusal};
 use crate::calls::{advance, load};

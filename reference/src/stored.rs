@@ -26,9 +26,9 @@ pub fn files() -> Result<Vec<(String, Vec<u8>)>, Refusal> {
     }
     let expected = "crates/definition/specs/Expected.antt".to_string();
     files.push((expected, expected_values()?.into_bytes()));
-    files.extend(program_files("panel_survey", survey_cases::input_and_output()?));
-    files.extend(program_files("panel_run", run_cases::input_and_output()?));
-    files.extend(program_files("panel_texts", text_cases::input_and_output()?));
+    files.extend(program_files("survey_cases", survey_cases::input_and_output()?));
+    files.extend(program_files("run_cases", run_cases::input_and_output()?));
+    files.extend(program_files("text_cases", text_cases::input_and_output()?));
     files.extend(sample_files());
     // the program crate `sample` reads no input
     files.push(("crates/sample/stdout".to_string(), sample_text()));

@@ -1,4 +1,4 @@
-//! The cases of the program crate `panel_survey`: its standard input, and what it ought to write.
+//! The cases of the program crate `survey_cases`: its standard input, and what it ought to write.
 
 use crate::answers::Refusal;
 use crate::calls::load;

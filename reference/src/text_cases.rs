@@ -1,4 +1,4 @@
-//! The cases of the program crate `panel_texts`: texts for Map Text, most of them broken, and Drill List on the maps
+//! The cases of the program crate `text_cases`: texts for Map Text, most of them broken, and Drill List on the maps
 //! that are read.
 
 use std::fmt::Display;

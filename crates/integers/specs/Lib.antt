@@ -5,3 +5,4 @@ pub mod Lists
 pub mod Machine
 pub mod Fill
 pub mod Loops
+pub mod Totals

@@ -1,4 +1,3 @@
-pub mod Printing
 pub mod Lengths
 pub mod Greys
 pub mod Finished

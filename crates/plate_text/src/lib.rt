@@ -4,13 +4,12 @@ use definition::MapTextAnswer;
 use definition::Progress;
 use definition::TextAnswer;
 ghost use mathlib.Core.Path.{_≡_};
-ghost use Prim.Native.Nat.{_^_, _≤_};
+ghost use Prim.Native.Nat.{_≤_};
 ghost use lib.ListN.{length, take};
 ghost use Rattle.definition.specs.Diffusion.{plain};
 ghost use Rattle.definition.specs.Refusals.{powerOf};
 ghost use Rattle.definition.specs.DrillList.{drillText};
-ghost use Rattle.definition.specs.Plate.{refusedText, finishedOf, plateOf};
-ghost use Rattle.decimals.specs.Writing.{Wrote};
+ghost use Rattle.definition.specs.Plate.{finishedOf, plateOf};
 ghost use Rattle.decimals.specs.Printed.{Printed};
 ghost use Rattle.plate_text.specs.Finished.{finishedIn, MapAsked};
 
@@ -18,28 +17,6 @@ ghost use Rattle.plate_text.specs.Finished.{finishedIn, MapAsked};
 pub struct PlateText {
     pub bytes: [u8; 11300],
     pub length: usize,
-}
-
-// Stores bytes from the first place on, as far as the buffer has places, and returns the place behind them.
-fn put_bytes(out: &mut [u8], bytes: &[u8]) -> usize
-    requires { ⌜ length (now bytes) ≤ 2 ^ 62 ⌝ }
-    ensures { λ next. ⌜ Wrote (now (out .entry)) 0 (now (bytes .entry)) next (now (out .exit)) ⌝ }
-{
-    let mut i = 0;
-    while i < bytes.len() {
-        decimals::put_byte(out, i, bytes[i]);
-        i += 1;
-    }
-    i
-}
-
-// The line "refused,n".
-fn put_refused(out: &mut [u8], number: u32) -> usize
-    requires { ⌜ 11300 ≤ length (now out) ⌝ }
-    ensures { λ n. ⌜ Printed (refusedText number) (now (out .entry)) n (now (out .exit)) ⌝ }
-{
-    let at = put_bytes(out, b"refused,");
-    decimals::put_field(out, at, number as u64, 10)
 }
 
 // The map loaded, and all its holes made.
@@ -79,11 +56,11 @@ fn put_plate(input: &[u8], out: &mut [u8]) -> usize
     ensures { λ n. ⌜ Printed (plateOf (now (input .entry))) (now (out .entry)) n (now (out .exit)) ⌝ }
 {
     if 4099 < input.len() {
-        return put_refused(out, 9);
+        return refusal_line::put_refused(out, 9);
     }
     let mut greys = [0u8; 1024];
     match map_text::map_text(input, &mut greys) {
-        MapTextAnswer::Refused(why) => put_refused(out, checks::number_of(why)),
+        MapTextAnswer::Refused(why) => refusal_line::put_refused(out, checks::number_of(why)),
         MapTextAnswer::Side(side) => put_drill_list(side, &greys, out),
     }
 }

@@ -1,10 +1,24 @@
 // The program quote: reads a line with a level and then a map text, runs the map to its end, and writes the quote page of that level; or the
 // line "refused,n".
-use console::least;
 use decimals::Number;
 use definition::MapTextAnswer;
 use definition::Refusal;
 use definition::TextAnswer;
+ghost use Prim.Native.Nat.{_≤_};
+
+// The smaller of two lengths.
+fn least(length: usize, most: usize) -> usize
+    ensures { λ n. ⌜ n ≤ most ⌝ }
+{
+    if length <= most { length } else { most }
+}
+
+// Writes the line of a refusal.
+fn print_refused(why: Refusal) {
+    let mut line = [0u8; 29];
+    let length = refusal_line::put_refused(&mut line, checks::number_of(why));
+    io::write_all(1, &line[..length]);
+}
 
 // Writes the page, or the refusal.
 fn print_page(answer: TextAnswer, page: &[u8]) {
@@ -13,7 +27,7 @@ fn print_page(answer: TextAnswer, page: &[u8]) {
             let end = least(length, page.len());
             io::write_all(1, &page[..end]);
         }
-        TextAnswer::Refused(why) => console::print_refused(why),
+        TextAnswer::Refused(why) => print_refused(why),
     }
 }
 
@@ -35,7 +49,7 @@ fn quote_text(level: u32, text: &[u8]) {
     let mut greys = [0u8; 1024];
     match map_text::map_text(text, &mut greys) {
         MapTextAnswer::Side(side) => quote_map(level, side, &greys),
-        MapTextAnswer::Refused(why) => console::print_refused(why),
+        MapTextAnswer::Refused(why) => print_refused(why),
     }
 }
 
@@ -46,7 +60,7 @@ fn quote_input(input: &[u8]) {
             let from = least(at, input.len());
             quote_text(level, &input[from..]);
         }
-        Number::Malformed => console::print_refused(Refusal::TextMalformed),
+        Number::Malformed => print_refused(Refusal::TextMalformed),
     }
 }
 

@@ -60,8 +60,8 @@ fn put_block(
     ensures { λ next. ⌜ Wrote (now (out .entry)) at (quoteLine r (now (greys .entry)) (now (serials .entry)) k row column) next (now (out .exit)) ⌝ }
 {
     let s = sizes::pow2(r - k) as u64;
-    let grey = survey::block_greys(greys, r, k, row, column) as u64;
-    let dots = survey::block_dots(serials, r, k, row, column) as u64;
+    let grey = blocks::block_greys(greys, r, k, row, column) as u64;
+    let dots = blocks::block_dots(serials, r, k, row, column) as u64;
     let cap = quote_cap(s, grey);
     put_line(out, at, row as u64, column as u64, grey, dots, cap)
 }

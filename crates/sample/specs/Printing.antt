@@ -17,8 +17,8 @@ use Rattle.grammar.specs.Grammar.{written-text-accepted}
 use Rattle.decimals.specs.Writing.{Wrote, length-decimal}
 use Rattle.decimals.specs.Printed.{wrote-printed, printed-text}
 use Rattle.map_text.specs.Written.{MapLent, map-length}
-use Rattle.sample_map.specs.Runs.{length-greys, greys-small}
-use Rattle.sample_map.specs.Calls.{accepted-is}
+use Rattle.sample_runs.specs.Runs.{length-greys, greys-small}
+use Rattle.sample_runs.specs.InTurn.{accepted-is}
 
 -- the greys of the program
 abbrev greys : List ℕ

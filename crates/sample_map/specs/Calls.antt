@@ -15,13 +15,8 @@ use Rattle.refusals.specs.Numbers.{number-positive}
 use Rattle.checks.specs.Checks.{checked, passed-none, failed-number}
 use Rattle.checks.specs.declared.Check.{Check}
 use Rattle.checks.specs.declared.Check.the-variants.{Passed, Failed}
-use Rattle.sample_map.specs.Runs.{Sampled}
-
--- where it isn't refused
-pub accepted-is : (seed side : ℕ) (greys : List ℕ) → greysRefusal (powerOf side) (length greys) ≡ 0
-    → sampleOf seed side greys ≡ record { said = returned (stateAfter (cellCount (powerOf side)) seed ∷ []); greys = sampleGreys (cellCount (powerOf side)) seed ++ drop (cellCount (powerOf side)) greys }
-unfolding sampleOf
-accepted-is seed side greys none = rw (none, sampleOf)
+use Rattle.sample_runs.specs.InTurn.{accepted-is}
+use Rattle.sample_map.specs.Filled.{Sampled}
 
 module _ (seed side : ℕ) {r : ℕ} (er : r ≡ powerOf side) (greys : List ℕ) (check : Check) (e : checked check ≡ greysRefusal r (length greys)) where
   pub refused-is : {why : Refusal} → check ≡ Failed why → record { said = sampleSays (Refused why); greys = greys } ≡ sampleOf seed side greys

@@ -1,3 +1,2 @@
-pub mod Runs
+pub mod Filled
 pub mod Calls
-pub mod InTurn

@@ -6,7 +6,7 @@ ghost use Prim.Native.Nat.{_≤_};
 ghost use lib.ListN.{length};
 ghost use Rattle.definition.specs.Answers.{sampleSays};
 ghost use Rattle.definition.specs.Sample.{nextState, greyOf, sampleOf};
-ghost use Rattle.sample_map.specs.Runs.{Sampled};
+ghost use Rattle.sample_map.specs.Filled.{Sampled};
 
 // The state that one step reaches.
 fn next_state(state: u32) -> u32

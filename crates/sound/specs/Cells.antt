@@ -23,8 +23,8 @@ use Rattle.integers.specs.Tests.{T-true, T-and, and-T, ne→neqb, cond-T, cond-
 use Rattle.integers.specs.Linear.{zz, ints}
 use Rattle.integers.specs.Machine.{back64, of-bits, natAbs-fits, words, machine}
 use Rattle.quadtree.specs.Levels.{start-suc, cell-lt, place-lt, row-place, column-place, place-row-column, row-lt, column-lt}
-use Rattle.survey.specs.Totals.{Total}
-use Rattle.survey.specs.Squares.{dot-none, dot-one}
+use Rattle.integers.specs.Totals.{Total}
+use Rattle.blocks.specs.Squares.{dot-none, dot-one}
 use Rattle.sound.specs.Asked.{CellAsked, GridAsked, NearAsked, NearPlace, OwingAsked, isNeighbour, burntThere, boundedCell, boundedAt, onSide, nearAt, owingCell, owingAt}
 use Rattle.integers.specs.Loops.{Every, held, failed}
 

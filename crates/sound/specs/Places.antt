@@ -13,7 +13,7 @@ use Rattle.definition.specs.Lists.{sumTo}
 use Rattle.definition.specs.Pyramid.{cellCount}
 use Rattle.definition.specs.Sound.{fewDots, numbered, counted, unused}
 use Rattle.integers.specs.Loops.{Every}
-use Rattle.survey.specs.Totals.{Total}
+use Rattle.integers.specs.Totals.{Total}
 use Rattle.sound.specs.Asked.{nextAt, freeAt}
 
 -- ════ the tests of the definition as tests at each place

@@ -5,7 +5,7 @@ ghost use lib.ListN.{length, getD};
 ghost use Rattle.definition.specs.Lists.{sumTo};
 ghost use Rattle.definition.specs.Blocks.{burnt};
 ghost use Rattle.definition.specs.Sound.{fewDots, numbered, counted, unused, summed, bounded, owing, isSound, everyEntry};
-ghost use Rattle.survey.specs.Totals.{Total};
+ghost use Rattle.integers.specs.Totals.{Total};
 ghost use Rattle.sound.specs.Asked.{SoundAsked, CellsAsked, NumberedAsked, NextAsked, CellAsked, GridAsked, NearAsked, NearPlace, OwingAsked, nextAt, freeAt, boundedAt, onSide, nearAt, owingCell, owingAt, SumAsked, SidesAsked, LevelAsked, SummedAsked, sumHolds, sumAt, levelSummed};
 
 // What one dot is worth.
@@ -57,7 +57,7 @@ fn counted(r: usize, serials: &[u32], dots: u32) -> bool
     let mut sum = 0;
     let mut cell = 0;
     while cell < cells {
-        sum += survey::mark(serials[cell]);
+        sum += blocks::mark(serials[cell]);
         cell += 1;
     }
     sum == dots
@@ -134,7 +134,7 @@ fn mark_at(side: usize, serials: &[u32], x: usize, y: usize) -> u32
     requires { ⌜ NearPlace side (length (now serials)) x y ⌝ }
     ensures { λ n. ⌜ Total (burnt (getD (now (serials .entry)) ((x - 1) * side + (y - 1)) 0)) 1 n ⌝ }
 {
-    survey::mark(serials[(x - 1) * side + (y - 1)])
+    blocks::mark(serials[(x - 1) * side + (y - 1)])
 }
 
 // 1 if place p of the nine around a cell is a burnt cell of the map, and not the cell itself; else 0.

@@ -1,6 +1,5 @@
 pub mod Asked
-pub mod Totals
-pub mod Squares
-pub mod Blocks
+pub mod Errors
+pub mod Levels
 pub mod Nine
 pub mod Calls

@@ -1,4 +1,4 @@
-// The counting behind Tally, Levels and Quote Page: the dots and the greys of a block, and for each level the summed squares of its blocks' errors.
+// Tally, the dots of a block; and Levels, for each level the summed squares of its blocks' errors.
 use checks::Check;
 use definition::LevelsAnswer;
 use definition::LevelsStatus;
@@ -10,99 +10,13 @@ ghost use lib.ListN.{length};
 ghost use lib.Dec.{leb};
 ghost use mathlib.Core.Bool.{cond};
 ghost use Rattle.definition.specs.Lists.{tabulate};
-ghost use Rattle.definition.specs.Blocks.{burnt, greySum, dotsIn};
 ghost use Rattle.definition.specs.Answers.{tallySays, levelsSays};
 ghost use Rattle.definition.specs.Survey.{squared, levelSum, tallyRefusal, tallyOf, levelsRefusal, levelsOf};
 ghost use Rattle.checks.specs.Checks.{checked};
-ghost use Rattle.survey.specs.Totals.{Total, TotalZ};
-ghost use Rattle.survey.specs.Squares.{rowDots, squareDots, rowGreys, squareGreys, cellError, rowError, squareError, blocksSum, gridSum, rowMost, squareMost, squaredMost, blocksMost, RowAsked, SquareAsked, BlocksAsked, GridAsked};
-ghost use Rattle.survey.specs.Asked.{BlockAsked, LevelsAsked};
-
-// 1 for the serial of a dot, 0 for that of a cell without one.
-pub fn mark(serial: u32) -> u32
-    ensures { λ n. ⌜ Total (burnt serial) 1 n ⌝ }
-{
-    if serial != 0 {
-        return 1;
-    }
-    0
-}
-
-// The dots of `count` cells from the cell `from` on.
-fn row_dots(serials: &[u32], from: usize, count: usize) -> u32
-    requires { ⌜ RowAsked (length (now serials)) from count ⌝ }
-    ensures { λ n. ⌜ Total (rowDots (now (serials .entry)) from count) 256 n ⌝ }
-{
-    let mut sum = 0;
-    let mut y = 0;
-    while y < count {
-        sum += mark(serials[from + y]);
-        y += 1;
-    }
-    sum
-}
-
-// The dots of a square of s by s cells, on a map of `side` by `side`.
-fn square_dots(serials: &[u32], side: usize, s: usize, top: usize, left: usize) -> u32
-    requires { ⌜ SquareAsked (length (now serials)) side s top left ⌝ }
-    ensures { λ n. ⌜ Total (squareDots (now (serials .entry)) side s top left) 65536 n ⌝ }
-{
-    let mut sum = 0;
-    let mut x = 0;
-    while x < s {
-        sum += row_dots(serials, (top + x) * side + left, s);
-        x += 1;
-    }
-    sum
-}
-
-// The dots of the block (row, column) of level k.
-pub fn block_dots(serials: &[u32], r: usize, k: usize, row: usize, column: usize) -> u32
-    requires { ⌜ BlockAsked (length (now serials)) r k row column ⌝ }
-    ensures { λ n. ⌜ n ≡ dotsIn r (now (serials .entry)) k row column ⌝ }
-{
-    let side = sizes::pow2(r);
-    let s = sizes::pow2(r - k);
-    square_dots(serials, side, s, row * s, column * s)
-}
-
-// The greys of `count` cells from the cell `from` on.
-fn row_greys(greys: &[u8], from: usize, count: usize) -> u32
-    requires { ⌜ RowAsked (length (now greys)) from count ⌝ }
-    ensures { λ n. ⌜ Total (rowGreys (now (greys .entry)) from count) rowMost n ⌝ }
-{
-    let mut sum = 0;
-    let mut y = 0;
-    while y < count {
-        sum += greys[from + y] as u32;
-        y += 1;
-    }
-    sum
-}
-
-// The greys of a square of s by s cells, on a map of `side` by `side`.
-fn square_greys(greys: &[u8], side: usize, s: usize, top: usize, left: usize) -> u32
-    requires { ⌜ SquareAsked (length (now greys)) side s top left ⌝ }
-    ensures { λ n. ⌜ Total (squareGreys (now (greys .entry)) side s top left) squareMost n ⌝ }
-{
-    let mut sum = 0;
-    let mut x = 0;
-    while x < s {
-        sum += row_greys(greys, (top + x) * side + left, s);
-        x += 1;
-    }
-    sum
-}
-
-// The grey sum of the block (row, column) of level k.
-pub fn block_greys(greys: &[u8], r: usize, k: usize, row: usize, column: usize) -> u32
-    requires { ⌜ BlockAsked (length (now greys)) r k row column ⌝ }
-    ensures { λ n. ⌜ n ≡ greySum r (now (greys .entry)) k row column ⌝ }
-{
-    let side = sizes::pow2(r);
-    let s = sizes::pow2(r - k);
-    square_greys(greys, side, s, row * s, column * s)
-}
+ghost use Rattle.integers.specs.Totals.{Total, TotalZ};
+ghost use Rattle.blocks.specs.Squares.{rowMost, squareMost, RowAsked, SquareAsked};
+ghost use Rattle.survey.specs.Asked.{LevelsAsked, GridAsked, BlocksAsked};
+ghost use Rattle.survey.specs.Errors.{cellError, rowError, squareError, blocksSum, gridSum, squaredMost, blocksMost};
 
 // The error of a cell: its grey, less 255 if it has a dot.
 fn cell_error(grey: u8, serial: u32) -> i64
@@ -250,7 +164,7 @@ pub fn tally(side: u32, serials: &[u32], level: u32, row: u32, column: u32) -> T
     let b = column as usize;
     match check_tally(r, serials.len(), k, a, b) {
         Check::Failed(why) => TallyAnswer::Refused(why),
-        Check::Passed => TallyAnswer::Dots(block_dots(serials, r, k, a, b)),
+        Check::Passed => TallyAnswer::Dots(blocks::block_dots(serials, r, k, a, b)),
     }
 }
 

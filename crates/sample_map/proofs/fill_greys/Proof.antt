@@ -2,7 +2,7 @@
 use Prim.Native.Nat.{_-_, _≤_}
 use native.Mathlib.Omega.{arith}
 use borrow.Author.Needs.{needs}
-use Rattle.sample_map.specs.Runs.{Sampled, sampled-none, sampled-more, sampled-all, length-sampled}
+use Rattle.sample_map.specs.Filled.{Sampled, sampled-none, sampled-more, sampled-all, length-sampled}
 use Rattle.sample_map.proofs.fill_greys.Statement.{statement}
 use Rattle.sample_map.proofs.fill_greys.Tie as tie
 

@@ -2,7 +2,7 @@
 use Prim.Native.Nat.{_≤_, _-_, _*_}
 use native.Mathlib.Omega.{arith}
 use Rattle.definition.specs.Lists.{sumTo}
-use Rattle.survey.specs.Totals.{Total, none, turn, whole}
+use Rattle.integers.specs.Totals.{Total, none, turn, whole}
 use Rattle.sound.specs.Asked.{nearAt}
 use Rattle.sound.proofs.burnt_near.Statement.{statement}
 use Rattle.sound.proofs.burnt_near.Tie as tie

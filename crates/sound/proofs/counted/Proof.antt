@@ -5,7 +5,7 @@ use borrow.Author.Needs.{needs}
 use lib.ListN.{getD}
 use Rattle.definition.specs.Blocks.{burnt}
 use Rattle.definition.specs.Lists.{sumTo}
-use Rattle.survey.specs.Totals.{Total, none, turn}
+use Rattle.integers.specs.Totals.{Total, none, turn}
 use Rattle.sound.specs.Places.{counted-is}
 use Rattle.sound.proofs.counted.Statement.{statement}
 use Rattle.sound.proofs.counted.Tie as tie

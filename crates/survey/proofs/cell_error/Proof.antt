@@ -2,8 +2,8 @@
 use native.Mathlib.Omega.{arith}
 use borrow.Author.Needs.{needs}
 use Rattle.integers.specs.Machine.{of-bits, words, machine}
-use Rattle.survey.specs.Totals.{read}
-use Rattle.survey.specs.Squares.{error-none, error-dot}
+use Rattle.integers.specs.Totals.{read}
+use Rattle.survey.specs.Errors.{error-none, error-dot}
 use Rattle.survey.proofs.cell_error.Statement.{statement}
 use Rattle.survey.proofs.cell_error.Tie as tie
 

@@ -2,8 +2,8 @@
 use Prim.Native.Nat.{_≤_, _-_, _*_}
 use native.Mathlib.Omega.{arith}
 use Rattle.definition.specs.Lists.{sumTo}
-use Rattle.survey.specs.Totals.{Total, none, turn, whole}
-use Rattle.survey.specs.Squares.{blocksSum, blocksMost, grid-row}
+use Rattle.integers.specs.Totals.{Total, none, turn, whole}
+use Rattle.survey.specs.Errors.{blocksSum, blocksMost, grid-row}
 use Rattle.survey.proofs.level_sum.Statement.{statement}
 use Rattle.survey.proofs.level_sum.Tie as tie
 

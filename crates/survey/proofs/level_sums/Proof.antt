@@ -5,7 +5,7 @@ use native.Mathlib.Omega.{arith}
 use lib.ListN.{replicate}
 use Rattle.definition.specs.Survey.{levelSum}
 use Rattle.integers.specs.Fill.{filled, filled-none, filled-store}
-use Rattle.survey.specs.Blocks.{level-grid, level-sum}
+use Rattle.survey.specs.Levels.{level-grid, level-sum}
 use Rattle.survey.specs.Nine.{nine-whole}
 use Rattle.survey.proofs.level_sums.Statement.{statement}
 use Rattle.survey.proofs.level_sums.Tie as tie

@@ -3,8 +3,8 @@ use Prim.Native.Nat.{_≤_, _-_, _*_}
 use native.Mathlib.Omega.{arith}
 use mir.Syntax.{w64}
 use mir.Val.{toZ}
-use Rattle.survey.specs.Totals.{TotalZ, noneZ, turnZ, wholeZ, fit, read}
-use Rattle.survey.specs.Squares.{rowError}
+use Rattle.integers.specs.Totals.{TotalZ, noneZ, turnZ, wholeZ, fit, read}
+use Rattle.survey.specs.Errors.{rowError}
 use Rattle.survey.proofs.row_error.Statement.{statement}
 use Rattle.survey.proofs.row_error.Tie as tie
 

@@ -1,8 +1,8 @@
 -- `survey::row_of_blocks`: the loop adds up the sum of the contract, block by block.
 use Prim.Native.Nat.{_≤_, _-_, _*_}
 use native.Mathlib.Omega.{arith}
-use Rattle.survey.specs.Totals.{Total, none, turn, whole}
-use Rattle.survey.specs.Squares.{blocksSum, squaredMost, row-block}
+use Rattle.integers.specs.Totals.{Total, none, turn, whole}
+use Rattle.survey.specs.Errors.{blocksSum, squaredMost, row-block}
 use Rattle.survey.proofs.row_of_blocks.Statement.{statement}
 use Rattle.survey.proofs.row_of_blocks.Tie as tie
 

@@ -4,8 +4,9 @@ use native.Mathlib.Omega.{arith}
 use mir.Syntax.{w64}
 use mir.Val.{toZ}
 use Rattle.definition.specs.Lists.{sumZTo}
-use Rattle.survey.specs.Totals.{TotalZ, noneZ, turnZ, wholeZ, fit, read}
-use Rattle.survey.specs.Squares.{rowError, rowMost, square-row}
+use Rattle.integers.specs.Totals.{TotalZ, noneZ, turnZ, wholeZ, fit, read}
+use Rattle.blocks.specs.Squares.{rowMost, square-row}
+use Rattle.survey.specs.Errors.{rowError}
 use Rattle.survey.proofs.square_error.Statement.{statement}
 use Rattle.survey.proofs.square_error.Tie as tie
 

@@ -1,6 +1,6 @@
 -- `survey::squared_error`: by the laws on the square of a bounded number.
 use native.Mathlib.Omega.{arith}
-use Rattle.survey.specs.Totals.{read, square-fits, square-cast, square-read}
+use Rattle.integers.specs.Totals.{read, square-fits, square-cast, square-read}
 use Rattle.survey.proofs.squared_error.Statement.{statement}
 use Rattle.survey.proofs.squared_error.Tie as tie
 

@@ -1,0 +1,25 @@
+-- `case_io::fields_u32` is safe and ends: what is left of the slice falls.
+use Prim.Native.Nat.{_-_}
+use native.Mathlib.Omega.{arith}
+use borrow.Author.Needs.{needs}
+use lib.ListN.{length}
+use Rattle.case_io.proofs.fields_u32.Statement.{statement}
+use Rattle.case_io.proofs.fields_u32.Tie as tie
+
+abbrev Inv-loop : tie.InvT-loop
+Inv-loop values i₀ i = Unit {0}
+
+abbrev μ-loop : tie.MeasureT-loop
+μ-loop values i₀ i = length values - i
+
+pub fields-u32-spec : {M : Type 1} → statement M
+fields-u32-spec = tie.close (tie.spec Inv-loop μ-loop
+    (λ c. tt)  -- loop-holds
+    (λ c. search needs)  -- mul-field-u32
+    (λ c. search needs)  -- shared-slice-read-field-u32
+    (λ c κs. tt)  -- field-u32-requires
+    (λ c. omega arith)  -- add-i
+    (λ c. omega arith)  -- loop-less
+    (λ c. tt)  -- loop-again
+    (λ c κs. tt)  -- end-line-requires
+    (λ c. tt))  -- returns

@@ -1,0 +1,2 @@
+pub mod Runs
+pub mod InTurn

@@ -1,7 +1,0 @@
--- `survey::mark`: by the two laws on a serial.
-use Rattle.survey.specs.Squares.{dot-none, dot-one}
-use Rattle.survey.proofs.mark.Statement.{statement}
-use Rattle.survey.proofs.mark.Tie as tie
-
-pub mark-spec : {M : Type 1} → statement M
-mark-spec = tie.close (tie.spec (λ c. dot-one (c .if1 .taken)) (λ c. dot-none (c .if1 .left)))
