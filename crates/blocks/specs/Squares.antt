@@ -1,5 +1,5 @@
--- What the inner functions count and sum up: rows of cells, and squares of cells on a map of `side` by `side` (s rows of s cells, the first in row `top`
--- at column `left`); what they ask for, and the laws of their loops.
+-- What the inner functions count and sum up: rows of cells, and squares of cells on a map of `side` by `side` (s rows
+-- of s cells, the first in row `top` at column `left`); what they ask for, and the laws of their loops.
 use mathlib.Core.Path.{_≡_, refl}
 use mathlib.Core.List.{List}
 use Prim.Native.Nat.{ℕ, _+_, _*_, _≤_, _<_}
@@ -69,9 +69,13 @@ pub record Row (lent side s top left x : ℕ) : Type 0 where
   pub asked : RowAsked lent ((top + x) * side + left) s
   pub most : (top + x) * side + left ≤ 65536
 
-pub square-row : {lent side s top left x : ℕ} → SquareAsked lent side s top left → x < s → Row lent side s top left x
+pub square-row : {lent side s top left x : ℕ} → SquareAsked lent side s top left → x < s
+    → Row lent side s top left x
 square-row {lent} {side} {s} {top} {left} {x} h lt =
     let a : top + x + 1 ≤ side = omega (arith, h .down) in
     let b = mul-le-mul-right side a in
     let c = mul-le-mul (h .small) (h .small) in
-    record { asked = record { few = omega (arith, h .across, h .small); within = omega (arith, h .across, h .room) }; most = omega (arith, h .across) }
+    record {
+      asked = record { few = omega (arith, h .across, h .small); within = omega (arith, h .across, h .room) };
+      most = omega (arith, h .across);
+    }

@@ -1,9 +1,11 @@
-// The counting over aligned squares behind Tally, Quote Page and the test for a sound sheet: the dots and the greys of a block.
+// The counting over aligned squares behind Tally, Quote Page and the test for a sound sheet: the dots of a block, and
+// its greys.
 ghost use mathlib.Core.Path.{_≡_};
 ghost use lib.ListN.{length};
 ghost use Rattle.definition.specs.Blocks.{burnt, greySum, dotsIn};
 ghost use Rattle.integers.specs.Totals.{Total};
-ghost use Rattle.blocks.specs.Squares.{rowDots, squareDots, rowGreys, squareGreys, rowMost, squareMost, RowAsked, SquareAsked};
+ghost use Rattle.blocks.specs.Squares.{rowDots, squareDots, rowGreys, squareGreys, rowMost, squareMost};
+ghost use Rattle.blocks.specs.Squares.{RowAsked, SquareAsked};
 ghost use Rattle.blocks.specs.Blocks.{BlockAsked};
 
 // 1 for the serial of a dot, 0 for that of a cell without one.

@@ -15,7 +15,11 @@ use Rattle.sample_runs.specs.Runs.{greys-in-turn, state-in-turn, length-
 
 -- where it isn't refused
 pub accepted-is : (seed side : ℕ) (greys : List ℕ) → greysRefusal (powerOf side) (length greys) ≡ 0
-    → sampleOf seed side greys ≡ record { said = returned (stateAfter (cellCount (powerOf side)) seed ∷ []); greys = sampleGreys (cellCount (powerOf side)) seed ++ drop (cellCount (powerOf side)) greys }
+    → sampleOf seed side greys
+    ≡ record {
+      said = returned (stateAfter (cellCount (powerOf side)) seed ∷ []);
+      greys = sampleGreys (cellCount (powerOf side)) seed ++ drop (cellCount (powerOf side)) greys;
+    }
 unfolding sampleOf
 accepted-is seed side greys none = rw (none, sampleOf)
 

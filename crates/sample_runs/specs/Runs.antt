@@ -7,7 +7,8 @@ use native.Mathlib.Omega.{arith}
 use lib.ListN.{length, getD}
 use Rattle.definition.specs.Sample.{nextState, greyOf, sampleGreys, stateAfter}
 
-pub greys-in-turn : (m n state : ℕ) → sampleGreys (m + n) state ≡ sampleGreys m state ++ sampleGreys n (stateAfter m state)
+pub greys-in-turn : (m n state : ℕ)
+    → sampleGreys (m + n) state ≡ sampleGreys m state ++ sampleGreys n (stateAfter m state)
 unfolding sampleGreys stateAfter
 greys-in-turn zero n state = rw (zero-add n)
 greys-in-turn (suc m) n state = rw (suc-add m n, greys-in-turn m n (nextState state))

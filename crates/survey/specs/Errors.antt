@@ -1,5 +1,5 @@
--- What the inner functions of Levels sum up: the errors of rows and of squares of cells, and the squares of these over grids of blocks; and the laws of
--- their loops.
+-- What the inner functions of Levels sum up: the errors of rows and of squares of cells, and the squares of these over
+-- grids of blocks; and the laws of their loops.
 use mathlib.Core.Path.{_≡_, refl}
 use mathlib.Core.List.{List}
 use Prim.Native.Nat.{ℕ, _+_, _*_, _<_}
@@ -28,7 +28,8 @@ rowError greys serials from count = sumZTo count (λ y. cellError (getD greys (f
 abbrev pub squareError : List ℕ → List ℕ → ℕ → ℕ → ℕ → ℕ → ℤ
 squareError greys serials side s top left = sumZTo s (λ x. rowError greys serials ((top + x) * side + left) s)
 
--- the sum, over `count` blocks of s by s cells side by side from row `top` on, of the square of their errors; and over `count` rows of such blocks
+-- the sum, over `count` blocks of s by s cells side by side from row `top` on, of the square of their errors; and over
+-- `count` rows of such blocks
 abbrev pub blocksSum : List ℕ → List ℕ → ℕ → ℕ → ℕ → ℕ → ℕ
 blocksSum greys serials side s top count = sumTo count (λ b. squared (squareError greys serials side s top (b * s)))
 
@@ -52,11 +53,16 @@ module _ {grey serial : ℕ} (small : grey < 256) where
   pub error-dot : (serial ≡ 0 → ⊥) → TotalZ (cellError grey serial) 255 (toZ w64 grey -ℤ pos 255)
   error-dot n =
       let b = dot-one n .is in
-      rw (of-bits grey (omega arith), ← b) (record { is = refl; small = natAbs-within (pos grey -ℤ pos 255) 255 (simp zz (omega arith)) (simp zz (omega arith)) })
+      let most = natAbs-within (pos grey -ℤ pos 255) 255 (simp zz (omega arith)) (simp zz (omega arith)) in
+      rw (of-bits grey (omega arith), ← b) (record { is = refl; small = most })
 
 -- a row of a grid, and a block of such a row
-pub grid-row : {lent side s count a : ℕ} → GridAsked lent side s count → a < count → BlocksAsked lent side s (a * s) count
+pub grid-row : {lent side s count a : ℕ} → GridAsked lent side s count → a < count
+    → BlocksAsked lent side s (a * s) count
 grid-row {s = s} h lt = record { grid = h; down = omega (arith, h .across, mul-le-mul-right s lt) }
 
-pub row-block : {lent side s top count b : ℕ} → BlocksAsked lent side s top count → b < count → SquareAsked lent side s top (b * s)
-row-block h lt = let g = h .grid in record { small = g .small; down = h .down; across = grid-row g lt .down; room = g .room }
+pub row-block : {lent side s top count b : ℕ} → BlocksAsked lent side s top count → b < count
+    → SquareAsked lent side s top (b * s)
+row-block h lt =
+    let g = h .grid in
+    record { small = g .small; down = h .down; across = grid-row g lt .down; room = g .room }

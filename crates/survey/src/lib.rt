@@ -16,7 +16,8 @@ ghost use Rattle.checks.specs.Checks.{checked};
 ghost use Rattle.integers.specs.Totals.{Total, TotalZ};
 ghost use Rattle.blocks.specs.Squares.{rowMost, squareMost, RowAsked, SquareAsked};
 ghost use Rattle.survey.specs.Asked.{LevelsAsked, GridAsked, BlocksAsked};
-ghost use Rattle.survey.specs.Errors.{cellError, rowError, squareError, blocksSum, gridSum, squaredMost, blocksMost};
+ghost use Rattle.survey.specs.Errors.{cellError, rowError, squareError, blocksSum, gridSum};
+ghost use Rattle.survey.specs.Errors.{squaredMost, blocksMost};
 
 // The error of a cell: its grey, less 255 if it has a dot.
 fn cell_error(grey: u8, serial: u32) -> i64
