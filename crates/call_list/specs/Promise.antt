@@ -19,7 +19,7 @@ use Rattle.definition.specs.Load.{loadOf}
 use Rattle.definition.specs.Advance.{Reply, advanceOf}
 use Rattle.definition.specs.Calls.{Call, Held, heldAfterLoad, callOf, heldAfter, outcomesOf, heldAfterCalls, repliesOf, modelAfterCalls, modelReplies}
 use Rattle.definition.specs.declared.Progress.{Progress}
-use Rattle.guarantee.specs.Demand3.{Accepted, Holds}
+use Rattle.guarantee.specs.Demand3.{Accepted, Holds, Demand3}
 use Rattle.guarantee.specs.Theorem.{demand-3}
 
 -- call i of the list; a length that the slices do not give is 0
@@ -136,3 +136,8 @@ pub promised : (side : ℕ) (g : List ℕ) (p : List ℤ) (s o : List ℕ) {prog
     → held ≡ heldAfterCalls plain (record { progress = progress; pyramid = p′; serials = s′; order = o′ }) calls
     → Kept side g p s o calls held
 promised side g p s o said calls held e q = kept side g p s o calls held (q ∙ ap (λ (f : Held). heldAfterCalls plain f calls) (loaded-held side g p s o e))
+
+-- ---- what `run_calls` promises, by its fields: demand 3, of the very list of calls that was made
+pub demand-of-code : {side : ℕ} {g : List ℕ} {p : List ℤ} {s o : List ℕ} {calls : List Call} {held : Held}
+    → Kept side g p s o calls held → Accepted side g p s o → Demand3 plain side g p s o calls
+demand-of-code k accepted = rw (k .held-is) at (k .demand accepted)

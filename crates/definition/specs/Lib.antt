@@ -17,6 +17,7 @@ pub mod QuotePage
 pub mod Renewal
 pub mod Sample
 pub mod Plate
+pub mod Quote
 pub mod Calls
 pub mod Expected
 pub mod Plates

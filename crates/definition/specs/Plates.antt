@@ -1,4 +1,5 @@
--- Document 01, "Plates to check by hand": P1 to P12 as one table, and further plates, whose figures the reference wrote, as another.
+-- Document 01's plates: P1 to P12 as one table; further plates, whose figures the reference wrote, as another; and as
+-- a third a row for each sentence that these leave open.
 -- One proof computes all of it on the definitions. Rows that make holes ask the calls and the model.
 use mathlib.Core.Path.{_≡_, refl}
 use mathlib.Core.Bool.{Bool, true, false, cond, not, _&&_}
@@ -8,7 +9,7 @@ use lib.Dec.{eqb}
 use lib.ListN.{set, take, replicate}
 use lib.IntN.{ℤ, pos, negℤ, _+ℤ_}
 use Rattle.definition.specs.Lists.{sumTo, sumZTo, allTo, tabulateFrom, joined, repeated, eqZ}
-use Rattle.definition.specs.Answers.{Said, returned, finished, more, refused}
+use Rattle.definition.specs.Answers.{Said, returned, finished, more, refused, numberOf}
 use Rattle.definition.specs.Pyramid.{start, needed, cellCount, placeIn, rowAt, columnAt, levelOf, inLevel, entry, four, coarser, pyramidOver}
 use Rattle.definition.specs.Blocks.{blockSum, blockSumZ, greyAt, burnt, burntAt, greySum, greyTotal, dotsIn, allDots}
 use Rattle.definition.specs.Descent.{candidate, firstOfEquals, better, largest, descend}
@@ -26,7 +27,10 @@ use Rattle.definition.specs.QuotePage.{quoteCap, figures, alignedLine, q
 use Rattle.definition.specs.Renewal.{isNear, overThese, renewed, isSmall, entriesSmall, renewable, renewalOf}
 use Rattle.definition.specs.Sample.{nextState, greyOf, sampleGreys, stateAfter, sampleOf, sampleText}
 use Rattle.definition.specs.Plate.{refusedText, finishedOf, plateOf}
+use Rattle.definition.specs.Quote.{quoteOfMap, quoteOfText, quoteOf}
 use Rattle.definition.specs.Calls.{Call, Held, heldAfterLoad, callOf, heldAfter, outcomesOf, heldAfterCalls, repliesOf, modelRefusal, modelCall, modelReply, modelAfterCalls, modelReplies}
+use Rattle.definition.specs.declared.Progress.{Progress}
+use Rattle.definition.specs.declared.Refusal.the-variants as Refusal
 use Rattle.definition.specs.Expected.{greys4, order4, serials4, pyramid4, levels4, greys8, order8, serials8, pyramid8, levels8}
 
 -- ---- equal lists; what was said, as a list
@@ -169,8 +173,13 @@ unfoldable pub quoted : ℕ → ℕ → TextOutcome
 quoted level n = quotePageOf 2 p3 (after 1 p3 (9 ∷ []) .serials) level (replicate n 7)
 
 -- Advance on an unburnt sheet of side 2 whose first cell owes w and the others nothing
-unfoldable pub owed : ℕ → Reply
-owed w = advanceOf plain (record { side = 2; dots = 0 }) 9 (pos w ∷ pos w ∷ pos 0 ∷ pos 0 ∷ pos 0 ∷ []) p1 p1 .reply
+unfoldable pub owedWith : ℕ → ℕ → Reply
+owedWith budget w =
+    let pyramid = pos w ∷ pos w ∷ replicate 3 (pos 0) in
+    advanceOf plain (record { side = 2; dots = 0 }) budget pyramid p1 p1 .reply
+
+abbrev pub owed : ℕ → Reply
+owed w = owedWith 9 w
 
 -- Advance on a sheet of side 2 with one hole made: these serials and this order; the first two cells owe y and z, the others −1 each; the top is `off` too much
 unfoldable pub altered : ℕ → List ℕ → List ℕ → ℤ → ℤ → Reply
@@ -236,8 +245,6 @@ furtherPlates =
     ∷ (32, refuses (altered 0 (1 ∷ 0 ∷ 0 ∷ 0 ∷ []) (0 ∷ 0 ∷ 0 ∷ 0 ∷ []) (pos 0) (pos 65281) .said) 5)
     ∷ (33, refuses (altered 0 (1 ∷ 0 ∷ 0 ∷ 0 ∷ []) (0 ∷ 0 ∷ 0 ∷ 0 ∷ []) (pos 1) (minus 1) .said) 5)
     ∷ (34, refuses (altered 0 (1 ∷ 0 ∷ 0 ∷ 0 ∷ []) (0 ∷ 0 ∷ 0 ∷ 0 ∷ []) (pos 0) (minus 65281) .said) 5)
-    -- "64 alone on its line gives 2"
-    ∷ (35, same (plateOf (54 ∷ 52 ∷ 10 ∷ [])) (refusedText 2) && same (plateOf (replicate 4100 48)) (refusedText 9))
     -- document 02's quote page: P3's of level 0, with the byte past it, and of level 1; the cap where the quotient is just below a whole number, just above it, and above s²
     ∷ (36, same (saidAs (quoted 0 30 .said)) (0 ∷ 29 ∷ []) && same (quoted 0 30 .output) (lineP3 0 0 5 1 2 2 4 ++ 7 ∷ []))
     ∷ (37, same (quoted 1 116 .output) (lineP3 0 0 1 2 8 1 1 ++ lineP3 0 1 1 2 8 0 1 ++ lineP3 1 0 1 2 8 0 1 ++ lineP3 1 1 1 2 8 1 1))
@@ -259,11 +266,183 @@ furtherPlates =
     ∷ (49, same (take 17 sampleText) sampleBegins)
     ∷ []
 
+-- ---- rows for single sentences of the papers
+-- the number for each name of a refusal
+unfoldable pub numbers : List ℕ
+numbers =
+    map numberOf
+    (Refusal.SideUnknown ∷ Refusal.GreysShort ∷ Refusal.PyramidShort ∷ Refusal.SheetShort ∷ Refusal.SheetUnsound
+    ∷ Refusal.BlockUnknown ∷ Refusal.TextMalformed ∷ Refusal.OutputShort ∷ Refusal.InputLong ∷ [])
+
+-- a call that isn't refused says these values
+unfoldable pub says : Said → List ℕ → Bool
+says said values = same (saidAs said) (0 ∷ values)
+
+-- Load of a side, lent buffers of these lengths: greys, pyramid, serials, order
+unfoldable pub loads : ℕ → ℕ → ℕ → ℕ → ℕ → Said
+loads side g p s o = loadOf side (replicate g 0) (replicate p (pos 0)) (replicate s 0) (replicate o 0) .said
+
+-- a pyramid of side 2 with nothing in it but its top, of which p places are lent
+abbrev pub topOnly : ℕ → ℕ → List ℤ
+topOnly p top = take p (pos top ∷ replicate 4 (pos 0))
+
+-- Advance with the record (side, 0) on such a pyramid and unburnt serials and order of these lengths
+unfoldable pub advances : ℕ → ℕ → ℕ → ℕ → ℕ → Said
+advances side p s o top =
+    let record₀ : Progress = record { side = side; dots = 0 } in
+    advanceOf plain record₀ 9 (topOnly p top) (replicate s 0) (replicate o 0) .reply .said
+
+-- Drill List likewise, into an output of n places
+unfoldable pub lists : ℕ → ℕ → ℕ → ℕ → ℕ → ℕ → Said
+lists side p s o top n =
+    let record₀ : Progress = record { side = side; dots = 0 } in
+    drillListOf record₀ (topOnly p top) (replicate s 0) (replicate o 0) (replicate n 7) .said
+
+-- three zeros: one place less than a map of side 2 has cells
+abbrev pub three : List ℕ
+three = replicate 3 0
+
+-- Map Text, with room for so many greys; and a text for it: "2", a line of these bytes and ",0", and "0,0"
+unfoldable pub reads : List ℕ → ℕ → Said
+reads text room = mapTextOf text (replicate room 0) .said
+
+unfoldable pub textOfGrey : List ℕ → List ℕ
+textOfGrey grey = 50 ∷ 10 ∷ grey ++ 44 ∷ 48 ∷ 10 ∷ 48 ∷ 44 ∷ 48 ∷ 10 ∷ []
+
+-- Advance on a sheet of side 4 with one hole, where cell `low` owes −1 and the others nothing: 1 if it accepts that
+unfoldable pub acceptsLow : ℕ → ℕ → ℕ
+acceptsLow hole low =
+    let pyramid = pyramidOver 2 (set (replicate 16 (pos 0)) low (minus 1)) in
+    let serials : List ℕ = set (replicate 16 0) hole 1 in
+    let reply = advanceOf plain (record { side = 4; dots = 1 }) 0 pyramid serials (hole ∷ replicate 15 0) .reply in
+    cond (refuses (reply .said) 5) 0 1
+
+unfoldable pub lowBeside : ℕ → List ℕ
+lowBeside hole = tabulateFrom 0 16 (acceptsLow hole)
+
+-- Advance without buffers gives back the record that it was given, with no hole made
+unfoldable pub givesBack : ℕ → ℕ → Bool
+givesBack side dots =
+    let reply = advanceOf plain (record { side = side; dots = dots }) 9 [] [] [] .reply in
+    eqb (reply .progress .side) side && eqb (reply .progress .dots) dots && eqb (reply .made) 0
+
+-- the holes of a map of side 4 that is 255 at two cells and 0 elsewhere, in their order
+unfoldable pub orderOfTwo : ℕ → ℕ → List ℕ
+orderOfTwo x y = take 2 (after 2 (set (set (replicate 16 0) x 255) y 255) (9 ∷ []) .order)
+
+-- what the programs print: the line "refused,n" for a number of one digit
+unfoldable pub refusedLine : ℕ → List ℕ
+refusedLine n = 114 ∷ 101 ∷ 102 ∷ 117 ∷ 115 ∷ 101 ∷ 100 ∷ 44 ∷ (48 + n) ∷ 10 ∷ []
+
+unfoldable pub plateRefuses : List ℕ → ℕ → Bool
+plateRefuses input n = same (plateOf input) (refusedLine n)
+
+unfoldable pub quoteRefuses : List ℕ → ℕ → Bool
+quoteRefuses input n = same (quoteOf input) (refusedLine n)
+
+-- "64"; "x"; "0", for a level; "2", "0,255", "0,0", and its list "1,2", "1,0,1"; the digits of 429496729 and a last one
+unfoldable pub text64 : List ℕ
+text64 = 54 ∷ 52 ∷ 10 ∷ []
+
+unfoldable pub textX : List ℕ
+textX = 120 ∷ []
+
+unfoldable pub level0 : List ℕ
+level0 = 48 ∷ 10 ∷ []
+
+unfoldable pub textRight : List ℕ
+textRight = 50 ∷ 10 ∷ 48 ∷ 44 ∷ 50 ∷ 53 ∷ 53 ∷ 10 ∷ 48 ∷ 44 ∷ 48 ∷ 10 ∷ []
+
+unfoldable pub listRight : List ℕ
+listRight = 49 ∷ 44 ∷ 50 ∷ 10 ∷ 49 ∷ 44 ∷ 48 ∷ 44 ∷ 49 ∷ 10 ∷ []
+
+unfoldable pub tenDigits : ℕ → List ℕ
+tenDigits last = 52 ∷ 50 ∷ 57 ∷ 52 ∷ 57 ∷ 54 ∷ 55 ∷ 50 ∷ 57 ∷ last ∷ 10 ∷ []
+
+-- P3's quote page of level 1
+unfoldable pub pageP3 : List ℕ
+pageP3 = lineP3 0 0 1 2 8 1 1 ++ lineP3 0 1 1 2 8 0 1 ++ lineP3 1 0 1 2 8 0 1 ++ lineP3 1 1 1 2 8 1 1
+
+unfoldable pub singlePlates : List Row
+singlePlates =
+    -- the numbers of the table; the powers of 1, 2, 4 .. 512 as sides, and of other numbers; some needed lengths
+    (50, same numbers (1 ∷ 2 ∷ 3 ∷ 4 ∷ 5 ∷ 6 ∷ 7 ∷ 8 ∷ 9 ∷ []))
+    ∷ (51, same (tabulateFrom 0 10 (λ r. powerOf (2 ^ r))) (tabulateFrom 0 9 (λ r. r) ++ 0 ∷ []))
+    ∷ (51, same (map powerOf (0 ∷ 3 ∷ 5 ∷ 31 ∷ 33 ∷ 255 ∷ 257 ∷ [])) (replicate 7 0))
+    ∷ (52, eqb (needed 1) 5 && eqb (cellCount 1) 4 && eqb (needed 8) 87381 && eqb (cellCount 8) 65536)
+    -- the numbers of Load, Advance and Drill List in turn: each buffer one place short, and all behind it bad too
+    ∷ (53, refuses (loads 3 3 4 3 3) 1 && refuses (loads 2 3 4 3 3) 2 && refuses (loads 2 4 4 3 3) 3)
+    ∷ (53, refuses (loads 2 4 5 3 3) 4 && refuses (loads 2 4 5 4 3) 4 && says (loads 2 4 5 4 4) [])
+    ∷ (54, refuses (advances 3 4 3 3 1) 1 && refuses (advances 2 4 3 3 1) 3 && refuses (advances 2 5 3 3 1) 4)
+    ∷ (54, refuses (advances 2 5 4 3 1) 4 && refuses (advances 2 5 4 4 1) 5)
+    ∷ (54, same (saidAs (advances 2 5 4 4 0)) (saidAs finished))
+    ∷ (55, refuses (lists 3 4 3 3 1 3) 1 && refuses (lists 2 4 3 3 1 3) 3 && refuses (lists 2 5 3 3 1 3) 4)
+    ∷ (55, refuses (lists 2 5 4 3 1 3) 4 && refuses (lists 2 5 4 4 1 3) 5 && refuses (lists 2 5 4 4 0 3) 8)
+    ∷ (55, says (lists 2 5 4 4 0 4) (4 ∷ []))
+    -- those of Tally, Levels and Quote Page
+    ∷ (56, refuses (tallyOf 3 [] 9 0 0) 1 && refuses (tallyOf 2 three 9 0 0) 4 && refuses (tallyOf 2 p1 1 2 0) 6)
+    ∷ (57, refuses (levelsOf 3 [] [] .said) 1 && refuses (levelsOf 2 three [] .said) 2)
+    ∷ (57, refuses (levelsOf 2 p1 three .said) 4 && says (levelsOf 2 p1 p1 .said) [])
+    ∷ (58, refuses (quotePageOf 2 three three 2 [] .said) 2 && refuses (quotePageOf 2 p1 three 2 [] .said) 4)
+    -- Map Text: first lines of three and of four digits; its room; a grey of 255 and one of 256; the bytes just before
+    -- and just behind the digits, as a number's first and as its second
+    ∷ (59, refuses (reads (57 ∷ 57 ∷ 57 ∷ 10 ∷ []) 0) 1)
+    ∷ (59, refuses (reads (49 ∷ 48 ∷ 48 ∷ 48 ∷ 10 ∷ []) 0) 7)
+    ∷ (60, refuses (reads (textOfGrey (48 ∷ [])) 3) 2 && says (reads (textOfGrey (48 ∷ [])) 4) (2 ∷ []))
+    ∷ (61, says (reads (textOfGrey (50 ∷ 53 ∷ 53 ∷ [])) 4) (2 ∷ []))
+    ∷ (61, refuses (reads (textOfGrey (50 ∷ 53 ∷ 54 ∷ [])) 4) 7)
+    ∷ (62, refuses (reads (textOfGrey (47 ∷ [])) 4) 7 && refuses (reads (textOfGrey (58 ∷ [])) 4) 7)
+    ∷ (62, refuses (reads (textOfGrey (49 ∷ 47 ∷ [])) 4) 7 && refuses (reads (textOfGrey (49 ∷ 58 ∷ [])) 4) 7)
+    -- the record of a refused Load, and that of a refused Advance
+    ∷ (63, eqb (loadOf 2 [] [] [] [] .progress .side) 0 && eqb (loadOf 2 [] [] [] [] .progress .dots) 0)
+    ∷ (63, givesBack 3 7 && givesBack 2 7)
+    -- a top of just 32,640 and a budget of 0: a hole is due still
+    ∷ (64, replied ((0, more) ∷ []) (owedWith 0 32640 ∷ []))
+    ∷ (64, replied ((0, finished) ∷ []) (owedWith 0 32639 ∷ []))
+    -- beside one hole, only the cells around it may owe −1: not the hole itself, and none further off
+    ∷ (65, same (lowBeside 0) (0 ∷ 1 ∷ 0 ∷ 0 ∷ 1 ∷ 1 ∷ replicate 10 0))
+    ∷ (65, same (lowBeside 6) (0 ∷ 1 ∷ 1 ∷ 1 ∷ 0 ∷ 1 ∷ 0 ∷ 1 ∷ 0 ∷ 1 ∷ 1 ∷ 1 ∷ replicate 4 0))
+    -- the last place of the order list has to be unused too
+    ∷ (66, refuses (altered 0 (1 ∷ 0 ∷ 0 ∷ 0 ∷ []) (0 ∷ 0 ∷ 0 ∷ 3 ∷ []) (pos 0) (minus 1) .said) 5)
+    -- a list in which rows and columns differ
+    ∷ (67, same (plateOf textRight) listRight)
+    -- equal quarters above the cells: of each two neighbours in the order of the descent, the first
+    ∷ (68, same (orderOfTwo 0 2) (0 ∷ 2 ∷ []) && same (orderOfTwo 3 12) (3 ∷ 12 ∷ []))
+    ∷ (68, same (orderOfTwo 8 15) (8 ∷ 15 ∷ []))
+    -- `plate`: no map text, side 3, side 64; an input of 4,099 bytes is read (this is no map text), one of 4,100 is not
+    ∷ (69, plateRefuses textX 7 && plateRefuses (51 ∷ 10 ∷ []) 1 && plateRefuses text64 2)
+    ∷ (69, plateRefuses (replicate 4099 48) 7 && plateRefuses (replicate 4100 48) 9)
+    -- `quote`: P3's pages of both levels; a level too many, and the largest number of 32 bits; nothing, no number, a
+    -- leading zero, a number of 33 bits; the refusals of the map text
+    ∷ (70, same (quoteOf (level0 ++ textP3)) (lineP3 0 0 5 1 2 2 4) && same (quoteOf (49 ∷ 10 ∷ textP3)) pageP3)
+    ∷ (71, quoteRefuses (50 ∷ 10 ∷ textP3) 6 && quoteRefuses (tenDigits 53 ++ textP3) 6)
+    ∷ (72, quoteRefuses [] 7 && quoteRefuses textX 7 && quoteRefuses (48 ∷ level0 ++ textP3) 7)
+    ∷ (72, quoteRefuses (tenDigits 54 ++ textP3) 7)
+    ∷ (73, quoteRefuses (level0 ++ textX) 7 && quoteRefuses (level0 ++ 51 ∷ 10 ∷ []) 1)
+    ∷ (73, quoteRefuses (level0 ++ text64) 2)
+    ∷ []
+
 -- the number of the first row that doesn't hold; 0 if they all do
 unfoldable pub firstFailing : List Row → ℕ
 firstFailing [] = 0
 firstFailing (row ∷ rows) = elim (row .1) [ true ↦ firstFailing rows | false ↦ row .0 ]
 
-pub plates-hold : firstFailing (plates ++ furtherPlates) ≡ 0
-unfolding sumTo sumZTo allTo tabulateFrom joined repeated eqZ start placeIn rowAt columnAt levelOf inLevel entry four coarser pyramidOver blockSum blockSumZ greyAt burnt burntAt greySum greyTotal dotsIn allDots candidate firstOfEquals better largest descend plain within onMap weightAt share diffuse topOf modelStart missing placeDot step steps burntNear everyEntry fewDots numbered counted unused summed bounded owing isSound powerUpTo powerOf lowest greysRefusal loadRefusal loaded loadOf dotsDue saidAt sheetIn advanceRefusal advanced advanceOf tallyRefusal tallyOf errorAt squared levelSum levelsRefusal levelsOf digitsUpTo decimal rightAligned line lineEnds isDigit digitsThen fieldOf textInto rowsText mapText valuesOf readGreys readMap mapTextOf dotLines drillText drillListRefusal drillListOf quoteCap figures alignedLine quoteText quotePageRefusal quotePageOf isNear overThese renewed isSmall entriesSmall renewable renewalOf nextState greyOf sampleGreys stateAfter sampleOf sampleText refusedText finishedOf plateOf heldAfterLoad callOf heldAfter outcomesOf heldAfterCalls repliesOf modelRefusal modelCall modelReply modelAfterCalls modelReplies greys4 order4 serials4 pyramid4 levels4 greys8 order8 serials8 pyramid8 levels8 same sameZ saidAs refuses loadedMap callsOf after modelAfter replied answers leaves sharesFrom shares total p1 p2 p3 p6 textP3 listP3 listed lineP3 quoted owed altered renews4 renews8 leftAlone samples sampleBegins plates furtherPlates firstFailing
+pub plates-hold : firstFailing (plates ++ furtherPlates ++ singlePlates) ≡ 0
+unfolding sumTo sumZTo allTo tabulateFrom joined repeated eqZ numberOf start placeIn rowAt columnAt levelOf
+    inLevel entry four coarser pyramidOver blockSum blockSumZ greyAt burnt burntAt greySum greyTotal dotsIn
+    allDots candidate firstOfEquals better largest descend plain within onMap weightAt share diffuse topOf
+    modelStart missing placeDot step steps burntNear everyEntry fewDots numbered counted unused summed bounded
+    owing isSound powerUpTo powerOf lowest greysRefusal loadRefusal loaded loadOf dotsDue saidAt sheetIn
+    advanceRefusal advanced advanceOf tallyRefusal tallyOf errorAt squared levelSum levelsRefusal levelsOf
+    digitsUpTo decimal rightAligned line lineEnds isDigit digitsThen fieldOf textInto rowsText mapText
+    valuesOf readGreys readMap mapTextOf dotLines drillText drillListRefusal drillListOf quoteCap figures
+    alignedLine quoteText quotePageRefusal quotePageOf isNear overThese renewed isSmall entriesSmall renewable
+    renewalOf nextState greyOf sampleGreys stateAfter sampleOf sampleText refusedText finishedOf plateOf
+    quoteOfMap quoteOfText quoteOf heldAfterLoad callOf heldAfter outcomesOf heldAfterCalls repliesOf
+    modelRefusal modelCall modelReply modelAfterCalls modelReplies greys4 order4 serials4 pyramid4 levels4
+    greys8 order8 serials8 pyramid8 levels8 same sameZ saidAs refuses loadedMap callsOf after modelAfter
+    replied answers leaves sharesFrom shares total p1 p2 p3 p6 textP3 listP3 listed lineP3 quoted owedWith
+    altered renews4 renews8 leftAlone samples sampleBegins numbers says loads advances lists reads textOfGrey
+    acceptsLow lowBeside givesBack orderOfTwo refusedLine plateRefuses quoteRefuses text64 textX level0
+    textRight listRight tenDigits pageP3 plates furtherPlates singlePlates firstFailing
 plates-hold = refl

@@ -7,5 +7,6 @@ pub mod Start
 pub mod OneCall
 pub mod ManyCalls
 pub mod Theorem
+pub mod Clauses
 pub mod Sharp
 pub mod Example

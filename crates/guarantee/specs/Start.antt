@@ -30,11 +30,15 @@ use Rattle.guarantee.specs.Demand3.{Each, Accepted}
 use Rattle.guarantee.specs.Capped.{Capped}
 use Rattle.guarantee.specs.Lent.{heldOf}
 
--- what holds of each element holds at each place, where it holds of the default
+-- what holds of each element holds at each place, where it holds of the default; and the other way round
 each-getD : {A : Type 0} (P : A → Type 0) (l : List A) (d : A) → P d → Each P l → (i : ℕ) → P (getD l i d)
 each-getD P [] d z h i = z
 each-getD P (x ∷ xs) d z h zero = h .0
 each-getD P (x ∷ xs) d z h (suc i) = each-getD P xs d z (h .1) i
+
+pub each-of : {A : Type 0} (P : A → Type 0) (l : List A) (d : A) → ((i : ℕ) → i < length l → P (getD l i d)) → Each P l
+each-of P [] d h = tt
+each-of P (x ∷ xs) d h = (h 0 (omega arith), each-of P xs d (λ i k. h (suc i) (omega arith)))
 
 pub grey-byte : (greys : List ℕ) → Each (λ grey. grey ≤ 255) greys → (i : ℕ) → getD greys i 0 ≤ 255
 grey-byte greys bytes i = each-getD (λ grey. grey ≤ 255) greys 0 (omega arith) bytes i

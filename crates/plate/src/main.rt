@@ -2,7 +2,7 @@
 fn main() {
     let mut input = io::large_buffer();
     let n = io::read_full(0, &mut input);
-    let text = plate_text::plate_text(&input[..n]);
+    let text = program_texts::plate_text(&input[..n]);
     let bytes = text.bytes;
     let length = text.length;
     io::write_all(1, &bytes[..length]);

@@ -214,3 +214,25 @@ pub renewed-says : (r : ℕ) (these : ℕ → ℕ → Bool) (before : List ℤ) 
 unfolding renewed
 renewed-says zero these before long = record { same-length = refl; cells = λ x y. refl; sums = λ j k a b e. absurd (omega arith); others = λ j k a b e. absurd (omega arith) }
 renewed-says (suc k) these before long = says k these before long _ (renewed-says k (overThese these) (coarse k these before long) (coarse-long k these before long))
+
+-- ---- what the request asks for, written out clause by clause, each taken from a field
+module _ (r : ℕ) (these : ℕ → ℕ → Bool) (before : List ℤ) (long : length before ≡ start (suc r)) where
+  abbrev renewal : List ℤ
+  renewal = renewed r these before
+
+  says-so : Renewed r these before renewal
+  says-so = renewed-says r these before long
+
+  pub renewed-length : length renewal ≡ length before
+  renewed-length = says-so .same-length
+
+  pub renewed-cells : (x y : ℕ) → entry renewal r x y ≡ entry before r x y
+  renewed-cells = says-so .cells
+
+  -- an entry of level k, at least one level above the cells
+  module _ (j k a b : ℕ) (coarser : suc j + k ≡ r) (row : a < 2 ^ k) (column : b < 2 ^ k) where
+    pub over-these : overAt (suc j) these a b ≡ true → entry renewal k a b ≡ four (entry renewal (suc k)) a b
+    over-these = says-so .sums j k a b coarser row column
+
+    pub not-over-these : overAt (suc j) these a b ≡ false → entry renewal k a b ≡ entry before k a b
+    not-over-these = says-so .others j k a b coarser row column

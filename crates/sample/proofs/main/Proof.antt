@@ -1,8 +1,6 @@
 -- `sample::main`: the text's length is at most that of its array.
-use mathlib.Core.Path.{sym}
-use native.Mathlib.Omega.{arith}
 use borrow.Author.Needs.{needs}
-use lib.Seq.{length-take-le}
+use Rattle.program_texts.specs.Written.{within, part}
 use Rattle.sample.proofs.main.Statement.{statement}
 use Rattle.sample.proofs.main.Tie as tie
 
@@ -10,9 +8,8 @@ pub main-spec : {M : Type 1} → statement M
 main-spec =
     tie.close
     (tie.spec
-    (λ c. search needs)
     (λ c κs. search needs)
-    (λ c. search needs)
-    (λ c. sym (length-take-le _ _ (omega arith)))
+    (λ c. let text = c .before .sample-text in within (text .result .bytes) (text .ensures .1) (text .ok .1 .1 .0 .1 .0 .1))
+    (λ c. let text = c .before .before .sample-text in part (text .result .bytes) (text .ensures .1) (text .ok .1 .1 .0 .1 .0 .1))
     (λ c κs. search needs)
     (λ c. search needs))

@@ -1,0 +1,30 @@
+-- The program `quote` (docs/DECISIONS.md 61): what it prints for an input, a line with a level and then a map text.
+use mathlib.Core.Bool.{true, false}
+use mathlib.Core.List.{List}
+use Prim.Native.Nat.{ℕ}
+use lib.Dec.{ltb}
+use Rattle.definition.specs.Diffusion.{plain}
+use Rattle.definition.specs.Refusals.{powerOf}
+use Rattle.definition.specs.Text.{newline, field, malformed, fieldOf}
+use Rattle.definition.specs.MapText.{accepted, rejected, readMap}
+use Rattle.definition.specs.QuotePage.{quoteText}
+use Rattle.definition.specs.Plate.{refusedText, finishedOf}
+
+-- the quote page of the finished map for a level; 6 for a level that the map hasn't
+unfoldable pub quoteOfMap : ℕ → ℕ → List ℕ → List ℕ
+quoteOfMap level side greys =
+    let r = powerOf side in
+    elim (ltb r level) [ true ↦ refusedText 6 | false ↦ quoteText r greys (finishedOf plain r greys .serials) level ]
+
+-- the map text behind the level's line is read as `plate` reads its own, with room for 1,024 greys
+unfoldable pub quoteOfText : ℕ → List ℕ → List ℕ
+quoteOfText level text =
+    elim (readMap text 1024) [ accepted side greys ↦ quoteOfMap level side greys | rejected n ↦ refusedText n ]
+
+-- a level is any number of 32 bits; where the input doesn't begin with one on its line, that is 7
+unfoldable pub quoteOf : List ℕ → List ℕ
+quoteOf input =
+    elim (fieldOf 4294967295 newline input) [
+      | malformed ↦ refusedText 7
+      | field level text ↦ quoteOfText level text
+    ]

@@ -1,0 +1,185 @@
+-- What is signed, clause by clause, for every list of calls after an accepted Load: demand 3 of document 01, the floor and
+-- the quote page of document 02. Each clause is written out with its own figures and taken from a field of `demand-3`, so
+-- none of them can go, or say less, unnoticed. The last law says who may ask: nobody is left out.
+use mathlib.Core.Path.{_≡_, ap, _∙_}
+use mathlib.Core.Logic.{_≢_, _↔_}
+use mathlib.Core.Bool.{false}
+use mathlib.Core.List.{List, []}
+use Prim.Native.Nat.{ℕ, suc, _+_, _*_, _-_, _/_, _^_, _≤_, _<_, min}
+use native.Mathlib.Omega.{arith}
+use lib.ListN.{length, getD, take, drop}
+use lib.IntN.{ℤ, pos, _+ℤ_}
+use lib.Signed.{_<ℤ_}
+use Rattle.definition.specs.Answers.{returned, finished}
+use Rattle.definition.specs.Pyramid.{start}
+use Rattle.definition.specs.Blocks.{greySum, greyTotal, dotsIn, allDots}
+use Rattle.definition.specs.Diffusion.{plain}
+use Rattle.definition.specs.Model.{Halftone, topOf, modelStart, steps}
+use Rattle.definition.specs.Refusals.{powerOf}
+use Rattle.definition.specs.Load.{loadRefusal, loaded, loadOf}
+use Rattle.definition.specs.Advance.{Reply, AdvanceOutcome}
+use Rattle.definition.specs.QuotePage.{quoteCap, figures}
+use Rattle.definition.specs.Calls.{
+  Call,
+  Held,
+  heldAfterLoad,
+  outcomesOf,
+  heldAfterCalls,
+  repliesOf,
+  modelAfterCalls,
+  modelReplies,
+  isRefusal,
+  granted,
+}
+use Rattle.refusals.specs.Powers.{powerOf-pow}
+use Rattle.refusals.specs.Lowest.{LoadLent, load-none}
+use Rattle.guarantee.specs.Demand3.{Each, Accepted, Demand3}
+use Rattle.guarantee.specs.Start.{each-of}
+use Rattle.guarantee.specs.Theorem.{demand-3}
+
+module _ (side : ℕ) (greys : List ℕ) (pyramid : List ℤ) (serials order : List ℕ)
+    (accepted : Accepted side greys pyramid serials order) (calls : List Call) where
+  -- the power, N, and the sum of all greys
+  abbrev r : ℕ
+  r = powerOf side
+
+  abbrev N : ℕ
+  N = 2 ^ r
+
+  abbrev G : ℕ
+  G = greyTotal r greys
+
+  -- what the caller holds after Load and after all calls, and what each call left and answered
+  abbrev fresh : Held
+  fresh = heldAfterLoad side greys pyramid serials order
+
+  abbrev held : Held
+  held = heldAfterCalls plain fresh calls
+
+  abbrev outcomes : List AdvanceOutcome
+  outcomes = outcomesOf plain fresh calls
+
+  abbrev replies : List Reply
+  replies = repliesOf plain fresh calls
+
+  -- the model, fed with the same calls
+  abbrev model : Halftone
+  model = modelAfterCalls plain r (modelStart r greys) calls
+
+  abbrev holes : ℕ
+  holes = held .progress .dots
+
+  demand : Demand3 plain side greys pyramid serials order calls
+  demand = demand-3 side greys pyramid serials order accepted calls
+
+  -- buffers, record and answers are the model's
+  pub pyramid-as-model : take ((4 ^ suc r - 1) / 3) (held .pyramid) ≡ model .pyramid
+  unfolding start
+  pyramid-as-model = demand .pyramid
+
+  pub serials-as-model : take (N * N) (held .serials) ≡ model .serials
+  serials-as-model = demand .serials
+
+  pub order-as-model : take (N * N) (held .order) ≡ model .order
+  order-as-model = demand .order
+
+  pub record-as-model : (held .progress .side ≡ N) × (holes ≡ model .dots)
+  record-as-model = (ap (λ p. p .side) (demand .progress), ap (λ p. p .dots) (demand .progress))
+
+  pub answers-as-model : replies ≡ modelReplies plain r (modelStart r greys) calls
+  answers-as-model = demand .answered
+
+  -- and what the model has is its first holes for these greys
+  pub first-holes : model ≡ steps plain r holes (modelStart r greys)
+  first-holes = demand .first-dots
+
+  -- past the needed lengths nothing has changed
+  pub pyramid-untouched : drop ((4 ^ suc r - 1) / 3) (held .pyramid) ≡ drop ((4 ^ suc r - 1) / 3) pyramid
+  unfolding start
+  pyramid-untouched = demand .pyramid-rest
+
+  pub serials-untouched : drop (N * N) (held .serials) ≡ drop (N * N) serials
+  serials-untouched = demand .serials-rest
+
+  pub order-untouched : drop (N * N) (held .order) ≡ drop (N * N) order
+  order-untouched = demand .order-rest
+
+  -- the number of holes, counted on the whole map: the total, or what the calls not refused were granted, if that is less
+  pub number-of-holes : allDots r (held .serials) ≡ min ((2 * G + 255) / 510) (granted calls replies)
+  number-of-holes = demand .all-dots ∙ demand .number
+
+  -- and the record counts the same
+  pub holes-counted : allDots r (held .serials) ≡ holes
+  holes-counted = demand .all-dots
+
+  -- no cell is burnt twice
+  pub no-cell-twice : (i j : ℕ) → i < j → j < holes → getD (held .order) i 0 ≢ getD (held .order) j 0
+  no-cell-twice = demand .once
+
+  -- what is still owed
+  pub still-owed : pos (65280 * holes) +ℤ topOf (held .pyramid) ≡ pos (256 * G)
+  still-owed = demand .debt
+
+  -- of a call that isn't refused: it says finished just if all holes are made
+  pub finished-just-then : Each
+      (λ out. isRefusal (out .reply .said) ≡ false
+      → (out .reply .said ≡ finished) ↔ (allDots r (out .serials) ≡ (2 * G + 255) / 510))
+      outcomes
+  finished-just-then = demand .ends
+
+  -- every aligned square, with s cells along its side and the grey sum g
+  module _ (k a b : ℕ) (level : k ≤ r) (row : a < 2 ^ k) (column : b < 2 ^ k) where
+    abbrev s : ℕ
+    s = N / 2 ^ k
+
+    abbrev g : ℕ
+    g = greySum r greys k a b
+
+    abbrev square-holes : ℕ
+    square-holes = dotsIn r (held .serials) k a b
+
+    pub under-the-cap : 765 * square-holes < 3 * g + 765 + 1020 * s
+    under-the-cap = demand .cap k a b level row column
+
+    pub over-the-floor : topOf (held .pyramid) <ℤ pos 32640
+        → 2 * g < 510 * square-holes + 255 + 1530 * k + 2040 * (N - s)
+    over-the-floor low = demand .floor low k a b level row column
+
+    -- on the quote page the holes are at most the cap, and every figure fits its column
+    pub printed-under-cap : square-holes ≤ min (s * s) ((3 * g + 764 + 1020 * s) / 765)
+    unfolding figures quoteCap
+    printed-under-cap = demand .quotes k a b level row column .within
+
+    pub columns-wide-enough :
+        (a < 10 ^ 3) × (b < 10 ^ 3) × (g < 10 ^ 8) × (square-holes < 10 ^ 5)
+        × (min (s * s) ((3 * g + 764 + 1020 * s) / 765) < 10 ^ 5)
+    unfolding figures quoteCap
+    columns-wide-enough =
+        let fits = demand .quotes k a b level row column .fits in
+        (fits .0, fits .1 .0, fits .1 .1 .0, fits .1 .1 .1 .0, fits .1 .1 .1 .1 .0)
+
+-- ---- who may ask: each of the eight sides, with bytes as greys and buffers of the needed lengths or more, whatever they hold
+pub everyone : (r : ℕ) → 1 ≤ r → r ≤ 8 → (greys : List ℕ) (pyramid : List ℤ) (serials order : List ℕ)
+    → 2 ^ r * 2 ^ r ≤ length greys → (4 ^ suc r - 1) / 3 ≤ length pyramid
+    → 2 ^ r * 2 ^ r ≤ length serials → 2 ^ r * 2 ^ r ≤ length order
+    → ((i : ℕ) → i < length greys → getD greys i 0 ≤ 255) → Accepted (2 ^ r) greys pyramid serials order
+everyone r some most greys pyramid serials order g p s o bytes =
+    record { bytes = each-of (λ grey. grey ≤ 255) greys 0 bytes; said = said }
+  where
+    lent : LoadLent r (length greys) (length pyramid) (length serials) (length order)
+    lent =
+        record {
+          power = some;
+          greys-long = g;
+          pyramid-long = unfold start in p;
+          serials-long = s;
+          order-long = o;
+        }
+
+    none : loadRefusal (powerOf (2 ^ r)) (length greys) (length pyramid) (length serials) (length order) ≡ 0
+    none =
+        rw (powerOf-pow r some most)
+        (load-none r (length greys) (length pyramid) (length serials) (length order) .1 lent)
+
+    said : loadOf (2 ^ r) greys pyramid serials order .said ≡ returned []
+    said = unfold loadOf loaded in rw (none, loadOf)

@@ -1,0 +1,11 @@
+pub mod Lengths
+pub mod Greys
+pub mod Finished
+pub mod Promised
+pub mod Listing
+pub mod Fronts
+pub mod Quoting
+pub mod Outputs
+pub mod FirstLine
+pub mod Sampled
+pub mod Written
