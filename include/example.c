@@ -4,14 +4,34 @@
  *     rt staticlib rulmedei
  *     gcc -std=c99 -Wall -Wextra -Werror -Iinclude include/example.c target/staticlib/librulmedei.a -o target/example
  *     printf '2\n128,128\n128,128\n' | target/example
+ *
+ * The exit status is 0 if the whole list was written, 1 if the text was refused, and 3 if reading or writing failed.
  */
 #include <stdio.h>
 
 #include "rulmedei.h"
 
-/* the largest map, its text and its list: a line has at most 15 bytes */
-enum { SIDE = 256, CELLS = SIDE * SIDE, PYRAMID = (4 * CELLS - 1) / 3, TEXT = 4 + 4 * CELLS, LIST = 15 * (CELLS + 1) };
+/* for the largest map; its text has a line with the side, then for each grey at most three digits and what ends it */
+#define CELLS RULMEDEI_CELLS(256)
+#define PYRAMID RULMEDEI_PYRAMID(256)
+#define TEXT (4 + 4 * CELLS)
+#define LIST RULMEDEI_LIST(256)
 
+enum { WRITTEN = 0, REFUSED = 1, FAILED = 3 };
+
+/* the refusals that the calls give, in the words of rulmedei.h */
+static const char *const words[] = {
+    [RULMEDEI_SIDE_UNKNOWN] = "the side is not one of 2, 4, 8, 16, 32, 64, 128, 256",
+    [RULMEDEI_GREYS_SHORT] = "the greys buffer is shorter than N * N",
+    [RULMEDEI_PYRAMID_SHORT] = "the pyramid is shorter than needed",
+    [RULMEDEI_SHEET_SHORT] = "the serial sheet, or the order list where it is lent, is shorter than N * N",
+    [RULMEDEI_SHEET_UNSOUND] = "the sheet is not sound: Load and Advance leave no such buffers with this record",
+    [RULMEDEI_BLOCK_UNKNOWN] = "the level is past the map's last, or the row or column not below 2^level",
+    [RULMEDEI_TEXT_MALFORMED] = "the text does not fit the grammar of map texts",
+    [RULMEDEI_OUTPUT_SHORT] = "the output is shorter than the list or page",
+};
+
+/* one byte more than the longest text, so that a longer one is seen to be none */
 static uint8_t text[TEXT + 1];
 static uint8_t greys[CELLS];
 static int64_t pyramid[PYRAMID];
@@ -19,10 +39,10 @@ static uint32_t serials[CELLS];
 static uint32_t order[CELLS];
 static uint8_t list[LIST];
 
-static uint32_t load_text(size_t length, uint32_t *side, uint32_t *dots)
+static uint32_t load_text(size_t text_length, uint32_t *side, uint32_t *dots)
 {
     uint32_t read = 0;
-    uint32_t code = rulmedei_map_text(text, length, greys, CELLS, &read);
+    uint32_t code = rulmedei_map_text(text, text_length, greys, CELLS, &read);
     if (code != RULMEDEI_DONE)
         return code;
     return rulmedei_load(read, greys, CELLS, pyramid, PYRAMID, serials, CELLS, order, CELLS, side, dots);
@@ -40,23 +60,41 @@ static uint32_t run(uint32_t side, uint32_t *dots)
     return code;
 }
 
-static uint32_t print_list(uint32_t side, uint32_t dots)
+/* the list of the text, whole */
+static uint32_t list_of(size_t text_length, size_t *length)
 {
-    size_t length = 0;
-    uint32_t code = rulmedei_drill_list(side, dots, pyramid, PYRAMID, serials, CELLS, order, CELLS, list, LIST, &length);
-    fwrite(list, 1, length, stdout);
+    uint32_t side = 0, dots = 0;
+    uint32_t code = load_text(text_length, &side, &dots);
+    if (code == RULMEDEI_DONE)
+        code = run(side, &dots);
+    if (code == RULMEDEI_DONE)
+        code = rulmedei_drill_list(side, dots, pyramid, PYRAMID, serials, CELLS, order, CELLS, list, LIST, length);
     return code;
+}
+
+/* a full disk may show only when standard output is flushed, or closed */
+static int print_list(size_t length)
+{
+    size_t written = fwrite(list, 1, length, stdout);
+    int closed = fclose(stdout) == 0;
+    return written == length && closed;
 }
 
 int main(void)
 {
-    uint32_t side = 0, dots = 0;
-    uint32_t code = load_text(fread(text, 1, sizeof text, stdin), &side, &dots);
-    if (code == RULMEDEI_DONE)
-        code = run(side, &dots);
-    if (code == RULMEDEI_DONE)
-        code = print_list(side, dots);
-    if (code != RULMEDEI_DONE)
-        fprintf(stderr, "refused: %u\n", (unsigned)code);
-    return (int)code;
+    size_t text_length = fread(text, 1, sizeof text, stdin), length = 0;
+    if (ferror(stdin)) {
+        fprintf(stderr, "the text could not be read\n");
+        return FAILED;
+    }
+    uint32_t code = list_of(text_length, &length);
+    if (code != RULMEDEI_DONE) {
+        fprintf(stderr, "refused, %u: %s\n", (unsigned)code, words[code]);
+        return REFUSED;
+    }
+    if (!print_list(length)) {
+        fprintf(stderr, "the list could not be written\n");
+        return FAILED;
+    }
+    return WRITTEN;
 }

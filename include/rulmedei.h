@@ -1,19 +1,21 @@
 /*
  * Rulmedei: grey maps to ordered lists of holes. The eight calls for C, and the renewal of sums by itself.
  *
- * `rt staticlib rulmedei` writes target/staticlib/librulmedei.a, for x86-64 Linux. It needs the C library and nothing else.
+ * `rt staticlib rulmedei` writes target/staticlib/librulmedei.a, for x86-64 Linux. It needs the C library and nothing
+ * else.
  *
  * What a caller must ensure. The proofs assume it, and nothing tests it at run time:
  *
- * - Every pointer is valid for its length: for that many elements of its type, or for one where no length follows it. It is aligned for
- *   its type, and it is not null, even where the length is 0.
+ * - Every pointer is valid for its length: for that many elements of its type, or for one where no length follows it.
+ *   It is aligned for its type, and it is not null, even where the length is 0.
  * - Every element lent is initialised, also one that is only written.
  * - No part that a call may write (a pointer without const) overlaps another part of the same call, written or read.
  * - During a call nothing else writes what is lent, and nothing else reads a part that the call may write.
  * - All parts lent to a call take fewer than 2^63 bytes together.
  *
- * Nothing else is asked. Numbers may have any value, parts any length and buffers any contents: what does not fit is refused, and by
- * rulmedei_renew left alone. A call keeps no pointer and has no state of its own, so calls on different buffers may run at the same time.
+ * Nothing else is asked. Numbers may have any value, parts any length and buffers any contents: what does not fit is
+ * refused, and by rulmedei_renew left alone. A call keeps no pointer and has no state of its own, so calls on different
+ * buffers may run at the same time.
  *
  * A slice is two arguments: a pointer to its first element, then the number of its elements.
  */
@@ -28,26 +30,27 @@ extern "C" {
 #endif
 
 /*
- * What a call returns: RULMEDEI_DONE, for rulmedei_advance also RULMEDEI_MORE, or the number of a refusal. A refused call leaves pyramid,
- * serials, order, greys and out as they were. The lowest number that applies is returned; rulmedei_map_text has an order of its own.
- * rulmedei_renew, which is none of the eight calls, has no refusal numbers: it returns RULMEDEI_DONE or RULMEDEI_NOT_RENEWED.
+ * What a call returns: RULMEDEI_DONE, for rulmedei_advance also RULMEDEI_MORE, or the number of a refusal. A refused
+ * call leaves pyramid, serials, order, greys and out as they were. The lowest number that applies is returned;
+ * rulmedei_map_text has an order of its own. rulmedei_renew, which is none of the eight calls, has no refusal numbers:
+ * it returns RULMEDEI_DONE or RULMEDEI_NOT_RENEWED.
  */
 #define RULMEDEI_DONE 0
-#define RULMEDEI_MORE 100           /* rulmedei_advance: further holes are due */
-#define RULMEDEI_NOT_RENEWED 101    /* rulmedei_renew: outside what it promises; nothing was changed */
-#define RULMEDEI_SIDE_UNKNOWN 1     /* the side is not one of 2, 4, 8, 16, 32, 64, 128, 256 */
-#define RULMEDEI_GREYS_SHORT 2      /* the greys buffer is shorter than N * N */
-#define RULMEDEI_PYRAMID_SHORT 3    /* the pyramid is shorter than needed */
-#define RULMEDEI_SHEET_SHORT 4      /* the serial sheet, or the order list where it is lent, is shorter than N * N */
-#define RULMEDEI_SHEET_UNSOUND 5    /* the sheet is not sound: Load and Advance leave no such buffers with this record */
-#define RULMEDEI_BLOCK_UNKNOWN 6    /* the level is past the map's last, or the row or column not below 2^level */
-#define RULMEDEI_TEXT_MALFORMED 7   /* the text does not fit the grammar of map texts */
-#define RULMEDEI_OUTPUT_SHORT 8     /* the output is shorter than the list or page */
-#define RULMEDEI_INPUT_LONG 9       /* the input is longer than 4,099 bytes: the program plate only, no call here returns it */
+#define RULMEDEI_MORE 100         /* rulmedei_advance: further holes are due */
+#define RULMEDEI_NOT_RENEWED 101  /* rulmedei_renew: outside what it promises; nothing was changed */
+#define RULMEDEI_SIDE_UNKNOWN 1   /* the side is not one of 2, 4, 8, 16, 32, 64, 128, 256 */
+#define RULMEDEI_GREYS_SHORT 2    /* the greys buffer is shorter than N * N */
+#define RULMEDEI_PYRAMID_SHORT 3  /* the pyramid is shorter than needed */
+#define RULMEDEI_SHEET_SHORT 4    /* the serial sheet, or the order list where it is lent, is shorter than N * N */
+#define RULMEDEI_SHEET_UNSOUND 5  /* the sheet is not sound: Load and Advance leave no such buffers with this record */
+#define RULMEDEI_BLOCK_UNKNOWN 6  /* the level is past the map's last, or the row or column not below 2^level */
+#define RULMEDEI_TEXT_MALFORMED 7 /* the text does not fit the grammar of map texts */
+#define RULMEDEI_OUTPUT_SHORT 8   /* the output is shorter than the list or page */
+#define RULMEDEI_INPUT_LONG 9     /* the input is longer than 4,099 bytes: the program plate only, none of the calls */
 
 /*
- * The lengths that a map of side N needs, in elements: N * N for greys, serials and order, and (4 * N * N - 1) / 3 for the pyramid. A
- * longer buffer will do; what lies past the needed length is neither read nor written.
+ * The lengths that a map of side N needs, in elements: N * N for greys, serials and order, and (4 * N * N - 1) / 3 for
+ * the pyramid. A longer buffer will do; what lies past the needed length is neither read nor written.
  *
  *     N               2    4    8    16    32    64    128    256
  *     cells           4   16   64   256  1024  4096  16384  65536
@@ -57,8 +60,16 @@ extern "C" {
 #define RULMEDEI_PYRAMID(n) ((4 * (size_t)(n) * (size_t)(n) - 1) / 3)
 
 /*
- * Load: fills the pyramid from the greys (by row, then column) and sets the cells of serials and order to 0. The record is written to
- * progress_side and progress_dots: the side and 0 holes, or 0 and 0 where it refuses. Refusals: 1, 2, 3, 4.
+ * The lengths of outputs, in bytes: what the page of a level needs, for the levels 0 to 8 that maps have, and what is
+ * enough for every drill list of a map of side N, whose lines have at most 14 bytes each.
+ */
+#define RULMEDEI_PAGE(level) ((size_t)29 << (2 * (level)))
+#define RULMEDEI_LIST(n) (14 * (RULMEDEI_CELLS(n) + 1))
+
+/*
+ * Load: fills the pyramid from the greys (by row, then column) and sets the cells of serials and order to 0. The record
+ * is written to progress_side and progress_dots: the side and 0 holes, or 0 and 0 where it refuses.
+ * Refusals: 1, 2, 3, 4.
  */
 uint32_t rulmedei_load(uint32_t side,
                        const uint8_t *greys, size_t greys_length,
@@ -69,9 +80,9 @@ uint32_t rulmedei_load(uint32_t side,
                        uint32_t *progress_dots);
 
 /*
- * Advance: makes the holes that are due, at most `budget` of them, from the record (side, dots) that the call before returned, on the same
- * buffers. The holes so far are written to after and those of this call to made; the side stays. RULMEDEI_DONE says that none are due
- * any more. A refused call writes `dots` and 0. Refusals: 1, 3, 4, 5.
+ * Advance: makes the holes that are due, at most `budget` of them, from the record (side, dots) that the call before
+ * returned, on the same buffers. The holes so far are written to after and those of this call to made; the side stays.
+ * RULMEDEI_DONE says that none are due any more. A refused call writes `dots` and 0. Refusals: 1, 3, 4, 5.
  */
 uint32_t rulmedei_advance(uint32_t side,
                           uint32_t dots,
@@ -83,8 +94,8 @@ uint32_t rulmedei_advance(uint32_t side,
                           uint32_t *made);
 
 /*
- * Tally: writes to dots how many holes the aligned square (row, column) of a level has; level 0 is the whole map, and level k has 2^k by
- * 2^k squares. A refused call writes 0. Refusals: 1, 4, 6.
+ * Tally: writes to dots how many holes the aligned square (row, column) of a level has; level 0 is the whole map, and
+ * level k has 2^k by 2^k squares. A refused call writes 0. Refusals: 1, 4, 6.
  */
 uint32_t rulmedei_tally(uint32_t side,
                         const uint32_t *serials, size_t serials_length,
@@ -94,8 +105,9 @@ uint32_t rulmedei_tally(uint32_t side,
                         uint32_t *dots);
 
 /*
- * Levels: for each level, level 0 first, the sum over its squares of the square of their summed errors. The nine sums, 0 past the map's last
- * level, are written to the first nine places of sums, or as many as there are; nine zeros where it refuses. Refusals: 1, 2, 4.
+ * Levels: for each level, level 0 first, the sum over its squares of the square of their summed errors. The nine sums,
+ * 0 past the map's last level, are written to the first nine places of sums, or as many as there are; nine zeros where
+ * it refuses. Refusals: 1, 2, 4.
  */
 uint32_t rulmedei_levels(uint32_t side,
                          const uint8_t *greys, size_t greys_length,
@@ -103,16 +115,17 @@ uint32_t rulmedei_levels(uint32_t side,
                          uint64_t *sums, size_t sums_length);
 
 /*
- * Map Text: reads the text of a map, a line with the side and then a line of greys, parted by commas, for each row. The greys are written by
- * row and the side to side, 0 where it refuses. Refusals, in this order: 7 for the first line, 1, 2, 7 for the rest.
+ * Map Text: reads the text of a map, a line with the side and then a line of greys, parted by commas, for each row. The
+ * greys are written by row and the side to side, 0 where it refuses. Refusals, in this order: 7 for the first line, 1,
+ * 2, 7 for the rest.
  */
 uint32_t rulmedei_map_text(const uint8_t *text, size_t text_length,
                            uint8_t *greys, size_t greys_length,
                            uint32_t *side);
 
 /*
- * Drill List: writes a line "holes,side", then for each hole in order a line "serial,row,column", and the number of bytes to length, 0 where
- * it refuses. Bytes past the list stay. No zero byte ends it. Refusals: 1, 3, 4, 5, 8.
+ * Drill List: writes a line "holes,side", then for each hole in order a line "serial,row,column", and the number of
+ * bytes to length, 0 where it refuses. Bytes past the list stay. No zero byte ends it. Refusals: 1, 3, 4, 5, 8.
  */
 uint32_t rulmedei_drill_list(uint32_t side,
                              uint32_t dots,
@@ -123,12 +136,14 @@ uint32_t rulmedei_drill_list(uint32_t side,
                              size_t *length);
 
 /*
- * Quote Page: writes a line for each aligned square of a level, by row then column, and the number of bytes to length, 0 where it refuses.
- * A line has the square's row (3 wide), column (3), grey sum (8), holes (5) and cap (5), right aligned, with one space between; with its end
- * it has 29 bytes, and the page 29 * 4^level. Bytes past the page stay. No zero byte ends it. Refusals: 1, 2, 4, 6, 8.
+ * Quote Page: writes a line for each aligned square of a level, by row then column, and the number of bytes to length,
+ * 0 where it refuses. A line has the square's row (3 wide), column (3), grey sum (8), holes (5) and cap (5), right
+ * aligned, with one space between; with its end it has 29 bytes, and the page 29 * 4^level. Bytes past the page stay.
+ * No zero byte ends it. Refusals: 1, 2, 4, 6, 8.
  *
- * With s the square's side, the cap is the smaller of s * s and (3 * grey sum + 764 + 1020 * s) / 765, rounded down. The holes are at most
- * the cap where Load and Advance made the serials from these greys; any other serials may be lent too.
+ * With s the square's side, the cap is the smaller of s * s and (3 * grey sum + 764 + 1020 * s) / 765, rounded down.
+ * The holes are at most the cap where Load and Advance made the serials from these greys; any other serials may be lent
+ * too.
  */
 uint32_t rulmedei_quote_page(uint32_t side,
                              const uint8_t *greys, size_t greys_length,
@@ -138,9 +153,10 @@ uint32_t rulmedei_quote_page(uint32_t side,
                              size_t *length);
 
 /*
- * Sample: fills the greys, by row, from a seed. The state is the seed at first; for each grey it becomes (1664525 * state + 1013904223)
- * modulo 2^32, and the grey is the new state divided by 2^24, rounded down. The state reached is written to state, 0 where it refuses. A
- * further call with the state reached as its seed goes on where this one ended. Greys past N * N stay. Refusals: 1, 2.
+ * Sample: fills the greys, by row, from a seed. The state is the seed at first; for each grey it becomes
+ * (1664525 * state + 1013904223) modulo 2^32, and the grey is the new state divided by 2^24, rounded down. The state
+ * reached is written to state, 0 where it refuses. A further call with the state reached as its seed goes on where this
+ * one ended. Greys past N * N stay. Refusals: 1, 2.
  */
 uint32_t rulmedei_sample(uint32_t seed,
                          uint32_t side,
@@ -148,15 +164,18 @@ uint32_t rulmedei_sample(uint32_t seed,
                          uint32_t *state);
 
 /*
- * The renewal by itself. It is none of the eight calls: rulmedei_advance renews in this way after each hole, and here it can be had alone.
+ * The renewal by itself. It is none of the eight calls: rulmedei_advance renews in this way after each hole, and here
+ * it can be had alone.
  */
 
 /*
- * Renew: makes each coarser entry over the cell (row, column), or over one of its up to eight neighbours on the map, the sum of its four
- * entries on the level below, level by level up to the top. No other entry changes, not even a wrong one; the other sums need not be right.
+ * Renew: makes each coarser entry over the cell (row, column), or over one of its up to eight neighbours on the map,
+ * the sum of its four entries on the level below, level by level up to the top. No other entry changes, not even a
+ * wrong one; the other sums need not be right.
  *
- * RULMEDEI_DONE says that it did so: the side is one of the eight, the pyramid is long enough, row and column are below the side, and each
- * entry of the needed length is from -2^40 to 2^40. Else nothing has changed, and it returns RULMEDEI_NOT_RENEWED.
+ * RULMEDEI_DONE says that it did so: the side is one of the eight, the pyramid is long enough, row and column are below
+ * the side, and each entry of the needed length is from -2^40 to 2^40. Else nothing has changed, and it returns
+ * RULMEDEI_NOT_RENEWED.
  */
 uint32_t rulmedei_renew(uint32_t side,
                         uint32_t row,

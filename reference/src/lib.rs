@@ -41,7 +41,7 @@ pub use pyramid::{renew_all, renew_over};
 pub use quote::quote;
 pub use quote_page::quote_page;
 pub use renewal::renew;
-pub use run::Buffers;
+pub use run::{Buffers, Run};
 pub use sample::{sample, sample_text};
 pub use shape::{cell_count, entry, level_start, neighbours, power, pyramid_length};
 pub use shape::{Neighbour, DOT, HALF_DOT, SIDES};

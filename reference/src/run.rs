@@ -47,7 +47,7 @@ impl Buffers {
 }
 
 /// What a run to its end leaves: the record, the buffers and the drill list.
-pub(crate) struct Run {
+pub struct Run {
     pub progress: Progress,
     pub buffers: Buffers,
     pub list: Vec<u8>,

@@ -9,7 +9,7 @@ use crate::maps::{generated, named, NAMES};
 use crate::measures::levels;
 use crate::plate::plate;
 use crate::quote::quote;
-use crate::run::run;
+use crate::run::{run, Run};
 use crate::run_cases;
 use crate::sample::sample_text;
 use crate::samples::{samples, SIDE};
@@ -61,25 +61,30 @@ fn runs_csv() -> Result<String, Refusal> {
         for name in NAMES {
             let greys = named(name, side);
             let run = run(side, &greys)?;
-            let grey_sum: u64 = greys.iter().map(|grey| u64::from(*grey)).sum();
-            let fields = [
-                side.to_string(),
-                name.to_string(),
-                grey_sum.to_string(),
-                run.progress.dots.to_string(),
-                run.buffers.pyramid[0].to_string(),
-                joined(&levels(side, &greys, &run.buffers.serials)?),
-                adler32(&lines(&run.buffers.pyramid)).to_string(),
-                adler32(&lines(&run.buffers.serials)).to_string(),
-                adler32(&lines(&run.buffers.order)).to_string(),
-                run.list.len().to_string(),
-                adler32(&run.list).to_string(),
-            ];
-            text.push_str(&joined(&fields));
+            let levels = levels(side, &greys, &run.buffers.serials)?;
+            text.push_str(&run_line(name, &greys, &run, &levels));
             text.push('\n');
         }
     }
     Ok(text)
+}
+
+/// The line of a named map, from what a run of it leaves and the sums of Levels; without its ending.
+pub fn run_line(name: &str, greys: &[u8], run: &Run, levels: &[u64; 9]) -> String {
+    let grey_sum: u64 = greys.iter().map(|grey| u64::from(*grey)).sum();
+    joined(&[
+        run.progress.side.to_string(),
+        name.to_string(),
+        grey_sum.to_string(),
+        run.progress.dots.to_string(),
+        run.buffers.pyramid[0].to_string(),
+        joined(levels),
+        adler32(&lines(&run.buffers.pyramid)).to_string(),
+        adler32(&lines(&run.buffers.serials)).to_string(),
+        adler32(&lines(&run.buffers.order)).to_string(),
+        run.list.len().to_string(),
+        adler32(&run.list).to_string(),
+    ])
 }
 
 /// For each map of a side: a line with its name, its map text and its drill list.

@@ -1,13 +1,23 @@
 //! Has the proved library written by `rt staticlib rulmedei`, where it isn't up to date, and links it.
 
 use std::path::{Path, PathBuf};
-use std::process::Command;
+use std::process::{Command, ExitCode};
 use std::time::SystemTime;
 use std::{env, fs, io};
 
 const ARCHIVE: &str = "target/staticlib/librulmedei.a";
 
-fn main() -> io::Result<()> {
+fn main() -> ExitCode {
+    match build() {
+        Ok(()) => ExitCode::SUCCESS,
+        Err(error) => {
+            eprintln!("{error}");
+            ExitCode::FAILURE
+        }
+    }
+}
+
+fn build() -> io::Result<()> {
     let top = top()?;
     let archive = top.join(ARCHIVE);
     if !is_current(&archive, &sources(&top))? {
@@ -59,10 +69,20 @@ fn newest(path: &Path) -> io::Result<SystemTime> {
 
 /// Proves the library and writes the archive.
 fn write_archive(top: &Path) -> io::Result<()> {
-    let status = Command::new("rt").args(["staticlib", "rulmedei"]).current_dir(top).status()?;
+    let ran = Command::new("rt").args(["staticlib", "rulmedei"]).current_dir(top).status();
+    let status = ran.map_err(|error| io::Error::other(not_run(&error)))?;
     if status.success() {
         Ok(())
     } else {
         Err(io::Error::other(format!("rt staticlib rulmedei: {status}")))
     }
+}
+
+/// Why `rt` did not run, in words.
+fn not_run(error: &io::Error) -> String {
+    let needed = "it is needed to prove and build the library";
+    if error.kind() == io::ErrorKind::NotFound {
+        return format!("the Rattle kit's command `rt` was not found; {needed}");
+    }
+    format!("the Rattle kit's command `rt` could not be run ({error}); {needed}")
 }

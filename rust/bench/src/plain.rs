@@ -58,7 +58,8 @@ fn four(level: usize, row: usize, column: usize, pyramid: &[i64]) -> i64 {
     pyramid[first] + pyramid[first + 1] + pyramid[first + wide] + pyramid[first + wide + 1]
 }
 
-/// The test of a sheet, then the holes. Returns the holes on the sheet afterwards, or none for a sheet that isn't sound.
+/// The test of a sheet, then the holes. Returns the holes on the sheet afterwards, or none for a sheet that isn't
+/// sound.
 pub fn advance(
     power: usize,
     dots: u32,

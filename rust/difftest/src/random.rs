@@ -38,9 +38,9 @@ impl Random {
     /// One of the eight sides, a small one more often.
     pub fn good_side(&mut self) -> u32 {
         match self.below(4000) {
-            0 => self.pick(&[64, 128, 256]),
-            1..=19 => 32,
-            20..=199 => 16,
+            0..=4 => self.pick(&[64, 128, 256]),
+            5..=29 => 32,
+            30..=199 => 16,
             200..=999 => 8,
             1000..=2199 => 4,
             _ => 2,

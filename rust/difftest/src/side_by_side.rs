@@ -1,10 +1,12 @@
-//! Each call made twice on the same inputs, by the library and by the reference: every answer and every buffer is compared.
+//! Each call made twice on the same inputs, by the library and by the reference: every answer and every buffer is
+//! compared.
 
 use std::collections::BTreeMap;
 use std::fmt::Debug;
 
 use reference::Progress;
 
+use crate::coverage::Coverage;
 use crate::expected;
 use crate::library::{self, Outcome};
 
@@ -24,10 +26,11 @@ pub struct Lent {
     pub order: usize,
 }
 
-/// The calls compared so far, by name and code.
+/// The calls compared so far, by name and code; and which codes they returned at which sides.
 #[derive(Default)]
 pub struct SideBySide {
     pub calls: BTreeMap<(&'static str, u32), u64>,
+    pub coverage: Coverage,
 }
 
 /// What differs, in words.
@@ -57,7 +60,7 @@ impl SideBySide {
         );
         let inputs = (side, greys, &before, lent);
         self.agreed("load", &inputs, (&ours, &*sheet), (&theirs, &other))?;
-        self.counted("load", ours)
+        self.counted("load", side, ours)
     }
 
     pub fn advance(
@@ -85,30 +88,34 @@ impl SideBySide {
         );
         let inputs = (progress, budget, &before, lent);
         self.agreed("advance", &inputs, (&ours, &*sheet), (&theirs, &other))?;
-        self.counted("advance", ours)
+        // an answer without a hole made says little about a side, so it is noted under none
+        let idle = matches!(ours.code, 0 | 100) && ours.values[1] == 0;
+        self.counted("advance", if idle { 0 } else { progress.side }, ours)
     }
 
     pub fn tally(&mut self, side: u32, serials: &[u32], block: [u32; 3]) -> Result<Outcome, Differs> {
         let ours = library::tally(side, serials, block);
         let theirs = expected::tally(side, serials, block);
         self.agreed("tally", &(side, serials, block), &ours, &theirs)?;
-        self.counted("tally", ours)
+        self.counted("tally", side, ours)
     }
 
     pub fn levels(&mut self, side: u32, greys: &[u8], serials: &[u32]) -> Result<Outcome, Differs> {
         let ours = library::levels(side, greys, serials);
         let theirs = expected::levels(side, greys, serials);
         self.agreed("levels", &(side, greys, serials), &ours, &theirs)?;
-        self.counted("levels", ours)
+        self.counted("levels", side, ours)
     }
 
-    pub fn map_text(&mut self, text: &[u8], greys: &mut [u8]) -> Result<Outcome, Differs> {
+    /// The side is the one that the text is about, under which a refusal is noted.
+    pub fn map_text(&mut self, side: u32, text: &[u8], greys: &mut [u8]) -> Result<Outcome, Differs> {
         let before = greys.to_vec();
         let mut other = greys.to_vec();
         let ours = library::map_text(text, greys);
         let theirs = expected::map_text(text, &mut other);
         self.agreed("map_text", &(text, &before), (&ours, &*greys), (&theirs, &other[..]))?;
-        self.counted("map_text", ours)
+        let side = if ours.code == 0 { ours.values[0] as u32 } else { side };
+        self.counted("map_text", side, ours)
     }
 
     pub fn drill_list(
@@ -127,7 +134,7 @@ impl SideBySide {
         let theirs = expected::drill_list(progress, pyramid, serials, order, &mut other);
         let inputs = (progress, sheet, lent, before.len());
         self.agreed("drill_list", &inputs, (&ours, &*out), (&theirs, &other[..]))?;
-        self.counted("drill_list", ours)
+        self.counted("drill_list", progress.side, ours)
     }
 
     pub fn quote_page(
@@ -144,7 +151,7 @@ impl SideBySide {
         let theirs = expected::quote_page(side, greys, serials, level, &mut other);
         let inputs = (side, greys, serials, level, before.len());
         self.agreed("quote_page", &inputs, (&ours, &*out), (&theirs, &other[..]))?;
-        self.counted("quote_page", ours)
+        self.counted("quote_page", side, ours)
     }
 
     pub fn sample(&mut self, seed: u32, side: u32, greys: &mut [u8], lent: usize) -> Result<Outcome, Differs> {
@@ -154,7 +161,7 @@ impl SideBySide {
         let theirs = expected::sample(seed, side, &mut other[..lent]);
         let inputs = (seed, side, &before, lent);
         self.agreed("sample", &inputs, (&ours, &*greys), (&theirs, &other[..]))?;
-        self.counted("sample", ours)
+        self.counted("sample", side, ours)
     }
 
     pub fn renew(&mut self, side: u32, cell: [u32; 2], pyramid: &mut [i64], lent: usize) -> Result<Outcome, Differs> {
@@ -164,18 +171,34 @@ impl SideBySide {
         let theirs = expected::renew(side, cell, &mut other[..lent]);
         let inputs = (side, cell, &before, lent);
         self.agreed("renew", &inputs, (&ours, &*pyramid), (&theirs, &other[..]))?;
-        self.counted("renew", ours)
+        self.counted("renew", side, ours)
     }
 
     fn agreed<T: Debug + PartialEq>(&self, call: &str, inputs: &dyn Debug, ours: T, theirs: T) -> Result<(), Differs> {
         if ours == theirs {
             return Ok(());
         }
-        Err(format!("{call} on {inputs:?}\nlibrary   {ours:?}\nreference {theirs:?}"))
+        let (ours, theirs, inputs) = (format!("{ours:?}"), format!("{theirs:?}"), format!("{inputs:?}"));
+        let place = ours.bytes().zip(theirs.bytes()).take_while(|(a, b)| a == b).count();
+        let [inputs, ours, theirs] =
+            [(&inputs, 0), (&ours, place), (&theirs, place)].map(|(text, at)| around(text, at));
+        Err(format!("{call} on {inputs}\nlibrary   {ours}\nreference {theirs}"))
     }
 
-    fn counted(&mut self, call: &'static str, outcome: Outcome) -> Result<Outcome, Differs> {
+    fn counted(&mut self, call: &'static str, side: u32, outcome: Outcome) -> Result<Outcome, Differs> {
         *self.calls.entry((call, outcome.code)).or_insert(0) += 1;
+        self.coverage.note(call, side, outcome.code);
         Ok(outcome)
     }
+}
+
+/// A text, or if it is long the part of it around a place.
+fn around(text: &str, place: usize) -> String {
+    const MOST: usize = 2000;
+    if text.len() <= MOST {
+        return text.to_string();
+    }
+    let start = place.saturating_sub(MOST / 2);
+    let part: String = text.chars().skip(start).take(MOST).collect();
+    format!("[{} characters, from {start}] {part}", text.len())
 }

@@ -4,10 +4,21 @@
 
 use std::error::Error;
 use std::io::{self, Read, Write};
+use std::process::ExitCode;
 
-use rulmedei::{advance, cells, drill_list, load, map_text, pyramid_length, Refusal};
+use rulmedei::{advance, cells, drill_list, list_room, load, map_text, pyramid_length, Refusal};
 
-fn main() -> Result<(), Box<dyn Error>> {
+fn main() -> ExitCode {
+    match print_list() {
+        Ok(()) => ExitCode::SUCCESS,
+        Err(error) => {
+            eprintln!("{error}");
+            ExitCode::FAILURE
+        }
+    }
+}
+
+fn print_list() -> Result<(), Box<dyn Error>> {
     let mut text = Vec::new();
     io::stdin().read_to_end(&mut text)?;
     io::stdout().write_all(&list_of(&text)?)?;
@@ -23,8 +34,7 @@ fn list_of(text: &[u8]) -> Result<Vec<u8>, Refusal> {
     let mut order = vec![0; cells(side)];
     let start = load(side, &greys, &mut pyramid, &mut serials, &mut order)?;
     let end = advance(start, u32::MAX, &mut pyramid, &mut serials, &mut order)?.progress;
-    // a line has at most 15 bytes
-    let mut out = vec![0; 15 * (end.dots as usize + 1)];
+    let mut out = vec![0; list_room(side)];
     let length = drill_list(end, &pyramid, &serials, &order, &mut out)?;
     out.truncate(length);
     Ok(out)

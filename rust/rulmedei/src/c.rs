@@ -1,4 +1,5 @@
-//! The functions of `include/rulmedei.h`. A slice is two arguments: a pointer to its first element, then the number of its elements.
+//! The functions of `include/rulmedei.h`. A slice is two arguments: a pointer to its first element, then the number of
+//! its elements.
 
 extern "C" {
     pub fn rulmedei_load(

@@ -1,5 +1,5 @@
-//! The calls with their codes, on slices: the number that a call returns (0 for done, 100 for more, else a refusal's), and what it writes beside
-//! the buffers. And the renewal by itself, whose number is 0 or 101.
+//! The calls with their codes, on slices: the number that a call returns (0 for done, 100 for more, else a refusal's),
+//! and what it writes beside the buffers. And the renewal by itself, whose number is 0 or 101.
 
 use crate::c;
 use crate::Progress;
@@ -7,10 +7,10 @@ use crate::Progress;
 /// What a place for a number holds before a call has written it.
 const UNWRITTEN: u32 = u32::MAX;
 
-// Why each unsafe block below is sound. The proofs ask what `include/rulmedei.h` lists. References and slices give it: their pointers are
-// aligned, not null, and valid and initialised for the length passed beside them; what is behind a `&mut` overlaps nothing else, and
-// nobody else reads or writes it during the call, nor writes what is behind a `&`; and all memory of an x86-64 process is less than 2^63
-// bytes. The declarations are those of the header.
+// Why each unsafe block below is sound. The proofs ask what `include/rulmedei.h` lists. References and slices give it:
+// their pointers are aligned, not null, and valid and initialised for the length passed beside them; what is behind a
+// `&mut` overlaps nothing else, and nobody else reads or writes it during the call, nor writes what is behind a `&`;
+// and all memory of an x86-64 process is less than 2^63 bytes. The declarations are those of the header.
 
 /// The code, and the record.
 pub fn load(side: u32, greys: &[u8], pyramid: &mut [i64], serials: &mut [u32], order: &mut [u32]) -> (u32, Progress) {

@@ -1,8 +1,8 @@
-//! Grey maps to ordered lists of holes: the eight calls of the proved library, on slices that the caller lends. No call asks anything of its
-//! arguments; what doesn't fit is refused, and a refused call leaves every buffer as it was.
+//! Grey maps to ordered lists of holes: the eight calls of the proved library, on slices that the caller lends. No call
+//! asks anything of its arguments; what doesn't fit is refused, and a refused call leaves every buffer as it was.
 //!
-//! Map Text reads a map, Load fills the buffers, Advance makes holes until it is finished, and Drill List writes them down
-//! (`examples/list.rs`). Tally, Levels and Quote Page look at what was made. Sample makes a map from a seed.
+//! Map Text reads a map, Load fills the buffers, Advance makes holes until it is finished, and Drill List writes them
+//! down (`examples/list.rs`). Tally, Levels and Quote Page look at what was made. Sample makes a map from a seed.
 //!
 //! Besides the eight there is `renew`, the renewal of sums that Advance does after each hole, by itself.
 
@@ -42,10 +42,15 @@ pub fn pyramid_length(side: u32) -> usize {
     cells(side).saturating_mul(4).saturating_sub(1) / 3
 }
 
-/// The length that the page of a level needs: 29 bytes for each of its squares, 29 × 4^level. Past level 8 no map has a page; where the
-/// number has no place in a `usize`, it is the largest one.
+/// The length that the page of a level needs: 29 bytes for each of its squares, 29 × 4^level. Past level 8 no map has a
+/// page; where the number has no place in a `usize`, it is the largest one.
 pub fn page_length(level: u32) -> usize {
     4usize.saturating_pow(level).saturating_mul(29)
+}
+
+/// A length that is enough for every drill list of a map of this side, whose lines have at most 14 bytes each.
+pub fn list_room(side: u32) -> usize {
+    cells(side).saturating_add(1).saturating_mul(14)
 }
 
 /// Load: fills the pyramid from the greys and sets the cells of serials and order to 0. Refusals: 1, 2, 3, 4.
@@ -61,8 +66,8 @@ pub fn load(
     Ok(record)
 }
 
-/// Advance: makes the holes that are due, at most `budget` of them, from the record that the call before returned, on the same buffers.
-/// Refusals: 1, 3, 4, 5.
+/// Advance: makes the holes that are due, at most `budget` of them, from the record that the call before returned, on
+/// the same buffers. Refusals: 1, 3, 4, 5.
 pub fn advance(
     progress: Progress,
     budget: u32,
@@ -78,32 +83,32 @@ pub fn advance(
     Ok(Advanced { progress, made, finished })
 }
 
-/// Tally: the holes of the aligned square (row, column) of a level; level 0 is the whole map, and level k has 2^k by 2^k squares.
-/// Refusals: 1, 4, 6.
+/// Tally: the holes of the aligned square (row, column) of a level; level 0 is the whole map, and level k has 2^k by
+/// 2^k squares. Refusals: 1, 4, 6.
 pub fn tally(side: u32, serials: &[u32], level: u32, row: u32, column: u32) -> Result<u32, Refusal> {
     let (code, dots) = codes::tally(side, serials, level, row, column);
     did(code)?;
     Ok(dots)
 }
 
-/// Levels: for each level, level 0 first, the sum over its squares of the square of their summed errors; 0 past the map's last level.
-/// Refusals: 1, 2, 4.
+/// Levels: for each level, level 0 first, the sum over its squares of the square of their summed errors; 0 past the
+/// map's last level. Refusals: 1, 2, 4.
 pub fn levels(side: u32, greys: &[u8], serials: &[u32]) -> Result<[u64; 9], Refusal> {
     let (code, sums) = codes::levels(side, greys, serials);
     did(code)?;
     Ok(sums)
 }
 
-/// Map Text: reads a line with the side, then a line of greys, parted by commas, for each row; returns the side. Refusals: 7 for the first
-/// line, then 1, 2, then 7 for the rest.
+/// Map Text: reads a line with the side, then a line of greys, parted by commas, for each row; returns the side.
+/// Refusals: 7 for the first line, then 1, 2, then 7 for the rest.
 pub fn map_text(text: &[u8], greys: &mut [u8]) -> Result<u32, Refusal> {
     let (code, side) = codes::map_text(text, greys);
     did(code)?;
     Ok(side)
 }
 
-/// Drill List: writes a line "holes,side", then for each hole in order a line "serial,row,column"; returns the number of bytes. Those past
-/// it stay. Refusals: 1, 3, 4, 5, 8.
+/// Drill List: writes a line "holes,side", then for each hole in order a line "serial,row,column"; returns the number
+/// of bytes. Those past it stay. Refusals: 1, 3, 4, 5, 8.
 pub fn drill_list(
     progress: Progress,
     pyramid: &[i64],
@@ -116,31 +121,33 @@ pub fn drill_list(
     Ok(length)
 }
 
-/// Quote Page: writes for each aligned square of a level, by row then column, a line with the square's row (3 wide), column (3), grey sum
-/// (8), holes (5) and cap (5), right aligned, with one space between; returns the number of bytes, which is `page_length(level)`. Those past
-/// it stay. With s the square's side, the cap is the smaller of s² and (3 × grey sum + 764 + 1,020 × s) / 765, rounded down; the holes are
-/// at most the cap where Load and Advance made the serials from these greys. Refusals: 1, 2, 4, 6, 8.
+/// Quote Page: writes for each aligned square of a level, by row then column, a line with the square's row (3 wide),
+/// column (3), grey sum (8), holes (5) and cap (5), right aligned, with one space between; returns the number of bytes,
+/// which is `page_length(level)`. Those past it stay. With s the square's side, the cap is the smaller of s² and (3 ×
+/// grey sum + 764 + 1,020 × s) / 765, rounded down; the holes are at most the cap where Load and Advance made the
+/// serials from these greys. Refusals: 1, 2, 4, 6, 8.
 pub fn quote_page(side: u32, greys: &[u8], serials: &[u32], level: u32, out: &mut [u8]) -> Result<usize, Refusal> {
     let (code, length) = codes::quote_page(side, greys, serials, level, out);
     did(code)?;
     Ok(length)
 }
 
-/// Sample: fills the greys, by row, from a seed; returns the state reached. The state is the seed at first; for each grey it becomes
-/// (1,664,525 × state + 1,013,904,223) modulo 2^32, and the grey is the new state divided by 2^24, rounded down. A further call with the
-/// state reached as its seed goes on where this one ended. Greys past N² stay. Refusals: 1, 2.
+/// Sample: fills the greys, by row, from a seed; returns the state reached. The state is the seed at first; for each
+/// grey it becomes (1,664,525 × state + 1,013,904,223) modulo 2^32, and the grey is the new state divided by 2^24,
+/// rounded down. A further call with the state reached as its seed goes on where this one ended. Greys past N² stay.
+/// Refusals: 1, 2.
 pub fn sample(seed: u32, side: u32, greys: &mut [u8]) -> Result<u32, Refusal> {
     let (code, state) = codes::sample(seed, side, greys);
     did(code)?;
     Ok(state)
 }
 
-/// The renewal by itself, none of the eight calls: makes each coarser entry over the cell (row, column), or over one of its up to eight
-/// neighbours on the map, the sum of its four entries on the level below, level by level up to the top. No other entry changes, not even a
-/// wrong one; the other sums need not be right.
+/// The renewal by itself, none of the eight calls: makes each coarser entry over the cell (row, column), or over one of
+/// its up to eight neighbours on the map, the sum of its four entries on the level below, level by level up to the top.
+/// No other entry changes, not even a wrong one; the other sums need not be right.
 ///
-/// True where it did so: the side is one of the eight, the pyramid is long enough, row and column are below the side, and each entry of
-/// the needed length is from −2^40 to 2^40. Else false, and nothing has changed.
+/// True where it did so: the side is one of the eight, the pyramid is long enough, row and column are below the side,
+/// and each entry of the needed length is from −2^40 to 2^40. Else false, and nothing has changed.
 pub fn renew(side: u32, row: u32, column: u32, pyramid: &mut [i64]) -> bool {
     codes::renew(side, row, column, pyramid) == 0
 }

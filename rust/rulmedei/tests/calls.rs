@@ -1,9 +1,9 @@
-//! The calls on document 01's example, a map of side 2 with four greys of 128, and each refusal once; those of Quote Page and Sample in
-//! their order. Samples of sides 2 and 4. And the renewal by itself.
+//! The calls on document 01's example, a map of side 2 with four greys of 128, and each refusal once; those of Quote
+//! Page and Sample in their order. Samples of sides 2 and 4. And the renewal by itself.
 
 use rulmedei::{
-    advance, cells, drill_list, levels, load, map_text, page_length, pyramid_length, quote_page, renew, sample, tally,
-    Advanced, Progress, Refusal,
+    advance, cells, drill_list, levels, list_room, load, map_text, page_length, pyramid_length, quote_page, renew,
+    sample, tally, Advanced, Progress, Refusal,
 };
 
 const GREYS: [u8; 4] = [128; 4];
@@ -181,6 +181,7 @@ fn lengths_are_the_header_s() {
     let sides = [2, 4, 8, 16, 32, 64, 128, 256];
     assert_eq!(sides.map(cells), [4, 16, 64, 256, 1024, 4096, 16384, 65536]);
     assert_eq!(sides.map(pyramid_length), [5, 21, 85, 341, 1365, 5461, 21845, 87381]);
+    assert_eq!(sides.map(list_room), [70, 238, 910, 3598, 14350, 57358, 229390, 917518]);
 }
 
 #[test]
@@ -213,7 +214,8 @@ fn wrong_sums() -> [i64; 22] {
 
 #[test]
 fn renew_makes_the_sums_over_a_cell_and_its_neighbours() {
-    // one sum lies over a corner and its neighbours; two lie over a cell of the rim and its, all four over one inside and its
+    // one sum lies over a corner and its neighbours; two lie over a cell of the rim and its, all four over one inside
+    // and its
     for (row, column, sums) in [
         (0, 0, [14 - 3 - 4 - 5, 14, -3, -4, -5]),
         (3, 3, [-2 - 3 - 4 + 54, -2, -3, -4, 54]),

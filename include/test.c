@@ -1,0 +1,641 @@
+/*
+ * The test of the header and of the library behind it: numbers, lengths and types, and every call for all eight sides
+ * on parts of just the needed length, and of one place less. Beside each part lie guards, which must stay as they are.
+ * With an argument there are no guards, so that valgrind sees the first access beside a part. rust/test runs both.
+ */
+#include <stdio.h>
+#include <stdlib.h>
+#include <string.h>
+
+#include "rulmedei.h"
+
+/* The exact types. The calls below are made through these. */
+static uint32_t (*const load)(uint32_t, const uint8_t *, size_t, int64_t *, size_t, uint32_t *, size_t, uint32_t *,
+                              size_t, uint32_t *, uint32_t *) = rulmedei_load;
+static uint32_t (*const advance)(uint32_t, uint32_t, uint32_t, int64_t *, size_t, uint32_t *, size_t, uint32_t *,
+                                 size_t, uint32_t *, uint32_t *) = rulmedei_advance;
+static uint32_t (*const tally)(uint32_t, const uint32_t *, size_t, uint32_t, uint32_t, uint32_t,
+                               uint32_t *) = rulmedei_tally;
+static uint32_t (*const levels)(uint32_t, const uint8_t *, size_t, const uint32_t *, size_t, uint64_t *,
+                                size_t) = rulmedei_levels;
+static uint32_t (*const map_text)(const uint8_t *, size_t, uint8_t *, size_t, uint32_t *) = rulmedei_map_text;
+static uint32_t (*const drill_list)(uint32_t, uint32_t, const int64_t *, size_t, const uint32_t *, size_t,
+                                    const uint32_t *, size_t, uint8_t *, size_t, size_t *) = rulmedei_drill_list;
+static uint32_t (*const quote_page)(uint32_t, const uint8_t *, size_t, const uint32_t *, size_t, uint32_t, uint8_t *,
+                                    size_t, size_t *) = rulmedei_quote_page;
+static uint32_t (*const sample)(uint32_t, uint32_t, uint8_t *, size_t, uint32_t *) = rulmedei_sample;
+static uint32_t (*const renew)(uint32_t, uint32_t, uint32_t, int64_t *, size_t) = rulmedei_renew;
+
+static unsigned long checks, failures;
+
+#define CHECK(holds) check((holds), #holds, __func__, __LINE__)
+
+static void check(int holds, const char *what, const char *where, int line)
+{
+    checks++;
+    if (holds)
+        return;
+    failures++;
+    if (failures <= 20)
+        printf("include/test.c:%d: %s: does not hold: %s\n", line, where, what);
+}
+
+static void *memory_of(size_t bytes)
+{
+    void *memory = malloc(bytes);
+    if (memory == NULL) {
+        fprintf(stderr, "no memory\n");
+        exit(3);
+    }
+    return memory;
+}
+
+/* Parts. */
+
+enum { GUARD = 0xA5, NINE = 9 };
+
+static size_t guard = 64; /* bytes on either side of a part */
+
+/* The places of a part, how many they are, all the memory that they and the guards lie in, and a copy of that. */
+struct part {
+    void *places;
+    size_t count;
+    unsigned char *memory, *kept;
+    size_t bytes;
+};
+
+/* Each byte of a place is 9 at first. */
+static struct part part_of(size_t count, size_t size)
+{
+    struct part part;
+    part.count = count;
+    part.bytes = guard + count * size + guard;
+    part.memory = memory_of(part.bytes);
+    part.kept = memory_of(part.bytes);
+    part.places = part.memory + guard;
+    memset(part.memory, GUARD, part.bytes);
+    memset(part.places, NINE, count * size);
+    return part;
+}
+
+static int all_are(const unsigned char *bytes, size_t count, int value)
+{
+    for (size_t at = 0; at < count; at++)
+        if (bytes[at] != value)
+            return 0;
+    return 1;
+}
+
+static void give_back(struct part *part)
+{
+    CHECK(all_are(part->memory, guard, GUARD));
+    CHECK(all_are(part->memory + part->bytes - guard, guard, GUARD));
+    free(part->memory);
+    free(part->kept);
+}
+
+static void keep(struct part *part)
+{
+    memcpy(part->kept, part->memory, part->bytes);
+}
+
+static int as_kept(const struct part *part)
+{
+    return memcmp(part->kept, part->memory, part->bytes) == 0;
+}
+
+/* A map with the parts of its side, and the holes made so far. */
+struct map {
+    uint32_t side, power, dots;
+    struct part greys, pyramid, serials, order;
+};
+
+static struct map map_of(uint32_t side)
+{
+    struct map m = {.side = side, .dots = 0, .power = 0};
+    while (1u << m.power < side)
+        m.power++;
+    m.greys = part_of(RULMEDEI_CELLS(side), sizeof(uint8_t));
+    m.pyramid = part_of(RULMEDEI_PYRAMID(side), sizeof(int64_t));
+    m.serials = part_of(RULMEDEI_CELLS(side), sizeof(uint32_t));
+    m.order = part_of(RULMEDEI_CELLS(side), sizeof(uint32_t));
+    return m;
+}
+
+static void give_back_map(struct map *m)
+{
+    give_back(&m->greys);
+    give_back(&m->pyramid);
+    give_back(&m->serials);
+    give_back(&m->order);
+}
+
+static void keep_map(struct map *m)
+{
+    keep(&m->greys);
+    keep(&m->pyramid);
+    keep(&m->serials);
+    keep(&m->order);
+}
+
+static int map_as_kept(const struct map *m)
+{
+    return as_kept(&m->greys) && as_kept(&m->pyramid) && as_kept(&m->serials) && as_kept(&m->order);
+}
+
+static uint64_t grey_sum(const struct map *m)
+{
+    const uint8_t *greys = m->greys.places;
+    uint64_t sum = 0;
+    for (size_t cell = 0; cell < m->greys.count; cell++)
+        sum += greys[cell];
+    return sum;
+}
+
+/* The calls on a map. */
+
+/* How many places fewer than it has each part is lent. */
+struct less {
+    size_t greys, pyramid, serials, order;
+};
+
+static const struct less whole = {0, 0, 0, 0};
+static const struct less less_greys = {1, 0, 0, 0}, less_pyramid = {0, 1, 0, 0};
+static const struct less less_serials = {0, 0, 1, 0}, less_order = {0, 0, 0, 1};
+
+/* What the last call wrote beside its parts. */
+static uint32_t first, second;
+static size_t length;
+
+static uint32_t load_map(struct map *m, uint32_t side, struct less less)
+{
+    first = second = 77;
+    return load(side, m->greys.places, m->greys.count - less.greys, m->pyramid.places, m->pyramid.count - less.pyramid,
+                m->serials.places, m->serials.count - less.serials, m->order.places, m->order.count - less.order,
+                &first, &second);
+}
+
+static uint32_t advance_map(struct map *m, uint32_t side, uint32_t dots, uint32_t budget, struct less less)
+{
+    first = second = 77;
+    return advance(side, dots, budget, m->pyramid.places, m->pyramid.count - less.pyramid, m->serials.places,
+                   m->serials.count - less.serials, m->order.places, m->order.count - less.order, &first, &second);
+}
+
+static uint32_t tally_map(struct map *m, uint32_t side, uint32_t level, uint32_t row, uint32_t column, struct less less)
+{
+    first = 77;
+    return tally(side, m->serials.places, m->serials.count - less.serials, level, row, column, &first);
+}
+
+static uint32_t levels_map(struct map *m, uint32_t side, struct part *sums, struct less less)
+{
+    return levels(side, m->greys.places, m->greys.count - less.greys, m->serials.places,
+                  m->serials.count - less.serials, sums->places, sums->count);
+}
+
+static uint32_t list_map(struct map *m, uint32_t side, uint32_t dots, struct part *out, size_t room, struct less less)
+{
+    length = 77;
+    return drill_list(side, dots, m->pyramid.places, m->pyramid.count - less.pyramid, m->serials.places,
+                      m->serials.count - less.serials, m->order.places, m->order.count - less.order, out->places, room,
+                      &length);
+}
+
+static uint32_t page_map(struct map *m, uint32_t side, uint32_t level, struct part *out, size_t room, struct less less)
+{
+    length = 77;
+    return quote_page(side, m->greys.places, m->greys.count - less.greys, m->serials.places,
+                      m->serials.count - less.serials, level, out->places, room, &length);
+}
+
+/* The macros. */
+
+static void test_numbers(void)
+{
+    CHECK(RULMEDEI_DONE == 0);
+    CHECK(RULMEDEI_MORE == 100);
+    CHECK(RULMEDEI_NOT_RENEWED == 101);
+    CHECK(RULMEDEI_SIDE_UNKNOWN == 1);
+    CHECK(RULMEDEI_GREYS_SHORT == 2);
+    CHECK(RULMEDEI_PYRAMID_SHORT == 3);
+    CHECK(RULMEDEI_SHEET_SHORT == 4);
+    CHECK(RULMEDEI_SHEET_UNSOUND == 5);
+    CHECK(RULMEDEI_BLOCK_UNKNOWN == 6);
+    CHECK(RULMEDEI_TEXT_MALFORMED == 7);
+    CHECK(RULMEDEI_OUTPUT_SHORT == 8);
+    CHECK(RULMEDEI_INPUT_LONG == 9);
+}
+
+enum { SIDES = 8, LEVELS = 9 };
+
+static const uint32_t sides[SIDES] = {2, 4, 8, 16, 32, 64, 128, 256};
+
+static void test_lengths(void)
+{
+    static const size_t cells[SIDES] = {4, 16, 64, 256, 1024, 4096, 16384, 65536};
+    static const size_t pyramid[SIDES] = {5, 21, 85, 341, 1365, 5461, 21845, 87381};
+    static const size_t list[SIDES] = {70, 238, 910, 3598, 14350, 57358, 229390, 917518};
+    static const size_t page[LEVELS] = {29, 116, 464, 1856, 7424, 29696, 118784, 475136, 1900544};
+    for (int at = 0; at < SIDES; at++) {
+        CHECK(RULMEDEI_CELLS(sides[at]) == cells[at]);
+        CHECK(RULMEDEI_PYRAMID(sides[at]) == pyramid[at]);
+        CHECK(RULMEDEI_LIST(sides[at]) == list[at]);
+    }
+    for (int level = 0; level < LEVELS; level++)
+        CHECK(RULMEDEI_PAGE(level) == page[level]);
+}
+
+/* Each call, on the sample of seed 1 of a side, one after the other. */
+
+static void test_sample(struct map *m)
+{
+    uint8_t *greys = m->greys.places;
+    uint32_t state = 1, reached = 77;
+    int same = 1;
+    CHECK(sample(1, m->side, greys, m->greys.count, &reached) == RULMEDEI_DONE);
+    for (size_t cell = 0; cell < m->greys.count; cell++) {
+        state = 1664525 * state + 1013904223;
+        same = same && greys[cell] == state >> 24;
+    }
+    CHECK(same && reached == state);
+    keep_map(m);
+    CHECK(sample(2, m->side + 1, greys, m->greys.count, &reached) == RULMEDEI_SIDE_UNKNOWN);
+    CHECK(reached == 0 && map_as_kept(m));
+    reached = 77;
+    CHECK(sample(2, m->side, greys, m->greys.count - 1, &reached) == RULMEDEI_GREYS_SHORT);
+    CHECK(reached == 0 && map_as_kept(m));
+}
+
+/* The text of a map, in a part that ends with it. */
+static struct part text_of(const struct map *m)
+{
+    const uint8_t *greys = m->greys.places;
+    char *text = memory_of(5 + 4 * m->greys.count);
+    size_t used = sprintf(text, "%u\n", (unsigned)m->side);
+    for (size_t cell = 0; cell < m->greys.count; cell++)
+        used += sprintf(text + used, "%u%c", (unsigned)greys[cell], (cell + 1) % m->side == 0 ? '\n' : ',');
+    struct part part = part_of(used, 1);
+    memcpy(part.places, text, used);
+    free(text);
+    return part;
+}
+
+static void test_map_text(struct map *m)
+{
+    struct part text = text_of(m), read = part_of(RULMEDEI_CELLS(m->side), 1);
+    keep(&text);
+    keep(&read);
+    first = 77;
+    CHECK(map_text(text.places, text.count - 1, read.places, read.count, &first) == RULMEDEI_TEXT_MALFORMED);
+    CHECK(first == 0 && as_kept(&text) && as_kept(&read));
+    first = 77;
+    CHECK(map_text(text.places, text.count, read.places, read.count - 1, &first) == RULMEDEI_GREYS_SHORT);
+    CHECK(first == 0 && as_kept(&text) && as_kept(&read));
+    CHECK(map_text(text.places, text.count, read.places, read.count, &first) == RULMEDEI_DONE);
+    CHECK(first == m->side && as_kept(&text));
+    CHECK(memcmp(read.places, m->greys.places, m->greys.count) == 0);
+    give_back(&text);
+    give_back(&read);
+}
+
+static void refused_load(struct map *m, uint32_t side, struct less less, uint32_t number)
+{
+    CHECK(load_map(m, side, less) == number);
+    CHECK(first == 0 && second == 0 && map_as_kept(m));
+}
+
+static void test_load(struct map *m)
+{
+    const uint8_t *greys = m->greys.places;
+    const int64_t *pyramid = m->pyramid.places, *cells = pyramid + m->pyramid.count - m->greys.count;
+    int same = 1;
+    keep_map(m);
+    refused_load(m, m->side + 1, whole, RULMEDEI_SIDE_UNKNOWN);
+    refused_load(m, m->side, less_greys, RULMEDEI_GREYS_SHORT);
+    refused_load(m, m->side, less_pyramid, RULMEDEI_PYRAMID_SHORT);
+    refused_load(m, m->side, less_serials, RULMEDEI_SHEET_SHORT);
+    refused_load(m, m->side, less_order, RULMEDEI_SHEET_SHORT);
+    CHECK(load_map(m, m->side, whole) == RULMEDEI_DONE);
+    CHECK(first == m->side && second == 0 && as_kept(&m->greys));
+    for (size_t cell = 0; cell < m->greys.count; cell++)
+        same = same && cells[cell] == 256 * (int64_t)greys[cell];
+    CHECK(same && pyramid[0] == 256 * (int64_t)grey_sum(m));
+    CHECK(all_are(m->serials.places, m->serials.count * sizeof(uint32_t), 0));
+    CHECK(all_are(m->order.places, m->order.count * sizeof(uint32_t), 0));
+}
+
+static void refused_advance(struct map *m, uint32_t side, uint32_t dots, struct less less, uint32_t number)
+{
+    CHECK(advance_map(m, side, dots, UINT32_MAX, less) == number);
+    CHECK(first == dots && second == 0 && map_as_kept(m));
+}
+
+/* One hole, refusals, then all others, as many as are told. */
+static void test_advance(struct map *m, uint32_t dots)
+{
+    const int64_t *pyramid = m->pyramid.places;
+    const uint32_t *serials = m->serials.places, *order = m->order.places;
+    int same = 1;
+    CHECK(advance_map(m, m->side, 0, 1, whole) == RULMEDEI_MORE);
+    CHECK(first == 1 && second == 1);
+    keep_map(m);
+    refused_advance(m, m->side + 1, 1, whole, RULMEDEI_SIDE_UNKNOWN);
+    refused_advance(m, m->side, 1, less_pyramid, RULMEDEI_PYRAMID_SHORT);
+    refused_advance(m, m->side, 1, less_serials, RULMEDEI_SHEET_SHORT);
+    refused_advance(m, m->side, 1, less_order, RULMEDEI_SHEET_SHORT);
+    refused_advance(m, m->side, 2, whole, RULMEDEI_SHEET_UNSOUND);
+    CHECK(advance_map(m, m->side, 1, UINT32_MAX, whole) == RULMEDEI_DONE);
+    CHECK(first == dots && second == dots - 1 && as_kept(&m->greys));
+    m->dots = dots;
+    for (uint32_t at = 0; at < dots; at++)
+        same = same && order[at] < m->order.count && serials[order[at]] == at + 1;
+    CHECK(same && pyramid[0] == 256 * (int64_t)grey_sum(m) - 65280 * (int64_t)dots);
+}
+
+static void refused_tally(struct map *m, uint32_t side, const uint32_t *block, struct less less, uint32_t number)
+{
+    CHECK(tally_map(m, side, block[0], block[1], block[2], less) == number);
+    CHECK(first == 0 && map_as_kept(m));
+}
+
+static void test_tally(struct map *m)
+{
+    const uint32_t all[3] = {0, 0, 0}, no_level[3] = {m->power + 1, 0, 0};
+    const uint32_t no_row[3] = {m->power, m->side, 0}, no_column[3] = {m->power, 0, m->side};
+    const uint32_t *order = m->order.places;
+    uint32_t sum = 0;
+    keep_map(m);
+    CHECK(tally_map(m, m->side, 0, 0, 0, whole) == RULMEDEI_DONE && first == m->dots);
+    for (uint32_t quarter = 0; quarter < 4; quarter++) {
+        CHECK(tally_map(m, m->side, 1, quarter / 2, quarter % 2, whole) == RULMEDEI_DONE);
+        sum += first;
+    }
+    CHECK(sum == m->dots);
+    CHECK(tally_map(m, m->side, m->power, order[0] / m->side, order[0] % m->side, whole) == RULMEDEI_DONE);
+    CHECK(first == 1 && map_as_kept(m));
+    refused_tally(m, m->side + 1, all, whole, RULMEDEI_SIDE_UNKNOWN);
+    refused_tally(m, m->side, all, less_serials, RULMEDEI_SHEET_SHORT);
+    refused_tally(m, m->side, no_level, whole, RULMEDEI_BLOCK_UNKNOWN);
+    refused_tally(m, m->side, no_row, whole, RULMEDEI_BLOCK_UNKNOWN);
+    refused_tally(m, m->side, no_column, whole, RULMEDEI_BLOCK_UNKNOWN);
+}
+
+/* The sum over the cells of the square of their error. */
+static uint64_t cell_errors(const struct map *m)
+{
+    const uint8_t *greys = m->greys.places;
+    const uint32_t *serials = m->serials.places;
+    uint64_t sum = 0;
+    for (size_t cell = 0; cell < m->greys.count; cell++) {
+        int64_t error = greys[cell] - (serials[cell] != 0 ? 255 : 0);
+        sum += (uint64_t)(error * error);
+    }
+    return sum;
+}
+
+static void refused_levels(struct map *m, uint32_t side, struct less less, uint32_t number)
+{
+    struct part sums = part_of(LEVELS, sizeof(uint64_t));
+    CHECK(levels_map(m, side, &sums, less) == number);
+    CHECK(all_are(sums.places, LEVELS * sizeof(uint64_t), 0) && map_as_kept(m));
+    give_back(&sums);
+}
+
+static void test_levels(struct map *m)
+{
+    struct part nine = part_of(LEVELS, sizeof(uint64_t)), two = part_of(2, sizeof(uint64_t));
+    const uint64_t *sums = nine.places;
+    int64_t error = (int64_t)grey_sum(m) - 255 * (int64_t)m->dots;
+    keep_map(m);
+    CHECK(levels_map(m, m->side, &nine, whole) == RULMEDEI_DONE);
+    CHECK(sums[0] == (uint64_t)(error * error) && sums[m->power] == cell_errors(m));
+    CHECK(all_are((const unsigned char *)(sums + m->power + 1), (8 - m->power) * sizeof(uint64_t), 0));
+    CHECK(levels_map(m, m->side, &two, whole) == RULMEDEI_DONE);
+    CHECK(memcmp(two.places, sums, 2 * sizeof(uint64_t)) == 0 && map_as_kept(m));
+    give_back(&nine);
+    give_back(&two);
+    refused_levels(m, m->side + 1, whole, RULMEDEI_SIDE_UNKNOWN);
+    refused_levels(m, m->side, less_greys, RULMEDEI_GREYS_SHORT);
+    refused_levels(m, m->side, less_serials, RULMEDEI_SHEET_SHORT);
+}
+
+static void refused_lists(struct map *m, struct part *out)
+{
+    const struct {
+        uint32_t side, dots;
+        size_t room;
+        struct less less;
+        uint32_t number;
+    } asked[] = {
+        {m->side + 1, m->dots, out->count, whole, RULMEDEI_SIDE_UNKNOWN},
+        {m->side, m->dots, out->count, less_pyramid, RULMEDEI_PYRAMID_SHORT},
+        {m->side, m->dots, out->count, less_serials, RULMEDEI_SHEET_SHORT},
+        {m->side, m->dots, out->count, less_order, RULMEDEI_SHEET_SHORT},
+        {m->side, m->dots - 1, out->count, whole, RULMEDEI_SHEET_UNSOUND},
+        {m->side, m->dots, out->count - 1, whole, RULMEDEI_OUTPUT_SHORT},
+    };
+    keep(out);
+    for (size_t at = 0; at < sizeof asked / sizeof asked[0]; at++) {
+        CHECK(list_map(m, asked[at].side, asked[at].dots, out, asked[at].room, asked[at].less) == asked[at].number);
+        CHECK(length == 0 && as_kept(out) && map_as_kept(m));
+    }
+}
+
+/* The list in a part that is long enough for any of the side, then in one of just its length. */
+static void test_list(struct map *m)
+{
+    struct part longest = part_of(RULMEDEI_LIST(m->side), 1);
+    const unsigned char *list = longest.places;
+    char line[32];
+    size_t lines = 0;
+    keep_map(m);
+    CHECK(list_map(m, m->side, m->dots, &longest, longest.count, whole) == RULMEDEI_DONE);
+    CHECK(length <= longest.count && all_are(list + length, longest.count - length, NINE) && map_as_kept(m));
+    for (size_t at = 0; at < length; at++)
+        lines += list[at] == '\n';
+    CHECK(lines == m->dots + 1 && list[length - 1] == '\n');
+    CHECK(memcmp(list, line, sprintf(line, "%u,%u\n1,", (unsigned)m->dots, (unsigned)m->side)) == 0);
+    struct part out = part_of(length, 1);
+    refused_lists(m, &out);
+    CHECK(list_map(m, m->side, m->dots, &out, out.count, whole) == RULMEDEI_DONE);
+    CHECK(length == out.count && memcmp(out.places, list, length) == 0 && map_as_kept(m));
+    give_back(&longest);
+    give_back(&out);
+}
+
+static void refused_pages(struct map *m, uint32_t level, struct part *out)
+{
+    const struct {
+        uint32_t side, level;
+        size_t room;
+        struct less less;
+        uint32_t number;
+    } asked[] = {
+        {m->side + 1, level, out->count, whole, RULMEDEI_SIDE_UNKNOWN},
+        {m->side, level, out->count, less_greys, RULMEDEI_GREYS_SHORT},
+        {m->side, level, out->count, less_serials, RULMEDEI_SHEET_SHORT},
+        {m->side, m->power + 1, out->count, whole, RULMEDEI_BLOCK_UNKNOWN},
+        {m->side, level, out->count - 1, whole, RULMEDEI_OUTPUT_SHORT},
+    };
+    keep(out);
+    for (size_t at = 0; at < sizeof asked / sizeof asked[0]; at++) {
+        CHECK(page_map(m, asked[at].side, asked[at].level, out, asked[at].room, asked[at].less) == asked[at].number);
+        CHECK(length == 0 && as_kept(out) && map_as_kept(m));
+    }
+}
+
+/* The first line of a level's page: of level 0, or of the cells. */
+static int first_line(const struct map *m, uint32_t level, char *line)
+{
+    const uint8_t *greys = m->greys.places;
+    const uint32_t *serials = m->serials.places;
+    uint64_t s = level == 0 ? m->side : 1, sum = level == 0 ? grey_sum(m) : greys[0];
+    uint64_t cap = (3 * sum + 764 + 1020 * s) / 765;
+    unsigned dots = level == 0 ? m->dots : serials[0] != 0;
+    if (cap > s * s)
+        cap = s * s;
+    return sprintf(line, "  0   0 %8u %5u %5u\n", (unsigned)sum, dots, (unsigned)cap);
+}
+
+static void test_page(struct map *m, uint32_t level)
+{
+    struct part out = part_of(RULMEDEI_PAGE(level), 1);
+    char line[64];
+    keep_map(m);
+    refused_pages(m, level, &out);
+    CHECK(page_map(m, m->side, level, &out, out.count, whole) == RULMEDEI_DONE);
+    CHECK(length == out.count && map_as_kept(m));
+    CHECK(memcmp(out.places, line, first_line(m, level, line)) == 0);
+    CHECK(((const char *)out.places)[length - 1] == '\n');
+    give_back(&out);
+}
+
+static void not_renewed(struct map *m, uint32_t side, uint32_t row, uint32_t column, size_t less)
+{
+    CHECK(renew(side, row, column, m->pyramid.places, m->pyramid.count - less) == RULMEDEI_NOT_RENEWED);
+    CHECK(map_as_kept(m));
+}
+
+/* On sums that are right; then with a wrong top, which alone becomes right; then with an entry beyond 2^40. */
+static void test_renew(struct map *m)
+{
+    int64_t *pyramid = m->pyramid.places, *last = pyramid + m->pyramid.count - 1, cell = *last;
+    keep_map(m);
+    not_renewed(m, m->side + 1, 0, 0, 0);
+    not_renewed(m, m->side, m->side, 0, 0);
+    not_renewed(m, m->side, 0, m->side, 0);
+    not_renewed(m, m->side, 0, 0, 1);
+    pyramid[0] += 5;
+    CHECK(renew(m->side, m->side - 1, 0, pyramid, m->pyramid.count) == RULMEDEI_DONE && map_as_kept(m));
+    *last = ((int64_t)1 << 40) + 1;
+    keep_map(m);
+    not_renewed(m, m->side, 0, 0, 0);
+    *last = cell;
+}
+
+/* Every cell burnt: the longest list of the side. */
+static void test_white(struct map *m)
+{
+    memset(m->greys.places, 255, m->greys.count);
+    CHECK(load_map(m, m->side, whole) == RULMEDEI_DONE);
+    CHECK(advance_map(m, m->side, 0, UINT32_MAX, whole) == RULMEDEI_DONE);
+    CHECK(first == m->greys.count && second == first);
+    m->dots = first;
+    test_list(m);
+}
+
+static void test_side(uint32_t side, uint32_t dots)
+{
+    struct map m = map_of(side);
+    test_sample(&m);
+    test_map_text(&m);
+    test_load(&m);
+    test_advance(&m, dots);
+    test_tally(&m);
+    test_levels(&m);
+    test_list(&m);
+    test_page(&m, 0);
+    test_page(&m, m.power);
+    test_renew(&m);
+    test_white(&m);
+    give_back_map(&m);
+}
+
+/* Document 01's map of side 2 with four greys of 128. */
+
+static const char P3_TEXT[] = "2\n128,128\n128,128\n", P3_LIST[] = "2,2\n1,0,0\n2,1,1\n";
+static const char P3_PAGE[] = "  0   0      128     1     1\n  0   1      128     0     1\n"
+                              "  1   0      128     0     1\n  1   1      128     1     1\n";
+
+static void test_p3_map(struct map *m)
+{
+    CHECK(map_text((const uint8_t *)P3_TEXT, sizeof P3_TEXT - 1, m->greys.places, 4, &first) == RULMEDEI_DONE);
+    CHECK(first == 2 && all_are(m->greys.places, 4, 128));
+    CHECK(load_map(m, 2, whole) == RULMEDEI_DONE && first == 2 && second == 0);
+    CHECK(advance_map(m, 2, 0, 1, whole) == RULMEDEI_MORE && first == 1 && second == 1);
+    CHECK(advance_map(m, 2, 1, 1, whole) == RULMEDEI_DONE && first == 2 && second == 1);
+    CHECK(tally_map(m, 2, 0, 0, 0, whole) == RULMEDEI_DONE && first == 2);
+    CHECK(tally_map(m, 2, 1, 0, 0, whole) == RULMEDEI_DONE && first == 1);
+    CHECK(tally_map(m, 2, 1, 0, 1, whole) == RULMEDEI_DONE && first == 0);
+}
+
+static void test_p3_outputs(struct map *m)
+{
+    static const uint64_t expected[LEVELS] = {4, 65026, 0, 0, 0, 0, 0, 0, 0};
+    struct part sums = part_of(LEVELS, sizeof(uint64_t));
+    struct part list = part_of(sizeof P3_LIST - 1, 1), page = part_of(sizeof P3_PAGE - 1, 1);
+    CHECK(levels_map(m, 2, &sums, whole) == RULMEDEI_DONE && memcmp(sums.places, expected, sizeof expected) == 0);
+    CHECK(list_map(m, 2, 2, &list, list.count, whole) == RULMEDEI_DONE && length == list.count);
+    CHECK(memcmp(list.places, P3_LIST, list.count) == 0);
+    CHECK(page_map(m, 2, 1, &page, page.count, whole) == RULMEDEI_DONE && length == page.count);
+    CHECK(memcmp(page.places, P3_PAGE, page.count) == 0);
+    give_back(&sums);
+    give_back(&list);
+    give_back(&page);
+}
+
+static void test_p3(void)
+{
+    struct map m = map_of(2);
+    test_p3_map(&m);
+    test_p3_outputs(&m);
+    give_back_map(&m);
+}
+
+/* Further answers for side 2: the sample of seed 0, texts that are refused, and the renewal of a wrong pyramid. */
+
+static void test_small_answers(void)
+{
+    static const uint8_t greys[4] = {60, 71, 209, 170};
+    static const int64_t wrong[5] = {-1, 2, 3, 4, 5}, right[5] = {14, 2, 3, 4, 5};
+    struct map m = map_of(2);
+    CHECK(sample(0, 2, m.greys.places, 4, &first) == RULMEDEI_DONE && first == 2868466484u);
+    CHECK(memcmp(m.greys.places, greys, sizeof greys) == 0);
+    memcpy(m.pyramid.places, wrong, sizeof wrong);
+    CHECK(renew(2, 1, 0, m.pyramid.places, 5) == RULMEDEI_DONE);
+    CHECK(memcmp(m.pyramid.places, right, sizeof right) == 0);
+    keep_map(&m);
+    CHECK(map_text((const uint8_t *)"3\n", 2, m.greys.places, 4, &first) == RULMEDEI_SIDE_UNKNOWN && first == 0);
+    first = 77;
+    CHECK(map_text((const uint8_t *)"x", 1, m.greys.places, 4, &first) == RULMEDEI_TEXT_MALFORMED && first == 0);
+    CHECK(map_as_kept(&m));
+    give_back_map(&m);
+}
+
+int main(int count, char **words)
+{
+    /* the holes of the sample of seed 1, from vectors/runs.csv */
+    static const uint32_t dots[SIDES] = {2, 8, 31, 128, 522, 2038, 8182, 32724};
+    (void)words;
+    if (count > 1)
+        guard = 0;
+    test_numbers();
+    test_lengths();
+    test_p3();
+    test_small_answers();
+    for (int at = 0; at < SIDES; at++)
+        test_side(sides[at], dots[at]);
+    printf("include/test.c: %lu checks, %lu do not hold, %u guard bytes\n", checks, failures, (unsigned)guard);
+    return failures == 0 ? 0 : 1;
+}

@@ -1,0 +1,161 @@
+//! Loads, runs of calls, sheets that no Load made, and noise.
+
+use reference::{renew_all, Progress};
+use rulmedei::page_length;
+
+use crate::parts::{blank, block, budget, greys, last_level, lent, lent_greys, level, needed, noise, whole};
+use crate::random::Random;
+use crate::side_by_side::{Differs, Lent, Sheet, SideBySide};
+
+/// Load into buffers of any length and content.
+pub fn load_case(random: &mut Random, calls: &mut SideBySide, side: u32) -> Result<(), Differs> {
+    let count = random.length(needed(side).0);
+    let greys = greys(random, count);
+    let mut sheet = noise(random, side);
+    let lent = lent(random, side, &sheet);
+    calls.load(side, &greys, &mut sheet, lent)?;
+    Ok(())
+}
+
+/// A map loaded, then a list of calls.
+pub fn run_case(random: &mut Random, calls: &mut SideBySide, side: u32) -> Result<(), Differs> {
+    let spare = random.below(3);
+    let greys = greys(random, needed(side).0 + spare);
+    let mut sheet = blank(side, spare);
+    let all = whole(&sheet);
+    calls.load(side, &greys, &mut sheet, all)?;
+    let mut progress = Progress { side, dots: 0 };
+    for _ in 0..1 + random.below(10) {
+        progress.dots = one_call(random, calls, progress, &greys, &mut sheet)?;
+    }
+    Ok(())
+}
+
+/// One call on a sheet that is sound, and stays so: what is damaged is damaged on a copy. Returns the holes afterwards.
+fn one_call(
+    random: &mut Random,
+    calls: &mut SideBySide,
+    progress: Progress,
+    greys: &[u8],
+    sheet: &mut Sheet,
+) -> Result<u32, Differs> {
+    let Progress { side, dots } = progress;
+    let lent = lent(random, side, sheet);
+    match random.below(13) {
+        0 => calls.tally(side, &sheet.serials[..lent.serials], block(random, side)).map(|_| dots),
+        1 => calls.levels(side, greys, &sheet.serials[..lent.serials]).map(|_| dots),
+        2 => list(random, calls, progress, sheet, lent).map(|_| dots),
+        3 => page(random, calls, side, greys, &sheet.serials[..lent.serials]).map(|_| dots),
+        4..=7 => on_damage(random, calls, progress, sheet, lent).map(|_| dots),
+        _ => {
+            let budget = budget(random, side);
+            let after = calls.advance(progress, budget, sheet, lent)?;
+            Ok(after.values[0] as u32)
+        }
+    }
+}
+
+/// Quote Page into an output around the page's length; for a level that there isn't, around that of the map's last.
+fn page(random: &mut Random, calls: &mut SideBySide, side: u32, greys: &[u8], serials: &[u32]) -> Result<(), Differs> {
+    let greys = lent_greys(random, side, greys);
+    let level = level(random, side);
+    let length = random.length(page_length(level.min(last_level(side))));
+    let mut out = vec![46; length];
+    calls.quote_page(side, greys, serials, level, &mut out)?;
+    Ok(())
+}
+
+/// Drill List into an output around the list's length.
+fn list(
+    random: &mut Random,
+    calls: &mut SideBySide,
+    progress: Progress,
+    sheet: &Sheet,
+    lent: Lent,
+) -> Result<(), Differs> {
+    let mut long = vec![46; 16 + 14 * sheet.order.len()];
+    let answer = calls.drill_list(progress, sheet, lent, &mut long)?;
+    let length = random.length(answer.values[0] as usize);
+    let mut out = vec![46; length];
+    calls.drill_list(progress, sheet, lent, &mut out)?;
+    Ok(())
+}
+
+/// Advance or Drill List on a copy of the sheet in which one bit, or the record, is another.
+fn on_damage(
+    random: &mut Random,
+    calls: &mut SideBySide,
+    progress: Progress,
+    sheet: &Sheet,
+    lent: Lent,
+) -> Result<(), Differs> {
+    let mut damaged = sheet.clone();
+    let mut progress = progress;
+    match random.below(8) {
+        0 => progress.side = random.side(),
+        1 => progress.dots = progress.dots.wrapping_add(random.pick(&[1, u32::MAX, 2, 1 << 31])),
+        2..=4 => {
+            let place = random.below(damaged.pyramid.len());
+            damaged.pyramid[place] ^= 1 << random.below(64);
+        }
+        5 | 6 => {
+            let place = random.below(damaged.serials.len());
+            damaged.serials[place] ^= 1 << random.below(32);
+        }
+        _ => {
+            let place = random.below(damaged.order.len());
+            damaged.order[place] ^= 1 << random.below(32);
+        }
+    }
+    if random.once_in(3) {
+        return list(random, calls, progress, &damaged, lent);
+    }
+    calls.advance(progress, budget(random, 256), &mut damaged, lent)?;
+    Ok(())
+}
+
+/// A sheet without holes that no Load made, sound or nearly so, run on in three calls, and its list.
+pub fn made_up_case(random: &mut Random, calls: &mut SideBySide, side: u32) -> Result<(), Differs> {
+    let (cells, length) = needed(side);
+    // one residual too high or too low is enough for a refusal, so half of the sheets have none
+    let odds = if random.once_in(2) { 40.max(2 * cells) } else { usize::MAX };
+    let mut pyramid = vec![0; length];
+    for entry in &mut pyramid[length - cells..] {
+        *entry = made_up_residual(random, odds);
+    }
+    renew_all(last_level(side), &mut pyramid);
+    let mut sheet = Sheet { pyramid, serials: vec![0; cells], order: vec![0; cells] };
+    let mut progress = Progress { side, dots: 0 };
+    for _ in 0..3 {
+        let all = whole(&sheet);
+        let after = calls.advance(progress, budget(random, side), &mut sheet, all)?;
+        progress.dots = after.values[0] as u32;
+    }
+    list(random, calls, progress, &sheet, whole(&sheet))
+}
+
+/// What an unburnt cell of a sound sheet without holes may owe; twice in `odds` draws a little more or less.
+fn made_up_residual(random: &mut Random, odds: usize) -> i64 {
+    match random.below(odds) {
+        0 => 65_281,
+        1 => -1,
+        2 => 65_280,
+        _ => random.below(65_281) as i64,
+    }
+}
+
+/// Calls on noise.
+pub fn noise_case(random: &mut Random, calls: &mut SideBySide, side: u32) -> Result<(), Differs> {
+    let (cells, _) = needed(side);
+    let count = random.length(cells);
+    let greys = random.bytes(count);
+    let mut sheet = noise(random, side);
+    let progress = Progress { side, dots: random.below(cells + 2) as u32 };
+    let lent = lent(random, side, &sheet);
+    calls.tally(side, &sheet.serials[..lent.serials], block(random, side))?;
+    calls.levels(side, &greys, &sheet.serials[..lent.serials])?;
+    page(random, calls, side, &greys, &sheet.serials[..lent.serials])?;
+    list(random, calls, progress, &sheet, lent)?;
+    calls.advance(progress, budget(random, side), &mut sheet, lent)?;
+    Ok(())
+}

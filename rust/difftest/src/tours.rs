@@ -1,0 +1,159 @@
+//! Two cases in which every call is made at a side whatever is drawn: once each call is answered, once each call gives
+//! every refusal that it gives on a known side.
+
+use reference::{write_map_text, Progress};
+use rulmedei::{list_room, page_length};
+
+use crate::parts::{blank, last_level, needed, square, whole};
+use crate::random::Random;
+use crate::side_by_side::{Differs, Lent, Sheet, SideBySide};
+
+/// A sample of at least two holes, its text read, the map loaded and run to its end in three calls, with Levels and
+/// Drill List after each. Then Tally and Quote Page at every level, and the renewal of sums of which the top is wrong.
+pub fn tour_case(random: &mut Random, calls: &mut SideBySide, side: u32) -> Result<(), Differs> {
+    let greys = sampled(random, calls, side)?;
+    let mut read = vec![9; greys.len()];
+    calls.map_text(side, &write_map_text(side, &greys), &mut read)?;
+    let mut sheet = blank(side, 0);
+    let all = whole(&sheet);
+    calls.load(side, &greys, &mut sheet, all)?;
+    let mut progress = Progress { side, dots: 0 };
+    for budget in [1, 50, u32::MAX] {
+        progress.dots = calls.advance(progress, budget, &mut sheet, all)?.values[0] as u32;
+        calls.levels(side, &greys, &sheet.serials)?;
+        calls.drill_list(progress, &sheet, all, &mut vec![46; list_room(side)])?;
+    }
+    every_level(random, calls, side, &greys, &sheet.serials)?;
+    sheet.pyramid[0] += 1 + random.below(1000) as i64;
+    let cell = [random.below(side as usize) as u32, random.below(side as usize) as u32];
+    calls.renew(side, cell, &mut sheet.pyramid, all.pyramid)?;
+    Ok(())
+}
+
+/// Sample, then two of the greys set so that two holes are due.
+fn sampled(random: &mut Random, calls: &mut SideBySide, side: u32) -> Result<Vec<u8>, Differs> {
+    let mut greys = vec![9; needed(side).0];
+    let room = greys.len();
+    calls.sample(random.next() as u32, side, &mut greys, room)?;
+    greys[..2].fill(255);
+    Ok(greys)
+}
+
+/// Tally of a square, and Quote Page, for each level that the map has.
+fn every_level(
+    random: &mut Random,
+    calls: &mut SideBySide,
+    side: u32,
+    greys: &[u8],
+    serials: &[u32],
+) -> Result<(), Differs> {
+    for level in 0..=last_level(side) {
+        let rows = 2usize.pow(level);
+        calls.tally(side, serials, [level, random.below(rows) as u32, random.below(rows) as u32])?;
+        calls.quote_page(side, greys, serials, level, &mut vec![46; page_length(level)])?;
+    }
+    Ok(())
+}
+
+/// A map with some holes made, then the refusals one after another.
+pub fn refusals_case(random: &mut Random, calls: &mut SideBySide, side: u32) -> Result<(), Differs> {
+    let greys = sampled(random, calls, side)?;
+    let mut sheet = blank(side, 0);
+    let all = whole(&sheet);
+    calls.load(side, &greys, &mut sheet, all)?;
+    let start = Progress { side, dots: 0 };
+    let dots = calls.advance(start, 1 + random.below(50) as u32, &mut sheet, all)?.values[0] as u32;
+    let progress = Progress { side, dots };
+    refused_for_lengths(calls, progress, &greys, &mut sheet)?;
+    refused_looks(random, calls, side, &greys, &sheet.serials)?;
+    refused_lists(calls, progress, &sheet)?;
+    refused_for_damage(random, calls, progress, &sheet)?;
+    refused_texts(random, calls, side, &greys)
+}
+
+/// Load, Advance, Drill List, Sample and the renewal, each part one place short.
+fn refused_for_lengths(
+    calls: &mut SideBySide,
+    progress: Progress,
+    greys: &[u8],
+    sheet: &mut Sheet,
+) -> Result<(), Differs> {
+    let side = progress.side;
+    let all = whole(sheet);
+    let Lent { pyramid, serials, order } = all;
+    for lent in
+        [Lent { pyramid: pyramid - 1, ..all }, Lent { serials: serials - 1, ..all }, Lent { order: order - 1, ..all }]
+    {
+        calls.load(side, greys, sheet, lent)?;
+        calls.advance(progress, 5, sheet, lent)?;
+        calls.drill_list(progress, sheet, lent, &mut vec![46; list_room(side)])?;
+    }
+    calls.load(side, &greys[1..], sheet, all)?;
+    calls.sample(1, side, &mut greys.to_vec(), greys.len() - 1)?;
+    calls.renew(side, [0, 0], &mut sheet.pyramid, pyramid - 1)?;
+    Ok(())
+}
+
+/// Tally, Levels and Quote Page: parts one place short, squares and levels that there aren't.
+fn refused_looks(
+    random: &mut Random,
+    calls: &mut SideBySide,
+    side: u32,
+    greys: &[u8],
+    serials: &[u32],
+) -> Result<(), Differs> {
+    let (past, square) = (last_level(side) + 1, square(random, side));
+    let level = square[0];
+    calls.tally(side, &serials[1..], square)?;
+    for block in [[past, 0, 0], [level, 1 << level, 0], [level, 0, 1 << level]] {
+        calls.tally(side, serials, block)?;
+    }
+    calls.levels(side, &greys[1..], serials)?;
+    calls.levels(side, greys, &serials[1..])?;
+    let mut out = vec![46; page_length(level)];
+    calls.quote_page(side, &greys[1..], serials, level, &mut out)?;
+    calls.quote_page(side, greys, &serials[1..], level, &mut out)?;
+    calls.quote_page(side, greys, serials, past, &mut out)?;
+    let short = out.len() - 1;
+    calls.quote_page(side, greys, serials, level, &mut out[..short])?;
+    Ok(())
+}
+
+/// Drill List into an output of just the list's length, and of one byte less.
+fn refused_lists(calls: &mut SideBySide, progress: Progress, sheet: &Sheet) -> Result<(), Differs> {
+    let mut out = vec![46; list_room(progress.side)];
+    let length = calls.drill_list(progress, sheet, whole(sheet), &mut out)?.values[0] as usize;
+    calls.drill_list(progress, sheet, whole(sheet), &mut out[..length])?;
+    calls.drill_list(progress, sheet, whole(sheet), &mut out[..length - 1])?;
+    Ok(())
+}
+
+/// Advance and Drill List on a pyramid with one bit another, and a renewal with an entry that is too large.
+fn refused_for_damage(
+    random: &mut Random,
+    calls: &mut SideBySide,
+    progress: Progress,
+    sheet: &Sheet,
+) -> Result<(), Differs> {
+    let side = progress.side;
+    let mut damaged = sheet.clone();
+    let all = whole(&damaged);
+    let place = random.below(all.pyramid);
+    damaged.pyramid[place] ^= 1 << random.below(64);
+    calls.advance(progress, 5, &mut damaged, all)?;
+    calls.drill_list(progress, &damaged, all, &mut vec![46; list_room(side)])?;
+    damaged.pyramid[place] = random.beyond();
+    calls.renew(side, [side - 1, 0], &mut damaged.pyramid, all.pyramid)?;
+    Ok(())
+}
+
+/// Map Text with a greys buffer one place short, and with the text's last byte cut off or another behind it.
+fn refused_texts(random: &mut Random, calls: &mut SideBySide, side: u32, greys: &[u8]) -> Result<(), Differs> {
+    let text = write_map_text(side, greys);
+    let mut read = vec![9; greys.len()];
+    calls.map_text(side, &text, &mut read[1..])?;
+    calls.map_text(side, &text[..text.len() - 1], &mut read)?;
+    let longer = [&text[..], &[random.next() as u8]].concat();
+    calls.map_text(side, &longer, &mut read)?;
+    Ok(())
+}
