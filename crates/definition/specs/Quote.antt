@@ -14,7 +14,10 @@ use Rattle.definition.specs.Plate.{refusedText, finishedOf}
 unfoldable pub quoteOfMap : ℕ → ℕ → List ℕ → List ℕ
 quoteOfMap level side greys =
     let r = powerOf side in
-    elim (ltb r level) [ true ↦ refusedText 6 | false ↦ quoteText r greys (finishedOf plain r greys .serials) level ]
+    elim (ltb r level) [
+      | true ↦ refusedText 6
+      | false ↦ quoteText r greys (finishedOf plain r greys .serials) level
+    ]
 
 -- the map text behind the level's line is read as `plate` reads its own, with room for 1,024 greys
 unfoldable pub quoteOfText : ℕ → List ℕ → List ℕ

@@ -1,6 +1,6 @@
--- What is signed, clause by clause, for every list of calls after an accepted Load: demand 3 of document 01, the floor and
--- the quote page of document 02. Each clause is written out with its own figures and taken from a field of `demand-3`, so
--- none of them can go, or say less, unnoticed. The last law says who may ask: nobody is left out.
+-- What is signed, clause by clause, for every list of calls after an accepted Load: demand 3 of document 01, the floor
+-- and the quote page of document 02. Each clause is written out with its own figures and taken from a field of
+-- `demand-3`, so none of them can go, or say less, unnoticed. The last law says who may ask: nobody is left out.
 use mathlib.Core.Path.{_≡_, ap, _∙_}
 use mathlib.Core.Logic.{_≢_, _↔_}
 use mathlib.Core.Bool.{false}
@@ -104,7 +104,7 @@ module _ (side : ℕ) (greys : List ℕ) (pyramid : List ℤ) (serials order : L
   pub order-untouched : drop (N * N) (held .order) ≡ drop (N * N) order
   order-untouched = demand .order-rest
 
-  -- the number of holes, counted on the whole map: the total, or what the calls not refused were granted, if that is less
+  -- the number of holes, counted on the whole map: the total, or the budgets of the calls not refused if less
   pub number-of-holes : allDots r (held .serials) ≡ min ((2 * G + 255) / 510) (granted calls replies)
   number-of-holes = demand .all-dots ∙ demand .number
 
@@ -158,7 +158,7 @@ module _ (side : ℕ) (greys : List ℕ) (pyramid : List ℤ) (serials order : L
         let fits = demand .quotes k a b level row column .fits in
         (fits .0, fits .1 .0, fits .1 .1 .0, fits .1 .1 .1 .0, fits .1 .1 .1 .1 .0)
 
--- ---- who may ask: each of the eight sides, with bytes as greys and buffers of the needed lengths or more, whatever they hold
+-- ---- who may ask: each of the eight sides, with bytes as greys and buffers that are long enough, whatever they hold
 pub everyone : (r : ℕ) → 1 ≤ r → r ≤ 8 → (greys : List ℕ) (pyramid : List ℤ) (serials order : List ℕ)
     → 2 ^ r * 2 ^ r ≤ length greys → (4 ^ suc r - 1) / 3 ≤ length pyramid
     → 2 ^ r * 2 ^ r ≤ length serials → 2 ^ r * 2 ^ r ≤ length order

@@ -1,5 +1,5 @@
--- Document 01's demand 3, one statement about a whole list of calls, with the price list's own figures. `Theorem` proves it,
--- and `Clauses` says it again field by field.
+-- Document 01's demand 3, one statement about a whole list of calls, with the price list's own figures. `Theorem`
+-- proves it, and `Clauses` says it again field by field.
 use mathlib.Core.Path.{_≡_}
 use mathlib.Core.Logic.{_≢_, _↔_}
 use mathlib.Core.Bool.{false}

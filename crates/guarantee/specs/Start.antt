@@ -36,7 +36,8 @@ each-getD P [] d z h i = z
 each-getD P (x ∷ xs) d z h zero = h .0
 each-getD P (x ∷ xs) d z h (suc i) = each-getD P xs d z (h .1) i
 
-pub each-of : {A : Type 0} (P : A → Type 0) (l : List A) (d : A) → ((i : ℕ) → i < length l → P (getD l i d)) → Each P l
+pub each-of : {A : Type 0} (P : A → Type 0) (l : List A) (d : A)
+    → ((i : ℕ) → i < length l → P (getD l i d)) → Each P l
 each-of P [] d h = tt
 each-of P (x ∷ xs) d h = (h 0 (omega arith), each-of P xs d (λ i k. h (suc i) (omega arith)))
 

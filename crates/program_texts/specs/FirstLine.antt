@@ -18,7 +18,8 @@ use Rattle.decimals.specs.declared.Number.the-variants.{Read, Malformed}
 rest-is : (input : List ℕ) (at : ℕ) {from : ℕ} → from ≡ min at (length input)
     → take (length input - from) (drop from input) ≡ drop at input
 rest-is input at {from} ef =
-    take-all (length input - from) (drop from input) (omega (arith, length-drop from input)) ∙ go (decLt at (length input))
+    take-all (length input - from) (drop from input) (omega (arith, length-drop from input))
+    ∙ go (decLt at (length input))
   where
     go : Dec (at < length input) → drop from input ≡ drop at input
     go (yes h) = let same : from ≡ at = omega arith in ap (λ (i : ℕ). drop i input) same
@@ -28,7 +29,8 @@ rest-is input at {from} ef =
 -- `number` is what the code has read
 module _ (input : List ℕ) (number : Number) (f : fieldIn input number ≡ fieldOf 4294967295 newline input)
     {before after : List ℕ} {n : ℕ} where
-  pub no-level : number ≡ Malformed → Printed (refusedText 7) before n after → Printed (quoteOf input) before n after
+  pub no-level : number ≡ Malformed
+      → Printed (refusedText 7) before n after → Printed (quoteOf input) before n after
   unfolding quoteOf fieldIn
   no-level e w =
       let m : fieldOf 4294967295 newline input ≡ malformed = sym f ∙ ap (fieldIn input) e in

@@ -17,7 +17,8 @@ module _ (text before after : List ℕ) (answer : TextAnswer)
   pub text-printed : length text ≤ length before → {n : ℕ} → answer ≡ Length n → Printed text before n after
   unfolding textSays textInto
   text-printed room {n} q =
-      let said : textSays (Length n) ≡ returned (length text ∷ []) = ap textSays (sym q) ∙ ap (λ (out : TextOutcome). out .said) e in
+      let said : textSays (Length n) ≡ returned (length text ∷ []) =
+      ap textSays (sym q) ∙ ap (λ (out : TextOutcome). out .said) e in
       record { room = room; count = cc; written = ap (λ (out : TextOutcome). out .output) e }
 
   pub not-refused-there : {why : Refusal} → answer ≡ Refused why → ⊥

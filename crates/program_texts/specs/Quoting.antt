@@ -1,4 +1,4 @@
--- The quote page of the finished sheet: Quote Page refuses nothing but a level that the map hasn't, and prints the page.
+-- The quote page of the finished sheet: Quote Page refuses only a level that the map hasn't, and prints the page.
 use mathlib.Core.Path.{_≡_, sym, ap, _∙_}
 use mathlib.Core.Bool.{cond}
 use mathlib.Core.List.{List, _++_}
@@ -32,11 +32,18 @@ use Rattle.dots.specs.Steps.{Sheet}
 use Rattle.decimals.specs.Printed.{Printed}
 use Rattle.quote_page.specs.Page.{page-length}
 use Rattle.program_texts.specs.Finished.{finishedIn, MapAsked, finished-sheet}
-use Rattle.program_texts.specs.Promised.{text-printed, not-refused-there, not-written-there, refused-with, left-alone}
+use Rattle.program_texts.specs.Promised.{
+  text-printed,
+  not-refused-there,
+  not-written-there,
+  refused-with,
+  left-alone,
+}
 use Rattle.program_texts.specs.Fronts.{page-serials}
 
 module _ (side : ℕ) (greys : List ℕ) {a b c : ℕ} (asked : MapAsked side greys a b c)
-    (bytes : (i : ℕ) → Fits w8 (getD greys i 0)) (s : List ℕ) (level : ℕ) (out : List ℕ) (room : 29696 ≤ length out) where
+    (bytes : (i : ℕ) → Fits w8 (getD greys i 0)) (s : List ℕ) (level : ℕ) (out : List ℕ)
+    (room : 29696 ≤ length out) where
   abbrev r : ℕ
   r = powerOf side
 
@@ -119,7 +126,8 @@ module _ (side : ℕ) (greys : List ℕ) {a b c : ℕ} (asked : MapAsked side gr
             let kept = promise ∙ outcome-is (not-refused within) in
             rw (quoted-page within) (text-printed page out after answer kept (page-room within) q)
 
-    refusal-printed : {why : Refusal} {number n : ℕ} {end : List ℕ} → answer ≡ Refused why → number ≡ numberOf why
+    refusal-printed : {why : Refusal} {number n : ℕ} {end : List ℕ}
+        → answer ≡ Refused why → number ≡ numberOf why
         → Printed (refusedText number) after n end → Printed (quoteOfMap level side greys) out n end
     refusal-printed {why} {number} {n} {end} q en w = go (decLt r level)
       where
@@ -136,7 +144,8 @@ module _ (side : ℕ) (greys : List ℕ) {a b c : ℕ} (asked : MapAsked side gr
 module _ (side : ℕ) (greys : List ℕ) {a b c : ℕ} (asked : MapAsked side greys a b c)
     (bytes : (i : ℕ) → Fits w8 (getD greys i 0)) (p : List ℤ) (s o : List ℕ) (level : ℕ) (out : List ℕ)
     (room : 29696 ≤ length out) {progress : Progress} {p₁ : List ℤ} {s₁ o₁ : List ℕ}
-    (e : record { progress = progress; pyramid = p₁; serials = s₁; order = o₁ } ≡ finishedIn (powerOf side) greys p s o)
+    (e : record { progress = progress; pyramid = p₁; serials = s₁; order = o₁ }
+    ≡ finishedIn (powerOf side) greys p s o)
     (answer : TextAnswer) {after : List ℕ}
     (promise : record { said = textSays answer; output = after } ≡ quotePageOf side greys s₁ level out) where
   abbrev behind : List ℕ
@@ -149,6 +158,7 @@ module _ (side : ℕ) (greys : List ℕ) {a b c : ℕ} (asked : MapAsked side gr
   pub quote-printed : {n : ℕ} → answer ≡ Length n → Printed (quoteOfMap level side greys) out n after
   quote-printed q = page-printed side greys asked bytes behind level out room answer kept q
 
-  pub quote-refused : {why : Refusal} {number n : ℕ} {end : List ℕ} → answer ≡ Refused why → number ≡ numberOf why
+  pub quote-refused : {why : Refusal} {number n : ℕ} {end : List ℕ}
+      → answer ≡ Refused why → number ≡ numberOf why
       → Printed (refusedText number) after n end → Printed (quoteOfMap level side greys) out n end
   quote-refused q en w = refusal-printed side greys asked bytes behind level out room answer kept q en w

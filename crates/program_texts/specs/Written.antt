@@ -6,7 +6,8 @@ use native.Mathlib.Omega.{arith}
 use lib.ListN.{length, take, length-map}
 use lib.Seq.{length-take-le}
 
-module _ (bytes : List ℕ) {n room : ℕ} (most : n ≤ room) (whole : length (map (λ (b : ℕ). b) bytes) ≡ room) where
+module _ (bytes : List ℕ) {n room : ℕ} (most : n ≤ room)
+    (whole : length (map (λ (b : ℕ). b) bytes) ≡ room) where
   pub within : n ≤ length bytes
   within = omega (arith, length-map bytes (λ (b : ℕ). b))
 

@@ -16,8 +16,8 @@ ghost use Rattle.definition.specs.Quote.{quoteOfMap, quoteOfText, quoteOf};
 ghost use Rattle.decimals.specs.Printed.{Printed};
 ghost use Rattle.program_texts.specs.Finished.{finishedIn, MapAsked};
 
-// A text of at most 11,300 bytes. The longest list of side 32 has 1,024 lines of at most 11 bytes, and a first line of at
-// most 8.
+// A text of at most 11,300 bytes. The longest list of side 32 has 1,024 lines of at most 11 bytes, and a first line
+// of at most 8.
 pub struct PlateText {
     pub bytes: [u8; 11300],
     pub length: usize,

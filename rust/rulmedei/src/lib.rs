@@ -42,8 +42,8 @@ pub fn pyramid_length(side: u32) -> usize {
     cells(side).saturating_mul(4).saturating_sub(1) / 3
 }
 
-/// The length that the page of a level needs: 29 bytes for each of its squares, 29 × 4^level. Past level 8 no map has a
-/// page; where the number has no place in a `usize`, it is the largest one.
+/// The length that the page of a level needs: 29 bytes for each of its squares, 29 × 4^level. Past level 8 no map has
+/// a page; where the number has no place in a `usize`, it is the largest one.
 pub fn page_length(level: u32) -> usize {
     4usize.saturating_pow(level).saturating_mul(29)
 }

@@ -14,7 +14,11 @@ main-spec =
     (λ c. search needs)
     (λ c. search needs)
     (λ c κs. search needs)
-    (λ c. let text = c .before .plate-text in within (text .result .bytes) (text .ensures .1) (text .ok .1 .1 .0 .1 .0 .1))
-    (λ c. let text = c .before .before .plate-text in part (text .result .bytes) (text .ensures .1) (text .ok .1 .1 .0 .1 .0 .1))
+    (λ c.
+    let text = c .before .plate-text in
+    within (text .result .bytes) (text .ensures .1) (text .ok .1 .1 .0 .1 .0 .1))
+    (λ c.
+    let text = c .before .before .plate-text in
+    part (text .result .bytes) (text .ensures .1) (text .ok .1 .1 .0 .1 .0 .1))
     (λ c κs. search needs)
     (λ c. search needs))

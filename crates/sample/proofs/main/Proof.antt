@@ -9,7 +9,11 @@ main-spec =
     tie.close
     (tie.spec
     (λ c κs. search needs)
-    (λ c. let text = c .before .sample-text in within (text .result .bytes) (text .ensures .1) (text .ok .1 .1 .0 .1 .0 .1))
-    (λ c. let text = c .before .before .sample-text in part (text .result .bytes) (text .ensures .1) (text .ok .1 .1 .0 .1 .0 .1))
+    (λ c.
+    let text = c .before .sample-text in
+    within (text .result .bytes) (text .ensures .1) (text .ok .1 .1 .0 .1 .0 .1))
+    (λ c.
+    let text = c .before .before .sample-text in
+    part (text .result .bytes) (text .ensures .1) (text .ok .1 .1 .0 .1 .0 .1))
     (λ c κs. search needs)
     (λ c. search needs))
