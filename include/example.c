@@ -21,7 +21,7 @@ enum { WRITTEN = 0, REFUSED = 1, FAILED = 3 };
 
 /* the refusals that the calls give, in the words of rulmedei.h */
 static const char *const words[] = {
-    [RULMEDEI_SIDE_UNKNOWN] = "the side is not one of 2, 4, 8, 16, 32, 64, 128, 256",
+    [RULMEDEI_SIDE_UNKNOWN] = "the side is no power of two from 2 to 256",
     [RULMEDEI_GREYS_SHORT] = "the greys buffer is shorter than N * N",
     [RULMEDEI_PYRAMID_SHORT] = "the pyramid is shorter than needed",
     [RULMEDEI_SHEET_SHORT] = "the serial sheet, or the order list where it is lent, is shorter than N * N",

@@ -38,7 +38,7 @@ extern "C" {
 #define RULMEDEI_DONE 0
 #define RULMEDEI_MORE 100         /* rulmedei_advance: further holes are due */
 #define RULMEDEI_NOT_RENEWED 101  /* rulmedei_renew: outside what it promises; nothing was changed */
-#define RULMEDEI_SIDE_UNKNOWN 1   /* the side is not one of 2, 4, 8, 16, 32, 64, 128, 256 */
+#define RULMEDEI_SIDE_UNKNOWN 1   /* the side is no power of two from 2 to 256 */
 #define RULMEDEI_GREYS_SHORT 2    /* the greys buffer is shorter than N * N */
 #define RULMEDEI_PYRAMID_SHORT 3  /* the pyramid is shorter than needed */
 #define RULMEDEI_SHEET_SHORT 4    /* the serial sheet, or the order list where it is lent, is shorter than N * N */
@@ -50,7 +50,7 @@ extern "C" {
 
 /*
  * The lengths that a map of side N needs, in elements: N * N for greys, serials and order, and (4 * N * N - 1) / 3 for
- * the pyramid. A longer buffer will do; what lies past the needed length is neither read nor written.
+ * the pyramid. A longer buffer will do: its further elements play no part, and stay.
  *
  *     N               2    4    8    16    32    64    128    256
  *     cells           4   16   64   256  1024  4096  16384  65536
@@ -124,8 +124,9 @@ uint32_t rulmedei_map_text(const uint8_t *text, size_t text_length,
                            uint32_t *side);
 
 /*
- * Drill List: writes a line "holes,side", then for each hole in order a line "serial,row,column", and the number of
- * bytes to length, 0 where it refuses. Bytes past the list stay. No zero byte ends it. Refusals: 1, 3, 4, 5, 8.
+ * Drill List: writes the number of holes and the side on a first line, and then the serial, row and column of each
+ * hole, a line for each as they were made; commas part the numbers. The number of bytes is written to length, 0 where
+ * it refuses. Bytes past the list stay. No zero byte ends it. Refusals: 1, 3, 4, 5, 8.
  */
 uint32_t rulmedei_drill_list(uint32_t side,
                              uint32_t dots,
@@ -141,9 +142,9 @@ uint32_t rulmedei_drill_list(uint32_t side,
  * aligned, with one space between; with its end it has 29 bytes, and the page 29 * 4^level. Bytes past the page stay.
  * No zero byte ends it. Refusals: 1, 2, 4, 6, 8.
  *
- * With s the square's side, the cap is the smaller of s * s and (3 * grey sum + 764 + 1020 * s) / 765, rounded down.
- * The holes are at most the cap where Load and Advance made the serials from these greys; any other serials may be lent
- * too.
+ * The cap of a square with s cells along its side is (3 * grey sum + 764 + 1020 * s) / 765, rounded down, and at most
+ * s * s. The holes are at most the cap where Load and Advance made the serials from these greys; any other serials may
+ * be lent too.
  */
 uint32_t rulmedei_quote_page(uint32_t side,
                              const uint8_t *greys, size_t greys_length,
@@ -170,8 +171,8 @@ uint32_t rulmedei_sample(uint32_t seed,
 
 /*
  * Renew: makes each coarser entry over the cell (row, column), or over one of its up to eight neighbours on the map,
- * the sum of its four entries on the level below, level by level up to the top. No other entry changes, not even a
- * wrong one; the other sums need not be right.
+ * the sum of its four entries on the level below, level by level up to the top. All other entries stay as they
+ * are, right or wrong.
  *
  * RULMEDEI_DONE says that it did so: the side is one of the eight, the pyramid is long enough, row and column are below
  * the side, and each entry of the needed length is from -2^40 to 2^40. Else nothing has changed, and it returns

@@ -6,7 +6,7 @@ use mathlib.Core.Bool.{Bool, true, false, cond, not, _&&_}
 use mathlib.Core.List.{List, [], _∷_, _++_, map}
 use Prim.Native.Nat.{ℕ, zero, suc, _+_, _*_, _/_, _^_}
 use lib.Dec.{eqb}
-use lib.ListN.{set, take, replicate}
+use lib.ListN.{length, set, take, replicate}
 use lib.IntN.{ℤ, pos, negℤ, _+ℤ_}
 use Rattle.definition.specs.Lists.{sumTo, sumZTo, allTo, tabulateFrom, joined, repeated, eqZ}
 use Rattle.definition.specs.Answers.{Said, returned, finished, more, refused, numberOf}
@@ -427,7 +427,15 @@ unfoldable pub firstFailing : List Row → ℕ
 firstFailing [] = 0
 firstFailing (row ∷ rows) = elim (row .1) [ true ↦ firstFailing rows | false ↦ row .0 ]
 
-pub plates-hold : firstFailing (plates ++ furtherPlates ++ singlePlates) ≡ 0
+abbrev pub allPlates : List Row
+allPlates = plates ++ furtherPlates ++ singlePlates
+
+-- no row is lost
+pub plates-there : length allPlates ≡ 93
+unfolding plates furtherPlates singlePlates
+plates-there = refl
+
+pub plates-hold : firstFailing allPlates ≡ 0
 unfolding sumTo sumZTo allTo tabulateFrom joined repeated eqZ numberOf start placeIn rowAt columnAt levelOf
     inLevel entry four coarser pyramidOver blockSum blockSumZ greyAt burnt burntAt greySum greyTotal dotsIn
     allDots candidate firstOfEquals better largest descend plain within onMap weightAt share diffuse topOf

@@ -66,8 +66,8 @@ module _ (side : ℕ) (greys : List ℕ) (pyramid : List ℤ) (serials order : L
   abbrev model : Halftone
   model = modelAfterCalls plain r (modelStart r greys) calls
 
-  abbrev holes : ℕ
-  holes = held .progress .dots
+  abbrev dots : ℕ
+  dots = held .progress .dots
 
   demand : Demand3 plain side greys pyramid serials order calls
   demand = demand-3 side greys pyramid serials order accepted calls
@@ -83,15 +83,15 @@ module _ (side : ℕ) (greys : List ℕ) (pyramid : List ℤ) (serials order : L
   pub order-as-model : take (N * N) (held .order) ≡ model .order
   order-as-model = demand .order
 
-  pub record-as-model : (held .progress .side ≡ N) × (holes ≡ model .dots)
+  pub record-as-model : (held .progress .side ≡ N) × (dots ≡ model .dots)
   record-as-model = (ap (λ p. p .side) (demand .progress), ap (λ p. p .dots) (demand .progress))
 
   pub answers-as-model : replies ≡ modelReplies plain r (modelStart r greys) calls
   answers-as-model = demand .answered
 
-  -- and what the model has is its first holes for these greys
-  pub first-holes : model ≡ steps plain r holes (modelStart r greys)
-  first-holes = demand .first-dots
+  -- and what the model has is its first dots for these greys
+  pub first-dots : model ≡ steps plain r dots (modelStart r greys)
+  first-dots = demand .first-dots
 
   -- past the needed lengths nothing has changed
   pub pyramid-untouched : drop ((4 ^ suc r - 1) / 3) (held .pyramid) ≡ drop ((4 ^ suc r - 1) / 3) pyramid
@@ -104,23 +104,23 @@ module _ (side : ℕ) (greys : List ℕ) (pyramid : List ℤ) (serials order : L
   pub order-untouched : drop (N * N) (held .order) ≡ drop (N * N) order
   order-untouched = demand .order-rest
 
-  -- the number of holes, counted on the whole map: the total, or the budgets of the calls not refused if less
-  pub number-of-holes : allDots r (held .serials) ≡ min ((2 * G + 255) / 510) (granted calls replies)
-  number-of-holes = demand .all-dots ∙ demand .number
+  -- the number of dots, counted on the whole map: the total, or the budgets of the calls not refused if less
+  pub number-of-dots : allDots r (held .serials) ≡ min ((2 * G + 255) / 510) (granted calls replies)
+  number-of-dots = demand .all-dots ∙ demand .number
 
   -- and the record counts the same
-  pub holes-counted : allDots r (held .serials) ≡ holes
-  holes-counted = demand .all-dots
+  pub dots-counted : allDots r (held .serials) ≡ dots
+  dots-counted = demand .all-dots
 
   -- no cell is burnt twice
-  pub no-cell-twice : (i j : ℕ) → i < j → j < holes → getD (held .order) i 0 ≢ getD (held .order) j 0
+  pub no-cell-twice : (i j : ℕ) → i < j → j < dots → getD (held .order) i 0 ≢ getD (held .order) j 0
   no-cell-twice = demand .once
 
-  -- what is still owed
-  pub still-owed : pos (65280 * holes) +ℤ topOf (held .pyramid) ≡ pos (256 * G)
-  still-owed = demand .debt
+  -- what is left at the top
+  pub residual-left : pos (65280 * dots) +ℤ topOf (held .pyramid) ≡ pos (256 * G)
+  residual-left = demand .debt
 
-  -- of a call that isn't refused: it says finished just if all holes are made
+  -- of a call that isn't refused: it says finished just if all dots are made
   pub finished-just-then : Each
       (λ out. isRefusal (out .reply .said) ≡ false
       → (out .reply .said ≡ finished) ↔ (allDots r (out .serials) ≡ (2 * G + 255) / 510))
@@ -135,23 +135,23 @@ module _ (side : ℕ) (greys : List ℕ) (pyramid : List ℤ) (serials order : L
     abbrev g : ℕ
     g = greySum r greys k a b
 
-    abbrev square-holes : ℕ
-    square-holes = dotsIn r (held .serials) k a b
+    abbrev block-dots : ℕ
+    block-dots = dotsIn r (held .serials) k a b
 
-    pub under-the-cap : 765 * square-holes < 3 * g + 765 + 1020 * s
+    pub under-the-cap : 765 * block-dots < 3 * g + 765 + 1020 * s
     under-the-cap = demand .cap k a b level row column
 
     pub over-the-floor : topOf (held .pyramid) <ℤ pos 32640
-        → 2 * g < 510 * square-holes + 255 + 1530 * k + 2040 * (N - s)
+        → 2 * g < 510 * block-dots + 255 + 1530 * k + 2040 * (N - s)
     over-the-floor low = demand .floor low k a b level row column
 
-    -- on the quote page the holes are at most the cap, and every figure fits its column
-    pub printed-under-cap : square-holes ≤ min (s * s) ((3 * g + 764 + 1020 * s) / 765)
+    -- on the quote page the dots are at most the cap, and every figure fits its column
+    pub printed-under-cap : block-dots ≤ min (s * s) ((3 * g + 764 + 1020 * s) / 765)
     unfolding figures quoteCap
     printed-under-cap = demand .quotes k a b level row column .within
 
     pub columns-wide-enough :
-        (a < 10 ^ 3) × (b < 10 ^ 3) × (g < 10 ^ 8) × (square-holes < 10 ^ 5)
+        (a < 10 ^ 3) × (b < 10 ^ 3) × (g < 10 ^ 8) × (block-dots < 10 ^ 5)
         × (min (s * s) ((3 * g + 764 + 1020 * s) / 765) < 10 ^ 5)
     unfolding figures quoteCap
     columns-wide-enough =

@@ -107,8 +107,9 @@ pub fn map_text(text: &[u8], greys: &mut [u8]) -> Result<u32, Refusal> {
     Ok(side)
 }
 
-/// Drill List: writes a line "holes,side", then for each hole in order a line "serial,row,column"; returns the number
-/// of bytes. Those past it stay. Refusals: 1, 3, 4, 5, 8.
+/// Drill List: writes the number of holes and the side on a first line, and then the serial, row and column of each
+/// hole, a line for each as they were made; commas part the numbers. Returns the number of bytes; those past it stay.
+/// Refusals: 1, 3, 4, 5, 8.
 pub fn drill_list(
     progress: Progress,
     pyramid: &[i64],
@@ -123,9 +124,9 @@ pub fn drill_list(
 
 /// Quote Page: writes for each aligned square of a level, by row then column, a line with the square's row (3 wide),
 /// column (3), grey sum (8), holes (5) and cap (5), right aligned, with one space between; returns the number of bytes,
-/// which is `page_length(level)`. Those past it stay. With s the square's side, the cap is the smaller of s² and (3 ×
-/// grey sum + 764 + 1,020 × s) / 765, rounded down; the holes are at most the cap where Load and Advance made the
-/// serials from these greys. Refusals: 1, 2, 4, 6, 8.
+/// which is `page_length(level)`. Those past it stay. The cap of a square with s cells along its side is
+/// (3 × grey sum + 764 + 1,020 × s) / 765, rounded down, and at most s². The holes are at most the cap where Load and
+/// Advance made the serials from these greys. Refusals: 1, 2, 4, 6, 8.
 pub fn quote_page(side: u32, greys: &[u8], serials: &[u32], level: u32, out: &mut [u8]) -> Result<usize, Refusal> {
     let (code, length) = codes::quote_page(side, greys, serials, level, out);
     did(code)?;
@@ -144,7 +145,7 @@ pub fn sample(seed: u32, side: u32, greys: &mut [u8]) -> Result<u32, Refusal> {
 
 /// The renewal by itself, none of the eight calls: makes each coarser entry over the cell (row, column), or over one of
 /// its up to eight neighbours on the map, the sum of its four entries on the level below, level by level up to the top.
-/// No other entry changes, not even a wrong one; the other sums need not be right.
+/// All other entries stay as they are, right or wrong.
 ///
 /// True where it did so: the side is one of the eight, the pyramid is long enough, row and column are below the side,
 /// and each entry of the needed length is from −2^40 to 2^40. Else false, and nothing has changed.

@@ -29,7 +29,7 @@ macro_rules! refusals {
 }
 
 refusals! {
-    SideUnknown = 1: "the side is not one of 2, 4, 8, 16, 32, 64, 128, 256",
+    SideUnknown = 1: "the side is no power of two from 2 to 256",
     GreysShort = 2: "the greys buffer is shorter than N * N",
     PyramidShort = 3: "the pyramid is shorter than needed",
     SheetShort = 4: "the serial sheet, or the order list where it is lent, is shorter than N * N",
