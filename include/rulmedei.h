@@ -83,6 +83,10 @@ uint32_t rulmedei_load(uint32_t side,
  * Advance: makes the holes that are due, at most `budget` of them, from the record (side, dots) that the call before
  * returned, on the same buffers. The holes so far are written to after and those of this call to made; the side stays.
  * RULMEDEI_DONE says that none are due any more. A refused call writes `dots` and 0. Refusals: 1, 3, 4, 5.
+ *
+ * A hole goes down from the whole map to the quarter that asks for most, again and again. Of equal quarters a hole with
+ * an odd serial takes the first by row then column, and one with an even serial the last. A sheet that was loaded when
+ * the first was always taken goes on by this rule.
  */
 uint32_t rulmedei_advance(uint32_t side,
                           uint32_t dots,

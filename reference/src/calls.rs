@@ -66,7 +66,7 @@ pub fn advance(
             let side = progress.side;
             let made = dots_due(pyramid[0]).min(i64::from(budget)) as u32;
             for dots in progress.dots..progress.dots + made {
-                let cell = descend(power, pyramid);
+                let cell = descend(power, dots + 1, pyramid);
                 place(side, power, dots, cell, pyramid, serials, order);
             }
             let dots = progress.dots + made;

@@ -3,9 +3,9 @@
 use crate::pyramid::renew_over;
 use crate::shape::{entry, neighbours, DOT, HALF_DOT};
 
-/// "from the top, go to the entry of the four below with the largest sum, until level r. Among equal largest ones
-/// take the first in the order top left, top right, bottom left, bottom right." Gives the cell's row and column.
-pub fn descend(power: u32, pyramid: &[i64]) -> (usize, usize) {
+/// The cell that the dot with this serial goes to, as row and column: from the top, level by level, to a largest of
+/// the four entries below. Among equal ones an odd serial takes the first by row, an even one the last.
+pub fn descend(power: u32, serial: u32, pyramid: &[i64]) -> (usize, usize) {
     let (mut row, mut column) = (0, 0);
     for level in 1..=power {
         let four = [
@@ -17,7 +17,8 @@ pub fn descend(power: u32, pyramid: &[i64]) -> (usize, usize) {
         let sum = |(a, b): (usize, usize)| pyramid[entry(level, a, b)];
         let mut largest = four[0];
         for candidate in four {
-            if sum(candidate) > sum(largest) {
+            let equal_and_even = sum(candidate) == sum(largest) && serial % 2 == 0;
+            if sum(candidate) > sum(largest) || equal_and_even {
                 largest = candidate;
             }
         }

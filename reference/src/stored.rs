@@ -99,48 +99,55 @@ fn texts_and_lists(side: u32) -> Result<Vec<u8>, Refusal> {
     Ok(bytes)
 }
 
-/// The values that a proof in another language compares with: two maps run to their end.
+/// The values that a proof in another language compares with: three maps run to their end.
 fn expected_values() -> Result<String, Refusal> {
     let greys = generated(7, 16);
     let halved: Vec<u8> = generated(8, 64).iter().map(|grey| grey / 2).collect();
+    let flat = [240; 16];
     Ok(format!(
-        "-- Written by the reference (`cargo run --release -- write` in reference/) and not to be edited: \
-         two maps run to their end, side 4 and side 8.\n\
+        "-- Written by the reference (`cargo run --release -- write` in reference/) and not to be edited:\n\
+         -- three maps run to their end, side 4, side 8 and a flat one of side 4.\n\
          use mathlib.Core.List.{{List, [], _∷_}}\n\
          use Prim.Native.Nat.{{ℕ}}\n\
          use lib.IntN.{{ℤ, pos, negsuc}}\n\
          \n\
-         -- the map of side 4, and what Load and Advance leave: the order list, the serial sheet, the pyramid; \
-         then the sums of Levels\n\
+         -- the map of side 4, and what Load and Advance leave: the order list, the serial sheet, the pyramid;\n\
+         -- then the sums of Levels\n\
          {}\n\
          -- the map of side 8, likewise\n\
+         {}\n\
+         -- the flat map of side 4, where quarters and cells are equal, likewise\n\
          {}",
-        five_values(4, &greys)?,
-        five_values(8, &halved)?,
+        five_values("4", 4, &greys)?,
+        five_values("8", 8, &halved)?,
+        five_values("Flat4", 4, &flat)?,
     ))
 }
 
-/// The five values of one run, parted by empty lines.
-fn five_values(side: u32, greys: &[u8]) -> Result<String, Refusal> {
+/// The five values of one run, their names ending alike, parted by empty lines.
+fn five_values(ending: &str, side: u32, greys: &[u8]) -> Result<String, Refusal> {
     let run = run(side, greys)?;
     let integers: Vec<String> = run.buffers.pyramid.iter().map(|z| integer(*z)).collect();
     let values = [
-        value(&format!("greys{side}"), "ℕ", greys),
-        value(&format!("order{side}"), "ℕ", &run.buffers.order),
-        value(&format!("serials{side}"), "ℕ", &run.buffers.serials),
-        value(&format!("pyramid{side}"), "ℤ", &integers),
-        value(&format!("levels{side}"), "ℕ", &levels(side, greys, &run.buffers.serials)?),
+        value(&format!("greys{ending}"), "ℕ", greys),
+        value(&format!("order{ending}"), "ℕ", &run.buffers.order),
+        value(&format!("serials{ending}"), "ℕ", &run.buffers.serials),
+        value(&format!("pyramid{ending}"), "ℤ", &integers),
+        value(&format!("levels{ending}"), "ℕ", &levels(side, greys, &run.buffers.serials)?),
     ];
     Ok(values.join("\n"))
 }
 
-/// One value: the line with its type, and the line with its list.
+/// One value: the line with its type, and its list in lines of at most six items.
 fn value<T: Display>(name: &str, of: &str, items: &[T]) -> String {
     let mut list = String::new();
-    for item in items {
-        list.push_str(&format!("{item} ∷ "));
+    for line in items.chunks(6) {
+        for item in line {
+            list.push_str(&format!("{item} ∷ "));
+        }
+        list = list.trim_end_matches(" ∷ ").to_string() + "\n    ∷ ";
     }
-    format!("unfoldable pub {name} : List {of}\n{name} = {list}[]\n")
+    format!("unfoldable pub {name} : List {of}\n{name} =\n    {list}[]\n")
 }
 
 /// An integer as that language writes it.

@@ -40,9 +40,34 @@ fn p1_no_grey_no_dot() {
 fn p2_all_cells() {
     let (buffers, progress) = finished(2, &[255; 4]);
     assert_eq!(progress.dots, 4);
-    assert_eq!(buffers.order, [0, 1, 2, 3]);
-    assert_eq!(buffers.serials, [1, 2, 3, 4]);
+    assert_eq!(buffers.order, [0, 3, 1, 2]);
+    assert_eq!(buffers.serials, [1, 3, 4, 2]);
     assert_eq!(buffers.pyramid, [0; 5]);
+}
+
+/// Document 02, request 5, worked by hand: the second hole takes the later of two equal cells.
+#[test]
+fn turns_among_equals() {
+    let (mut buffers, progress) = loaded(2, &[240, 200, 200, 0]);
+    let first = buffers.advance(progress, 1);
+    assert_eq!(buffers.pyramid[1..], [0, 49_664, 49_664, -768]);
+    let second = buffers.advance(first.progress, 1);
+    assert_eq!(buffers.pyramid[1..], [-6_246, 46_541, 0, -7_015]);
+    let third = buffers.advance(second.progress, 9);
+    assert_eq!(buffers.pyramid, [-32_000, -13_741, 0, -3_748, -14_511]);
+    assert_eq!((third.made, third.status), (1, Ok(Ended::Finished)));
+    assert_eq!(buffers.order, [0, 2, 1, 0]);
+}
+
+/// Equal quarters above the cells take turns too.
+#[test]
+fn turns_among_equal_quarters() {
+    let mut greys = [0; 16];
+    for cell in [0, 3, 12, 15] {
+        greys[cell] = 255;
+    }
+    let (buffers, _) = finished(4, &greys);
+    assert_eq!(buffers.order[..4], [0, 15, 3, 12]);
 }
 
 #[test]

@@ -1,9 +1,10 @@
--- Document 01, "Descent".
+-- The descent (document 01, Descent), with the turns among equal entries (document 02, request 5).
 use mathlib.Core.Bool.{Bool, cond}
 use mathlib.Core.List.{List}
-use Prim.Native.Nat.{ℕ, zero, suc, _+_, _*_}
+use Prim.Native.Nat.{ℕ, zero, suc, _+_, _*_, _%_}
+use lib.Dec.{eqb}
 use lib.IntN.{ℤ}
-use lib.Signed.{ltZ}
+use lib.Signed.{ltZ, leZ}
 use Rattle.definition.specs.Pyramid.{entry}
 
 -- an entry that may be taken: its row, its column and its sum
@@ -19,14 +20,25 @@ candidate below a b = record { row = a; column = b; sum = below a b }
 abbrev pub Choice : Type 0
 Choice = ℤ → ℤ → Bool
 
--- "Among equal largest ones take the first": a later one only where it is larger
+-- the first of equal largest ones: a later one is taken only where it is larger
 unfoldable pub firstOfEquals : Choice
 firstOfEquals best next = ltZ best next
+
+-- the last of them: a later one is taken also where it is as large
+unfoldable pub lastOfEquals : Choice
+lastOfEquals best next = leZ best next
+
+unfoldable pub ofEquals : Bool → Choice
+ofEquals last = cond last lastOfEquals firstOfEquals
+
+-- the choice for the dot with this serial: of equals the last if it is even, the first if it is odd
+unfoldable pub choiceOf : ℕ → Choice
+choiceOf serial = ofEquals (eqb (serial % 2) 0)
 
 unfoldable pub better : Choice → Candidate → Candidate → Candidate
 better takes best next = cond (takes (best .sum) (next .sum)) next best
 
--- "the entry of the four below with the largest sum .. in the order top left, top right, bottom left, bottom right"
+-- of the four entries below (a, b), compared from the top left to the bottom right row by row: one with the largest sum
 unfoldable pub largest : Choice → (ℕ → ℕ → ℤ) → ℕ → ℕ → Candidate
 largest takes below a b =
     let topLeft = candidate below (2 * a) (2 * b) in
@@ -35,8 +47,8 @@ largest takes below a b =
     let bottomRight = candidate below (2 * a + 1) (2 * b + 1) in
     better takes (better takes (better takes topLeft topRight) bottomLeft) bottomRight
 
--- "from the top, go to the entry of the four below with the largest sum, until level r": the row and column reached from entry
--- (a, b) of level k after `left` levels more. From the top that is k = 0, a = b = 0 and left = r.
+-- the row and column reached from entry (a, b) of level k, where each of `left` steps goes to a largest of the four
+-- below; the whole descent, from the top to a cell, is k = 0, a = b = 0 and left = r
 unfoldable pub descend : Choice → List ℤ → ℕ → ℕ → ℕ → ℕ → ℕ × ℕ
 descend takes pyramid zero k a b = (a, b)
 descend takes pyramid (suc left) k a b =

@@ -1,36 +1,149 @@
--- Written by the reference (`cargo run --release -- write` in reference/) and not to be edited: two maps run to their end, side 4 and side 8.
+-- Written by the reference (`cargo run --release -- write` in reference/) and not to be edited:
+-- three maps run to their end, side 4, side 8 and a flat one of side 4.
 use mathlib.Core.List.{List, [], _∷_}
 use Prim.Native.Nat.{ℕ}
 use lib.IntN.{ℤ, pos, negsuc}
 
--- the map of side 4, and what Load and Advance leave: the order list, the serial sheet, the pyramid; then the sums of Levels
+-- the map of side 4, and what Load and Advance leave: the order list, the serial sheet, the pyramid;
+-- then the sums of Levels
 unfoldable pub greys4 : List ℕ
-greys4 = 61 ∷ 233 ∷ 156 ∷ 237 ∷ 12 ∷ 219 ∷ 92 ∷ 13 ∷ 17 ∷ 251 ∷ 249 ∷ 136 ∷ 115 ∷ 140 ∷ 154 ∷ 199 ∷ []
+greys4 =
+    61 ∷ 233 ∷ 156 ∷ 237 ∷ 12 ∷ 219
+    ∷ 92 ∷ 13 ∷ 17 ∷ 251 ∷ 249 ∷ 136
+    ∷ 115 ∷ 140 ∷ 154 ∷ 199
+    ∷ []
 
 unfoldable pub order4 : List ℕ
-order4 = 10 ∷ 1 ∷ 9 ∷ 3 ∷ 15 ∷ 5 ∷ 13 ∷ 2 ∷ 11 ∷ 0 ∷ 0 ∷ 0 ∷ 0 ∷ 0 ∷ 0 ∷ 0 ∷ []
+order4 =
+    10 ∷ 1 ∷ 9 ∷ 3 ∷ 15 ∷ 5
+    ∷ 13 ∷ 2 ∷ 11 ∷ 0 ∷ 0 ∷ 0
+    ∷ 0 ∷ 0 ∷ 0 ∷ 0
+    ∷ []
 
 unfoldable pub serials4 : List ℕ
-serials4 = 0 ∷ 2 ∷ 8 ∷ 4 ∷ 0 ∷ 6 ∷ 0 ∷ 0 ∷ 0 ∷ 3 ∷ 1 ∷ 9 ∷ 0 ∷ 7 ∷ 0 ∷ 5 ∷ []
+serials4 =
+    0 ∷ 2 ∷ 8 ∷ 4 ∷ 0 ∷ 6
+    ∷ 0 ∷ 0 ∷ 0 ∷ 3 ∷ 1 ∷ 9
+    ∷ 0 ∷ 7 ∷ 0 ∷ 5
+    ∷ []
 
 unfoldable pub pyramid4 : List ℤ
-pyramid4 = negsuc 2815 ∷ pos 835 ∷ negsuc 11037 ∷ pos 12117 ∷ negsuc 4729 ∷ pos 13295 ∷ negsuc 9204 ∷ pos 0 ∷ negsuc 7376 ∷ pos 434 ∷ negsuc 3688 ∷ pos 7798 ∷ negsuc 11458 ∷ negsuc 497 ∷ negsuc 9272 ∷ negsuc 16868 ∷ pos 0 ∷ pos 21888 ∷ pos 0 ∷ pos 21266 ∷ negsuc 9126 ∷ []
+pyramid4 =
+    negsuc 2815 ∷ pos 835 ∷ negsuc 11037 ∷ pos 12117 ∷ negsuc 4729 ∷ pos 13295
+    ∷ negsuc 9204 ∷ pos 0 ∷ negsuc 7376 ∷ pos 434 ∷ negsuc 3688 ∷ pos 7798
+    ∷ negsuc 11458 ∷ negsuc 497 ∷ negsuc 9272 ∷ negsuc 16868 ∷ pos 0 ∷ pos 21888
+    ∷ pos 0 ∷ pos 21266 ∷ negsuc 9126
+    ∷ []
 
 unfoldable pub levels4 : List ℕ
-levels4 = 121 ∷ 1267 ∷ 92207 ∷ 0 ∷ 0 ∷ 0 ∷ 0 ∷ 0 ∷ 0 ∷ []
+levels4 =
+    121 ∷ 1267 ∷ 92207 ∷ 0 ∷ 0 ∷ 0
+    ∷ 0 ∷ 0 ∷ 0
+    ∷ []
 
 -- the map of side 8, likewise
 unfoldable pub greys8 : List ℕ
-greys8 = 30 ∷ 0 ∷ 38 ∷ 123 ∷ 91 ∷ 77 ∷ 101 ∷ 124 ∷ 73 ∷ 5 ∷ 54 ∷ 27 ∷ 54 ∷ 63 ∷ 106 ∷ 31 ∷ 119 ∷ 55 ∷ 98 ∷ 94 ∷ 6 ∷ 5 ∷ 97 ∷ 105 ∷ 121 ∷ 102 ∷ 99 ∷ 95 ∷ 119 ∷ 9 ∷ 5 ∷ 33 ∷ 9 ∷ 29 ∷ 21 ∷ 0 ∷ 59 ∷ 95 ∷ 21 ∷ 94 ∷ 10 ∷ 25 ∷ 9 ∷ 34 ∷ 116 ∷ 20 ∷ 34 ∷ 47 ∷ 86 ∷ 44 ∷ 86 ∷ 4 ∷ 38 ∷ 89 ∷ 48 ∷ 115 ∷ 17 ∷ 127 ∷ 61 ∷ 82 ∷ 43 ∷ 40 ∷ 18 ∷ 89 ∷ []
+greys8 =
+    30 ∷ 0 ∷ 38 ∷ 123 ∷ 91 ∷ 77
+    ∷ 101 ∷ 124 ∷ 73 ∷ 5 ∷ 54 ∷ 27
+    ∷ 54 ∷ 63 ∷ 106 ∷ 31 ∷ 119 ∷ 55
+    ∷ 98 ∷ 94 ∷ 6 ∷ 5 ∷ 97 ∷ 105
+    ∷ 121 ∷ 102 ∷ 99 ∷ 95 ∷ 119 ∷ 9
+    ∷ 5 ∷ 33 ∷ 9 ∷ 29 ∷ 21 ∷ 0
+    ∷ 59 ∷ 95 ∷ 21 ∷ 94 ∷ 10 ∷ 25
+    ∷ 9 ∷ 34 ∷ 116 ∷ 20 ∷ 34 ∷ 47
+    ∷ 86 ∷ 44 ∷ 86 ∷ 4 ∷ 38 ∷ 89
+    ∷ 48 ∷ 115 ∷ 17 ∷ 127 ∷ 61 ∷ 82
+    ∷ 43 ∷ 40 ∷ 18 ∷ 89
+    ∷ []
 
 unfoldable pub order8 : List ℕ
-order8 = 24 ∷ 7 ∷ 44 ∷ 26 ∷ 4 ∷ 55 ∷ 19 ∷ 23 ∷ 53 ∷ 57 ∷ 16 ∷ 28 ∷ 59 ∷ 3 ∷ 39 ∷ 0 ∷ 0 ∷ 0 ∷ 0 ∷ 0 ∷ 0 ∷ 0 ∷ 0 ∷ 0 ∷ 0 ∷ 0 ∷ 0 ∷ 0 ∷ 0 ∷ 0 ∷ 0 ∷ 0 ∷ 0 ∷ 0 ∷ 0 ∷ 0 ∷ 0 ∷ 0 ∷ 0 ∷ 0 ∷ 0 ∷ 0 ∷ 0 ∷ 0 ∷ 0 ∷ 0 ∷ 0 ∷ 0 ∷ 0 ∷ 0 ∷ 0 ∷ 0 ∷ 0 ∷ 0 ∷ 0 ∷ 0 ∷ 0 ∷ 0 ∷ 0 ∷ 0 ∷ 0 ∷ 0 ∷ 0 ∷ 0 ∷ []
+order8 =
+    24 ∷ 7 ∷ 44 ∷ 26 ∷ 4 ∷ 55
+    ∷ 19 ∷ 23 ∷ 53 ∷ 57 ∷ 16 ∷ 28
+    ∷ 59 ∷ 3 ∷ 39 ∷ 0 ∷ 0 ∷ 0
+    ∷ 0 ∷ 0 ∷ 0 ∷ 0 ∷ 0 ∷ 0
+    ∷ 0 ∷ 0 ∷ 0 ∷ 0 ∷ 0 ∷ 0
+    ∷ 0 ∷ 0 ∷ 0 ∷ 0 ∷ 0 ∷ 0
+    ∷ 0 ∷ 0 ∷ 0 ∷ 0 ∷ 0 ∷ 0
+    ∷ 0 ∷ 0 ∷ 0 ∷ 0 ∷ 0 ∷ 0
+    ∷ 0 ∷ 0 ∷ 0 ∷ 0 ∷ 0 ∷ 0
+    ∷ 0 ∷ 0 ∷ 0 ∷ 0 ∷ 0 ∷ 0
+    ∷ 0 ∷ 0 ∷ 0 ∷ 0
+    ∷ []
 
 unfoldable pub serials8 : List ℕ
-serials8 = 0 ∷ 0 ∷ 0 ∷ 14 ∷ 5 ∷ 0 ∷ 0 ∷ 2 ∷ 0 ∷ 0 ∷ 0 ∷ 0 ∷ 0 ∷ 0 ∷ 0 ∷ 0 ∷ 11 ∷ 0 ∷ 0 ∷ 7 ∷ 0 ∷ 0 ∷ 0 ∷ 8 ∷ 1 ∷ 0 ∷ 4 ∷ 0 ∷ 12 ∷ 0 ∷ 0 ∷ 0 ∷ 0 ∷ 0 ∷ 0 ∷ 0 ∷ 0 ∷ 0 ∷ 0 ∷ 15 ∷ 0 ∷ 0 ∷ 0 ∷ 0 ∷ 3 ∷ 0 ∷ 0 ∷ 0 ∷ 0 ∷ 0 ∷ 0 ∷ 0 ∷ 0 ∷ 9 ∷ 0 ∷ 6 ∷ 0 ∷ 10 ∷ 0 ∷ 13 ∷ 0 ∷ 0 ∷ 0 ∷ 0 ∷ []
+serials8 =
+    0 ∷ 0 ∷ 0 ∷ 14 ∷ 5 ∷ 0
+    ∷ 0 ∷ 2 ∷ 0 ∷ 0 ∷ 0 ∷ 0
+    ∷ 0 ∷ 0 ∷ 0 ∷ 0 ∷ 11 ∷ 0
+    ∷ 0 ∷ 7 ∷ 0 ∷ 0 ∷ 0 ∷ 8
+    ∷ 1 ∷ 0 ∷ 4 ∷ 0 ∷ 12 ∷ 0
+    ∷ 0 ∷ 0 ∷ 0 ∷ 0 ∷ 0 ∷ 0
+    ∷ 0 ∷ 0 ∷ 0 ∷ 15 ∷ 0 ∷ 0
+    ∷ 0 ∷ 0 ∷ 3 ∷ 0 ∷ 0 ∷ 0
+    ∷ 0 ∷ 0 ∷ 0 ∷ 0 ∷ 0 ∷ 9
+    ∷ 0 ∷ 6 ∷ 0 ∷ 10 ∷ 0 ∷ 13
+    ∷ 0 ∷ 0 ∷ 0 ∷ 0
+    ∷ []
 
 unfoldable pub pyramid8 : List ℤ
-pyramid8 = negsuc 14335 ∷ negsuc 4095 ∷ negsuc 7156 ∷ pos 9663 ∷ negsuc 12745 ∷ pos 11376 ∷ negsuc 13599 ∷ pos 3104 ∷ pos 12992 ∷ negsuc 9775 ∷ pos 7904 ∷ negsuc 18356 ∷ negsuc 4895 ∷ pos 2496 ∷ negsuc 5706 ∷ pos 8721 ∷ negsuc 16876 ∷ pos 17152 ∷ negsuc 4277 ∷ negsuc 10503 ∷ pos 5914 ∷ pos 7680 ∷ pos 0 ∷ negsuc 1343 ∷ pos 0 ∷ negsuc 11071 ∷ pos 9216 ∷ pos 12442 ∷ pos 0 ∷ pos 7840 ∷ negsuc 4143 ∷ pos 4576 ∷ negsuc 16831 ∷ negsuc 5919 ∷ pos 10880 ∷ pos 15629 ∷ negsuc 15078 ∷ pos 0 ∷ negsuc 4383 ∷ pos 11008 ∷ negsuc 3209 ∷ negsuc 12309 ∷ negsuc 1929 ∷ pos 15232 ∷ pos 0 ∷ negsuc 10847 ∷ pos 5456 ∷ negsuc 3711 ∷ pos 3818 ∷ pos 0 ∷ negsuc 4116 ∷ negsuc 8671 ∷ negsuc 11455 ∷ negsuc 6271 ∷ negsuc 191 ∷ negsuc 1279 ∷ negsuc 9503 ∷ pos 2752 ∷ pos 18144 ∷ negsuc 4927 ∷ pos 0 ∷ pos 2560 ∷ pos 6400 ∷ pos 2304 ∷ pos 2773 ∷ negsuc 3787 ∷ negsuc 8386 ∷ negsuc 4716 ∷ negsuc 7231 ∷ pos 17920 ∷ pos 3072 ∷ pos 12384 ∷ negsuc 13013 ∷ negsuc 9314 ∷ pos 0 ∷ negsuc 4248 ∷ pos 0 ∷ negsuc 3839 ∷ pos 0 ∷ negsuc 3647 ∷ pos 0 ∷ negsuc 3851 ∷ pos 2663 ∷ negsuc 3660 ∷ pos 13824 ∷ []
+pyramid8 =
+    negsuc 14335 ∷ negsuc 4095 ∷ negsuc 7156 ∷ pos 9663 ∷ negsuc 12745 ∷ pos 11376
+    ∷ negsuc 13599 ∷ pos 3104 ∷ pos 12992 ∷ negsuc 9775 ∷ pos 7904 ∷ negsuc 18356
+    ∷ negsuc 4895 ∷ pos 2496 ∷ negsuc 5706 ∷ pos 8721 ∷ negsuc 16876 ∷ pos 17152
+    ∷ negsuc 4277 ∷ negsuc 10503 ∷ pos 5914 ∷ pos 7680 ∷ pos 0 ∷ negsuc 1343
+    ∷ pos 0 ∷ negsuc 11071 ∷ pos 9216 ∷ pos 12442 ∷ pos 0 ∷ pos 7840
+    ∷ negsuc 4143 ∷ pos 4576 ∷ negsuc 16831 ∷ negsuc 5919 ∷ pos 10880 ∷ pos 15629
+    ∷ negsuc 15078 ∷ pos 0 ∷ negsuc 4383 ∷ pos 11008 ∷ negsuc 3209 ∷ negsuc 12309
+    ∷ negsuc 1929 ∷ pos 15232 ∷ pos 0 ∷ negsuc 10847 ∷ pos 5456 ∷ negsuc 3711
+    ∷ pos 3818 ∷ pos 0 ∷ negsuc 4116 ∷ negsuc 8671 ∷ negsuc 11455 ∷ negsuc 6271
+    ∷ negsuc 191 ∷ negsuc 1279 ∷ negsuc 9503 ∷ pos 2752 ∷ pos 18144 ∷ negsuc 4927
+    ∷ pos 0 ∷ pos 2560 ∷ pos 6400 ∷ pos 2304 ∷ pos 2773 ∷ negsuc 3787
+    ∷ negsuc 8386 ∷ negsuc 4716 ∷ negsuc 7231 ∷ pos 17920 ∷ pos 3072 ∷ pos 12384
+    ∷ negsuc 13013 ∷ negsuc 9314 ∷ pos 0 ∷ negsuc 4248 ∷ pos 0 ∷ negsuc 3839
+    ∷ pos 0 ∷ negsuc 3647 ∷ pos 0 ∷ negsuc 3851 ∷ pos 2663 ∷ negsuc 3660
+    ∷ pos 13824
+    ∷ []
 
 unfoldable pub levels8 : List ℕ
-levels8 = 3136 ∷ 41072 ∷ 83234 ∷ 473408 ∷ 0 ∷ 0 ∷ 0 ∷ 0 ∷ 0 ∷ []
+levels8 =
+    3136 ∷ 41072 ∷ 83234 ∷ 473408 ∷ 0 ∷ 0
+    ∷ 0 ∷ 0 ∷ 0
+    ∷ []
+
+-- the flat map of side 4, where quarters and cells are equal, likewise
+unfoldable pub greysFlat4 : List ℕ
+greysFlat4 =
+    240 ∷ 240 ∷ 240 ∷ 240 ∷ 240 ∷ 240
+    ∷ 240 ∷ 240 ∷ 240 ∷ 240 ∷ 240 ∷ 240
+    ∷ 240 ∷ 240 ∷ 240 ∷ 240
+    ∷ []
+
+unfoldable pub orderFlat4 : List ℕ
+orderFlat4 =
+    0 ∷ 15 ∷ 2 ∷ 13 ∷ 7 ∷ 8
+    ∷ 5 ∷ 10 ∷ 3 ∷ 12 ∷ 14 ∷ 1
+    ∷ 11 ∷ 4 ∷ 9 ∷ 0
+    ∷ []
+
+unfoldable pub serialsFlat4 : List ℕ
+serialsFlat4 =
+    1 ∷ 12 ∷ 3 ∷ 9 ∷ 14 ∷ 7
+    ∷ 0 ∷ 5 ∷ 6 ∷ 15 ∷ 8 ∷ 13
+    ∷ 10 ∷ 4 ∷ 11 ∷ 2
+    ∷ []
+
+unfoldable pub pyramidFlat4 : List ℤ
+pyramidFlat4 =
+    pos 3840 ∷ negsuc 12542 ∷ pos 43260 ∷ negsuc 14704 ∷ negsuc 12171 ∷ negsuc 4361
+    ∷ negsuc 1037 ∷ negsuc 5179 ∷ pos 0 ∷ negsuc 912 ∷ negsuc 6229 ∷ pos 53398
+    ∷ negsuc 4957 ∷ negsuc 6724 ∷ pos 0 ∷ negsuc 5763 ∷ pos 0 ∷ negsuc 913
+    ∷ negsuc 7065 ∷ negsuc 1962 ∷ negsuc 4444
+    ∷ []
+
+unfoldable pub levelsFlat4 : List ℕ
+levelsFlat4 =
+    225 ∷ 48825 ∷ 60975 ∷ 0 ∷ 0 ∷ 0
+    ∷ 0 ∷ 0 ∷ 0
+    ∷ []

@@ -7,7 +7,7 @@ use lib.IntN.{ℤ, pos, natAbs, _-ℤ_}
 use lib.Signed.{leZ}
 use Rattle.definition.specs.Pyramid.{oneDot, halfDot, cellCount, cellNumber, start, placeIn, levelOf, inLevel, pyramidOver}
 use Rattle.definition.specs.Blocks.{greyAt}
-use Rattle.definition.specs.Descent.{descend, firstOfEquals}
+use Rattle.definition.specs.Descent.{choiceOf, descend}
 use Rattle.definition.specs.Diffusion.{Kernel, diffuse}
 
 -- "Its state is a pyramid, a serial sheet, an order list and h, the holes so far" (document 01's sheet): "the serial sheet, by row then
@@ -54,12 +54,12 @@ placeDot kernel r s cell =
       dots = suc (s .dots);
     }
 
--- "While its top, the level 0 entry, is 32,640 or more, one step makes hole h + 1 by Descent, Burn and Spread, notes it in serial
--- sheet and order list and raises h by 1; with a lower top a step changes nothing."
+-- One step: while the top is at least half a dot, the next dot is placed where the descent comes to by the choice of
+-- its serial; below that a step changes nothing (document 01, the model; document 02, request 5).
 unfoldable pub step : Kernel → ℕ → Halftone → Halftone
 step kernel r s =
     elim (leZ (pos halfDot) (topOf (s .pyramid))) [
-      | true ↦ placeDot kernel r s (descend firstOfEquals (s .pyramid) r 0 0 0)
+      | true ↦ placeDot kernel r s (descend (choiceOf (suc (s .dots))) (s .pyramid) r 0 0 0)
       | false ↦ s
     ]
 

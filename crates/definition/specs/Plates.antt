@@ -12,7 +12,16 @@ use Rattle.definition.specs.Lists.{sumTo, sumZTo, allTo, tabulateFrom, j
 use Rattle.definition.specs.Answers.{Said, returned, finished, more, refused, numberOf}
 use Rattle.definition.specs.Pyramid.{start, needed, cellCount, placeIn, rowAt, columnAt, levelOf, inLevel, entry, four, coarser, pyramidOver}
 use Rattle.definition.specs.Blocks.{blockSum, blockSumZ, greyAt, burnt, burntAt, greySum, greyTotal, dotsIn, allDots}
-use Rattle.definition.specs.Descent.{candidate, firstOfEquals, better, largest, descend}
+use Rattle.definition.specs.Descent.{
+  candidate,
+  firstOfEquals,
+  lastOfEquals,
+  ofEquals,
+  choiceOf,
+  better,
+  largest,
+  descend,
+}
 use Rattle.definition.specs.Diffusion.{plain, within, onMap, weightAt, share, diffuse}
 use Rattle.definition.specs.Model.{Halftone, topOf, modelStart, missing, placeDot, step, steps}
 use Rattle.definition.specs.Sound.{burntNear, everyEntry, fewDots, numbered, counted, unused, summed, bounded, owing, isSound}
@@ -31,7 +40,23 @@ use Rattle.definition.specs.Quote.{quoteOfMap, quoteOfText, quoteOf}
 use Rattle.definition.specs.Calls.{Call, Held, heldAfterLoad, callOf, heldAfter, outcomesOf, heldAfterCalls, repliesOf, modelRefusal, modelCall, modelReply, modelAfterCalls, modelReplies}
 use Rattle.definition.specs.declared.Progress.{Progress}
 use Rattle.definition.specs.declared.Refusal.the-variants as Refusal
-use Rattle.definition.specs.Expected.{greys4, order4, serials4, pyramid4, levels4, greys8, order8, serials8, pyramid8, levels8}
+use Rattle.definition.specs.Expected.{
+  greys4,
+  order4,
+  serials4,
+  pyramid4,
+  levels4,
+  greys8,
+  order8,
+  serials8,
+  pyramid8,
+  levels8,
+  greysFlat4,
+  orderFlat4,
+  serialsFlat4,
+  pyramidFlat4,
+  levelsFlat4,
+}
 
 -- ---- equal lists; what was said, as a list
 unfoldable pub same : List ℕ → List ℕ → Bool
@@ -124,9 +149,9 @@ unfoldable pub plates : List Row
 plates =
     -- P1: side 2, greys 0: no hole, finished
     (1, answers 1 p1 (9 ∷ []) ((0, finished) ∷ []))
-    -- P2: side 2, greys 255: (0,0), (0,1), (1,0), (1,1), all debts 0
+    -- P2: side 2, greys 255: (0,0), (1,1), (0,1), (1,0), all debts 0
     ∷ (2, answers 1 p2 (9 ∷ []) ((4, finished) ∷ []))
-    ∷ (2, leaves 1 p2 (9 ∷ []) (pos 0 ∷ pos 0 ∷ pos 0 ∷ pos 0 ∷ pos 0 ∷ []) (1 ∷ 2 ∷ 3 ∷ 4 ∷ []) (0 ∷ 1 ∷ 2 ∷ 3 ∷ []))
+    ∷ (2, leaves 1 p2 (9 ∷ []) (replicate 5 (pos 0)) (1 ∷ 3 ∷ 4 ∷ 2 ∷ []) (0 ∷ 3 ∷ 1 ∷ 2 ∷ []))
     -- P3: side 2, greys 128: debts after one hole 0, 19,764, 19,763, 26,265; after the second −7,803, 4,158, 4,157, 0, top 512, finished
     ∷ (3, leaves 1 p3 (1 ∷ []) (pos 65792 ∷ pos 0 ∷ pos 19764 ∷ pos 19763 ∷ pos 26265 ∷ []) (1 ∷ 0 ∷ 0 ∷ 0 ∷ []) (0 ∷ 0 ∷ 0 ∷ 0 ∷ []))
     ∷ (3, leaves 1 p3 (9 ∷ []) (pos 512 ∷ minus 7803 ∷ pos 4158 ∷ pos 4157 ∷ pos 0 ∷ []) (1 ∷ 0 ∷ 0 ∷ 2 ∷ []) (0 ∷ 3 ∷ 0 ∷ 0 ∷ []))
@@ -326,9 +351,13 @@ givesBack side dots =
     let reply = advanceOf plain (record { side = side; dots = dots }) 9 [] [] [] .reply in
     eqb (reply .progress .side) side && eqb (reply .progress .dots) dots && eqb (reply .made) 0
 
--- the holes of a map of side 4 that is 255 at two cells and 0 elsewhere, in their order
-unfoldable pub orderOfTwo : ℕ → ℕ → List ℕ
-orderOfTwo x y = take 2 (after 2 (set (set (replicate 16 0) x 255) y 255) (9 ∷ []) .order)
+-- the holes of a map of side 4 that is 255 at these cells and 0 elsewhere, in their order
+unfoldable pub darkAt : List ℕ → List ℕ
+darkAt [] = replicate 16 0
+darkAt (cell ∷ cells) = set (darkAt cells) cell 255
+
+unfoldable pub orderOf : List ℕ → List ℕ
+orderOf cells = take (length cells) (after 2 (darkAt cells) (9 ∷ []) .order)
 
 -- what the programs print: the line "refused,n" for a number of one digit
 unfoldable pub refusedLine : ℕ → List ℕ
@@ -362,6 +391,13 @@ tenDigits last = 52 ∷ 50 ∷ 57 ∷ 52 ∷ 57 ∷ 54 ∷ 55 ∷ 50 ∷ 57 ∷ 
 -- P3's quote page of level 1
 unfoldable pub pageP3 : List ℕ
 pageP3 = lineP3 0 0 1 2 8 1 1 ++ lineP3 0 1 1 2 8 0 1 ++ lineP3 1 0 1 2 8 0 1 ++ lineP3 1 1 1 2 8 1 1
+
+-- a map with equal cells, and the debts that it is left with
+unfoldable pub turns : List ℕ
+turns = 240 ∷ 200 ∷ 200 ∷ 0 ∷ []
+
+unfoldable pub turnsPyramid : List ℤ
+turnsPyramid = minus 32000 ∷ minus 13741 ∷ pos 0 ∷ minus 3748 ∷ minus 14511 ∷ []
 
 unfoldable pub singlePlates : List Row
 singlePlates =
@@ -406,9 +442,11 @@ singlePlates =
     ∷ (66, refuses (altered 0 (1 ∷ 0 ∷ 0 ∷ 0 ∷ []) (0 ∷ 0 ∷ 0 ∷ 3 ∷ []) (pos 0) (minus 1) .said) 5)
     -- a list in which rows and columns differ
     ∷ (67, same (plateOf textRight) listRight)
-    -- equal quarters above the cells: of each two neighbours in the order of the descent, the first
-    ∷ (68, same (orderOfTwo 0 2) (0 ∷ 2 ∷ []) && same (orderOfTwo 3 12) (3 ∷ 12 ∷ []))
-    ∷ (68, same (orderOfTwo 8 15) (8 ∷ 15 ∷ []))
+    -- equal quarters above the cells: of each two neighbours in the order of the descent, the first; of four, in turn
+    -- the first and the last of those left
+    ∷ (68, same (orderOf (0 ∷ 2 ∷ [])) (0 ∷ 2 ∷ []) && same (orderOf (3 ∷ 12 ∷ [])) (3 ∷ 12 ∷ []))
+    ∷ (68, same (orderOf (8 ∷ 15 ∷ [])) (8 ∷ 15 ∷ []))
+    ∷ (68, same (orderOf (0 ∷ 3 ∷ 12 ∷ 15 ∷ [])) (0 ∷ 15 ∷ 3 ∷ 12 ∷ []))
     -- `plate`: no map text, side 3, side 64; an input of 4,099 bytes is read (this is no map text), one of 4,100 is not
     ∷ (69, plateRefuses textX 7 && plateRefuses (51 ∷ 10 ∷ []) 1 && plateRefuses text64 2)
     ∷ (69, plateRefuses (replicate 4099 48) 7 && plateRefuses (replicate 4100 48) 9)
@@ -420,6 +458,12 @@ singlePlates =
     ∷ (72, quoteRefuses (tenDigits 54 ++ textP3) 7)
     ∷ (73, quoteRefuses (level0 ++ textX) 7 && quoteRefuses (level0 ++ 51 ∷ 10 ∷ []) 1)
     ∷ (73, quoteRefuses (level0 ++ text64) 2)
+    -- document 02's turns, side 2: after the first hole two cells owe 49,664 each, and the second takes the later one;
+    -- and a flat map of side 4, in one call and in several
+    ∷ (74, leaves 1 turns (9 ∷ []) turnsPyramid (1 ∷ 3 ∷ 2 ∷ 0 ∷ []) (0 ∷ 2 ∷ 1 ∷ 0 ∷ []))
+    ∷ (75, leaves 2 greysFlat4 (99 ∷ []) pyramidFlat4 serialsFlat4 orderFlat4)
+    ∷ (75, leaves 2 greysFlat4 (1 ∷ 1 ∷ 3 ∷ 99 ∷ []) pyramidFlat4 serialsFlat4 orderFlat4)
+    ∷ (75, same (levelsOf 4 greysFlat4 serialsFlat4 .sums) levelsFlat4)
     ∷ []
 
 -- the number of the first row that doesn't hold; 0 if they all do
@@ -431,26 +475,27 @@ abbrev pub allPlates : List Row
 allPlates = plates ++ furtherPlates ++ singlePlates
 
 -- no row is lost
-pub plates-there : length allPlates ≡ 93
+pub plates-there : length allPlates ≡ 98
 unfolding plates furtherPlates singlePlates
 plates-there = refl
 
 pub plates-hold : firstFailing allPlates ≡ 0
-unfolding sumTo sumZTo allTo tabulateFrom joined repeated eqZ numberOf start placeIn rowAt columnAt levelOf
-    inLevel entry four coarser pyramidOver blockSum blockSumZ greyAt burnt burntAt greySum greyTotal dotsIn
-    allDots candidate firstOfEquals better largest descend plain within onMap weightAt share diffuse topOf
-    modelStart missing placeDot step steps burntNear everyEntry fewDots numbered counted unused summed bounded
-    owing isSound powerUpTo powerOf lowest greysRefusal loadRefusal loaded loadOf dotsDue saidAt sheetIn
-    advanceRefusal advanced advanceOf tallyRefusal tallyOf errorAt squared levelSum levelsRefusal levelsOf
-    digitsUpTo decimal rightAligned line lineEnds isDigit digitsThen fieldOf textInto rowsText mapText
-    valuesOf readGreys readMap mapTextOf dotLines drillText drillListRefusal drillListOf quoteCap figures
-    alignedLine quoteText quotePageRefusal quotePageOf isNear overThese renewed isSmall entriesSmall renewable
-    renewalOf nextState greyOf sampleGreys stateAfter sampleOf sampleText refusedText finishedOf plateOf
-    quoteOfMap quoteOfText quoteOf heldAfterLoad callOf heldAfter outcomesOf heldAfterCalls repliesOf
-    modelRefusal modelCall modelReply modelAfterCalls modelReplies greys4 order4 serials4 pyramid4 levels4
-    greys8 order8 serials8 pyramid8 levels8 same sameZ saidAs refuses loadedMap callsOf after modelAfter
-    replied answers leaves sharesFrom shares total p1 p2 p3 p6 textP3 listP3 listed lineP3 quoted owedWith
-    altered renews4 renews8 leftAlone samples sampleBegins numbers says loads advances lists reads textOfGrey
-    acceptsLow lowBeside givesBack orderOfTwo refusedLine plateRefuses quoteRefuses text64 textX level0
-    textRight listRight tenDigits pageP3 plates furtherPlates singlePlates firstFailing
+unfolding sumTo sumZTo allTo tabulateFrom joined repeated eqZ numberOf start placeIn rowAt columnAt
+    levelOf inLevel entry four coarser pyramidOver blockSum blockSumZ greyAt burnt burntAt greySum greyTotal
+    dotsIn allDots candidate firstOfEquals lastOfEquals ofEquals choiceOf better largest descend plain within
+    onMap weightAt share diffuse topOf modelStart missing placeDot step steps burntNear everyEntry fewDots
+    numbered counted unused summed bounded owing isSound powerUpTo powerOf lowest greysRefusal loadRefusal
+    loaded loadOf dotsDue saidAt sheetIn advanceRefusal advanced advanceOf tallyRefusal tallyOf errorAt
+    squared levelSum levelsRefusal levelsOf digitsUpTo decimal rightAligned line lineEnds isDigit digitsThen
+    fieldOf textInto rowsText mapText valuesOf readGreys readMap mapTextOf dotLines drillText drillListRefusal
+    drillListOf quoteCap figures alignedLine quoteText quotePageRefusal quotePageOf isNear overThese renewed
+    isSmall entriesSmall renewable renewalOf nextState greyOf sampleGreys stateAfter sampleOf sampleText
+    refusedText finishedOf plateOf quoteOfMap quoteOfText quoteOf heldAfterLoad callOf heldAfter outcomesOf
+    heldAfterCalls repliesOf modelRefusal modelCall modelReply modelAfterCalls modelReplies greys4 order4
+    serials4 pyramid4 levels4 greys8 order8 serials8 pyramid8 levels8 greysFlat4 orderFlat4 serialsFlat4
+    pyramidFlat4 levelsFlat4 same sameZ saidAs refuses loadedMap callsOf after modelAfter replied answers
+    leaves sharesFrom shares total p1 p2 p3 p6 textP3 listP3 listed lineP3 quoted owedWith altered renews4
+    renews8 leftAlone samples sampleBegins numbers says loads advances lists reads textOfGrey acceptsLow
+    lowBeside givesBack darkAt orderOf refusedLine plateRefuses quoteRefuses text64 textX level0 textRight
+    listRight tenDigits pageP3 turns turnsPyramid plates furtherPlates singlePlates firstFailing
 plates-hold = refl

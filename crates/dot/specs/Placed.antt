@@ -1,12 +1,13 @@
 -- A dot placed by the code: the walk, the cells burnt, the sums over them, and the number noted.
 use mathlib.Core.Path.{_≡_, refl, sym, ap, _∙_}
-use mathlib.Core.Bool.{false}
+use mathlib.Core.Bool.{Bool, false}
 use mathlib.Core.List.{List, _++_}
-use Prim.Native.Nat.{ℕ, zero, suc, _+_, _*_, _-_, _^_, _≤_, _<_}
+use Prim.Native.Nat.{ℕ, zero, suc, _+_, _*_, _-_, _%_, _^_, _≤_, _<_}
 use native.Mathlib.Omega.{arith}
 use native.Mathlib.Nat.{sub-zero}
 use native.Mathlib.Numerals.{add-one}
 use native.Mathlib.Decide.{ℕ-discrete}
+use lib.Dec.{eqb}
 use lib.Pow.{pow-mono}
 use lib.ListN.{length, getD, take, drop, set, length-set, length-drop, length-append}
 use lib.Seq.{length-take-le}
@@ -15,23 +16,23 @@ use mir.Syntax.{w64}
 use mir.Val.{Fits}
 use borrow.Author.Tests.{eq-eqb, ne-eqb}
 use Rattle.definition.specs.Pyramid.{cellCount, start, placeIn, inLevel, entry, pyramidOver}
-use Rattle.definition.specs.Descent.{firstOfEquals, descend}
+use Rattle.definition.specs.Descent.{ofEquals, choiceOf, descend}
 use Rattle.definition.specs.Diffusion.{Kernel, plain, weightAt, diffuse}
 use Rattle.definition.specs.Model.{Halftone, missing, placeDot, step}
 use Rattle.definition.specs.Renewal.{isNear, renewed}
-use Rattle.integers.specs.Tests.{true-T}
+use Rattle.integers.specs.Tests.{tests, true-T, same-test}
 use Rattle.quadtree.specs.Levels.{start-suc, start-mono, cell-lt, cells-few}
 use Rattle.quadtree.specs.Pyramids.{entry-drop, pyramid-cells}
 use Rattle.quadtree.specs.Renewal.{Changed, renewed-right}
 use Rattle.shares.specs.Kernels.{plain-fit}
 use Rattle.dots.specs.Kept.{sound-summed}
 use Rattle.dots.specs.Steps.{Sheet, target, step-made, row-in, column-in, next-sheet, next-away}
-use Rattle.pyramid.specs.Asked.{Within, Whole}
+use Rattle.pyramid.specs.Asked.{Within, Whole, SmallPyramid}
 use Rattle.pyramid.specs.Four.{within-mono}
 use Rattle.pyramid.specs.Small.{take-within, append-within}
 use Rattle.pyramid.specs.Turn.{tail-lent, tail-back}
+use Rattle.descent.specs.Asked.{DescentAsked}
 use Rattle.diffusion.specs.Asked.{PlaceAsked}
-use Rattle.renewal.specs.Asked.{SmallPyramid}
 use Rattle.dot.specs.Asked.{DotAsked, NoteAsked}
 use Rattle.dot.specs.Small.{mostResidual, sound-small, places-small, all-small}
 
@@ -47,6 +48,10 @@ length-diffuse kernel r row column d (suc n) cells = go (ℕ-discrete (weightAt 
     go (yes z) e = rw (eq-eqb (weightAt kernel r row column n) 0 z, diffuse) e
     go (no z) e = rw (ne-eqb (weightAt kernel r row column n) 0 z, diffuse) (simp length-set e)
 
+-- after an odd number of dots the next serial is even
+in-turn : (n : ℕ) → eqb (n % 2) 1 ≡ eqb (suc n % 2) 0
+in-turn n = same-test (eqb (n % 2) 1) (eqb (suc n % 2) 0) (λ t. omega tests) (λ t. omega tests)
+
 module _ (r : ℕ) (p : List ℤ) (ss o : List ℕ) (dots : ℕ) (h : DotAsked r (record { pyramid = p; serials = ss; order = o; dots = dots })) where
   abbrev s : Halftone
   s = record { pyramid = p; serials = ss; order = o; dots = dots }
@@ -60,10 +65,37 @@ module _ (r : ℕ) (p : List ℤ) (ss o : List ℕ) (dots : ℕ) (h : DotAsked r
   cells-long : length (drop (start r) p) ≡ cellCount r
   cells-long = omega (arith, length-drop (start r) p, long)
 
+  p-small : (i : ℕ) → Within (2 ^ 40) (getD p i (pos 0))
+  p-small i =
+      within-mono _ _ _ (omega (arith, cells-few r (h .small)))
+      (all-small r p mostResidual (sound-summed (h .sheet .sound)) (sound-small r s (h .sheet .sound))
+      (h .sheet .sized .pyramid) i)
+
+  pub descent-asked : DescentAsked p r 0 0 0
+  descent-asked =
+      record {
+        most = h .small;
+        level = omega arith;
+        row = omega arith;
+        column = omega arith;
+        whole = h .sheet .sized .pyramid;
+        small = record { small = p-small };
+      }
+
+  -- where the cells begin
+  module _ (off : ℕ) (eo : off ≡ start r) where
+    pub off-in : off ≤ length p
+    off-in = omega (arith, long)
+
+    pub off-bytes : Fits w64 (off * 8)
+    off-bytes = record { fits = omega (arith, start-mono r 8 (h .small), start-eight) }
+
   -- the cell that the walk reaches
-  module _ (row column : ℕ) (ec : (row, column) ≡ descend firstOfEquals p (r - 0) 0 0 0) where
+  module _ (last : Bool) (el : last ≡ eqb (dots % 2) 1) (row column : ℕ)
+      (ec : (row, column) ≡ descend (ofEquals last) p (r - 0) 0 0 0) where
     at-target : (row, column) ≡ target plain r s
-    at-target = rw (sub-zero r) at ec
+    unfolding choiceOf
+    at-target = rw (sub-zero r, el ∙ in-turn dots) at ec
 
     pub row-lt : row < 2 ^ r
     row-lt = rw (ap (λ (c : ℕ × ℕ). c .0) at-target) (row-in plain plain-fit r big s (h .sheet) (h .due))
@@ -78,12 +110,6 @@ module _ (r : ℕ) (p : List ℤ) (ss o : List ℕ) (dots : ℕ) (h : DotAsked r
     sheet' = rw at-target (next-sheet plain plain-fit r big s (h .sheet) (h .due))
 
     module _ (off : ℕ) (eo : off ≡ start r) where
-      pub off-in : off ≤ length p
-      off-in = omega (arith, long)
-
-      pub off-bytes : Fits w64 (off * 8)
-      off-bytes = record { fits = omega (arith, start-mono r 8 (h .small), start-eight) }
-
       abbrev lent : List ℤ
       lent = take (length p - off) (drop off p)
 
@@ -124,13 +150,10 @@ module _ (r : ℕ) (p : List ℤ) (ss o : List ℕ) (dots : ℕ) (h : DotAsked r
         back-is = tail-back off p e
 
         head-long : length (take off p) ≡ start r
-        head-long = length-take-le off p off-in ∙ eo
+        head-long = length-take-le off p (off-in off eo) ∙ eo
 
         pub back-whole : Whole back r
         back-whole = rw back-is (record { most = h .small; long = omega (arith, length-append (take off p) e, head-long, e-long, start-suc r, ap start (add-one r)) })
-
-        p-small : (i : ℕ) → Within (2 ^ 40) (getD p i (pos 0))
-        p-small i = within-mono _ _ _ (omega (arith, cells-few r (h .small))) (all-small r p mostResidual (sound-summed (h .sheet .sound)) (sound-small r s (h .sheet .sound)) (h .sheet .sized .pyramid) i)
 
         pub back-small : SmallPyramid back
         back-small = rw back-is (record { small = append-within (2 ^ 40) (take off p) e (take-within (2 ^ 40) off p p-small) (λ i. within-mono mostResidual (2 ^ 40) _ (omega arith) (e-small i)) })

@@ -10,7 +10,7 @@ use native.Mathlib.Decide.{decLe}
 use lib.IntN.{ℤ, pos, natAbs, _-ℤ_}
 use lib.Signed.{_≤ℤ_, _<ℤ_, leZ, ltZ}
 use Rattle.definition.specs.Pyramid.{oneDot, halfDot, start, placeIn, entry}
-use Rattle.definition.specs.Descent.{descend, firstOfEquals}
+use Rattle.definition.specs.Descent.{Choice, choiceOf, descend}
 use Rattle.definition.specs.Diffusion.{Kernel}
 use Rattle.definition.specs.Model.{Halftone, topOf, placeDot, step, steps}
 use Rattle.definition.specs.Sound.{Sound}
@@ -20,7 +20,7 @@ use Rattle.integers.specs.Linear.{ints, up, up-or-dn, natAbs-is}
 use Rattle.quadtree.specs.Areas.{area}
 use Rattle.quadtree.specs.Residues.{areaZ, areaZ-ext, areaZ-fall}
 use Rattle.quadtree.specs.Pyramids.{Summed, entry-area}
-use Rattle.quadtree.specs.Guidance.{first-fair, Reached, descend-reached}
+use Rattle.quadtree.specs.Guidance.{Fair, choice-fair, Reached, descend-reached}
 use Rattle.shares.specs.Kernels.{Fit}
 use Rattle.shares.specs.Outflow.{fall-whole}
 use Rattle.dots.specs.Placing.{Sized}
@@ -54,8 +54,12 @@ due-less t t' e h = omega (ints, due-is t, due-is t', up-or-dn t, up-or-dn t')
 
 -- ---- one step: a dot at the cell that the walk comes to, or nothing
 module _ (kernel : Kernel) (r : ℕ) (s : Halftone) where
+  -- the choice of the next serial, and the cell that it leads to
+  abbrev pub turn : Choice
+  turn = choiceOf (suc (s .dots))
+
   abbrev pub target : ℕ × ℕ
-  target = descend firstOfEquals (s .pyramid) r 0 0 0
+  target = descend turn (s .pyramid) r 0 0 0
 
   pub step-made : leZ (pos halfDot) (topOf (s .pyramid)) ≡ true → step kernel r s ≡ placeDot kernel r s target
   unfolding step
@@ -68,9 +72,13 @@ module _ (kernel : Kernel) (r : ℕ) (s : Halftone) where
 module _ (kernel : Kernel) (fit : Fit kernel) (r : ℕ) (big : 2 ≤ 2 ^ r) where
   -- a dot that is due, on a sound sheet
   module _ (s : Halftone) (sheet : Sheet r s) (due : pos halfDot ≤ℤ topOf (s .pyramid)) where
-    pub reached : Reached firstOfEquals first-fair (s .pyramid) r r 0 0 0 (target kernel r s .0) (target kernel r s .1)
+    abbrev fair : Fair (turn kernel r s)
+    fair = choice-fair (suc (s .dots))
+
+    pub reached : Reached (turn kernel r s) fair (s .pyramid) r r 0 0 0 (target kernel r s .0) (target kernel r s .1)
     reached =
-        descend-reached firstOfEquals first-fair (s .pyramid) r (sound-summed (sheet .sound)) r 0 0 0 (omega arith) (omega arith) (omega arith)
+        descend-reached (turn kernel r s) fair (s .pyramid) r (sound-summed (sheet .sound)) r 0 0 0
+        (omega arith) (omega arith) (omega arith)
         (rw (← top-entry (s .pyramid)) (omega ints))
 
     pub row-in : target kernel r s .0 < 2 ^ r

@@ -10,7 +10,16 @@ use Rattle.definition.specs.Lists.{sumTo, allTo, tabulateFrom, eqZ}
 use Rattle.definition.specs.Answers.{Said, finished, more, refused}
 use Rattle.definition.specs.Pyramid.{start, placeIn, rowAt, columnAt, levelOf, inLevel, entry, four, coarser, pyramidOver}
 use Rattle.definition.specs.Blocks.{greyAt, burnt, burntAt}
-use Rattle.definition.specs.Descent.{candidate, firstOfEquals, better, largest, descend}
+use Rattle.definition.specs.Descent.{
+  candidate,
+  firstOfEquals,
+  lastOfEquals,
+  ofEquals,
+  choiceOf,
+  better,
+  largest,
+  descend,
+}
 use Rattle.definition.specs.Diffusion.{plain, within, onMap, weightAt, share, diffuse}
 use Rattle.definition.specs.Model.{topOf, modelStart, missing, placeDot, step, steps}
 use Rattle.definition.specs.Sound.{burntNear, everyEntry, fewDots, numbered, counted, unused, summed, bounded, owing, isSound}
@@ -48,5 +57,10 @@ abbrev reply : ℕ → ℕ → Said → Reply
 reply dots made said = record { progress = record { side = 2; dots = dots }; made = made; said = said }
 
 pub replies-here : repliesOf plain (heldAfterLoad 2 greys pyramid sheet sheet) calls ≡ reply 0 0 more ∷ reply 0 0 (refused 3) ∷ reply 1 1 more ∷ reply 2 1 finished ∷ []
-unfolding sumTo allTo tabulateFrom eqZ start placeIn rowAt columnAt levelOf inLevel entry four coarser pyramidOver greyAt burnt burntAt candidate firstOfEquals better largest descend plain within onMap weightAt share diffuse topOf modelStart missing placeDot step steps burntNear everyEntry fewDots numbered counted unused summed bounded owing isSound powerUpTo powerOf lowest loadRefusal loaded loadOf dotsDue saidAt sheetIn advanceRefusal advanced advanceOf heldAfterLoad callOf heldAfter outcomesOf repliesOf
+unfolding sumTo allTo tabulateFrom eqZ start placeIn rowAt columnAt levelOf inLevel entry four coarser
+    pyramidOver greyAt burnt burntAt candidate firstOfEquals lastOfEquals ofEquals choiceOf better largest
+    descend plain within onMap weightAt share diffuse topOf modelStart missing placeDot step steps burntNear
+    everyEntry fewDots numbered counted unused summed bounded owing isSound powerUpTo powerOf lowest
+    loadRefusal loaded loadOf dotsDue saidAt sheetIn advanceRefusal advanced advanceOf heldAfterLoad callOf
+    heldAfter outcomesOf repliesOf
 replies-here = refl

@@ -66,6 +66,10 @@ pub record SmallCells (part : List ℤ) (k : ℕ) : Type 0 where
   pub small : (i : ℕ) → Within bound (getD part (start k + i) (pos 0))
   pub room : bound * (2 ^ k * 2 ^ k) ≤ 2 ^ 60
 
+-- all its entries are far from overflow, as Renewal asks of them (document 02, request 3)
+pub record SmallPyramid (pyramid : List ℤ) : Type 0 where
+  pub small : (i : ℕ) → Within (2 ^ 40) (getD pyramid i (pos 0))
+
 -- a pyramid of just the needed length, and greys enough
 pub record FillAsked (part : List ℤ) (greys r : ℕ) : Type 0 where
   pub most : r ≤ 8

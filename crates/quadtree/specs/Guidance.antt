@@ -3,14 +3,26 @@
 use mathlib.Core.Path.{_≡_, refl}
 use mathlib.Core.Bool.{Bool, true, false, cond}
 use mathlib.Core.List.{List}
-use Prim.Native.Nat.{ℕ, zero, suc, _+_, _*_, _^_, _≤_, _<_}
+use Prim.Native.Nat.{ℕ, zero, suc, _+_, _*_, _%_, _^_, _≤_, _<_}
 use native.Mathlib.Omega.{arith}
 use native.Mathlib.Nat.{pow-succ', lt-of-mul-lt-mul-right}
 use native.Mathlib.Decide.{ℕ-discrete}
+use lib.Dec.{eqb}
 use lib.IntN.{ℤ, pos}
 use lib.Signed.{_≤ℤ_, _<ℤ_}
 use Rattle.definition.specs.Pyramid.{entry, four}
-use Rattle.definition.specs.Descent.{Candidate, candidate, Choice, firstOfEquals, better, largest, descend}
+use Rattle.definition.specs.Descent.{
+  Candidate,
+  candidate,
+  Choice,
+  firstOfEquals,
+  lastOfEquals,
+  ofEquals,
+  choiceOf,
+  better,
+  largest,
+  descend,
+}
 use Rattle.integers.specs.Linear.{zz, ints}
 use Rattle.quadtree.specs.Areas.{In}
 use Rattle.quadtree.specs.Levels.{twice, twice-one}
@@ -40,6 +52,19 @@ pub record Fair (takes : Choice) : Type 0 where
 pub first-fair : Fair firstOfEquals
 unfolding firstOfEquals
 first-fair = record { taken = λ best next e. omega ints; kept = λ best next e. omega ints }
+
+pub last-fair : Fair lastOfEquals
+unfolding lastOfEquals
+last-fair = record { taken = λ best next e. omega ints; kept = λ best next e. omega ints }
+
+pub equals-fair : (last : Bool) → Fair (ofEquals last)
+unfolding ofEquals
+equals-fair true = last-fair
+equals-fair false = first-fair
+
+pub choice-fair : (serial : ℕ) → Fair (choiceOf serial)
+unfolding choiceOf
+choice-fair serial = equals-fair (eqb (serial % 2) 0)
 
 module _ (takes : Choice) (fair : Fair takes) where
   -- the better of two is one of them, and at least as large as both

@@ -7,8 +7,8 @@ use lib.IntN.{ℤ}
 use Rattle.definition.specs.Renewal.{isNear, renewed}
 use Rattle.quadtree.specs.Levels.{cells-few}
 use Rattle.quadtree.specs.Renewal.{renewed-ext}
-use Rattle.pyramid.specs.Asked.{Whole}
-use Rattle.renewal.specs.Asked.{inBox, SmallEntries, SmallPyramid}
+use Rattle.pyramid.specs.Asked.{Whole, SmallPyramid}
+use Rattle.renewal.specs.Asked.{inBox, SmallEntries}
 use Rattle.renewal.specs.Boxes.{near-box}
 
 pub small-entries : (pyramid : List ℤ) (r : ℕ) → Whole pyramid r → SmallPyramid pyramid → SmallEntries pyramid r

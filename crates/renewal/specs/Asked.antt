@@ -36,7 +36,3 @@ pub record SmallEntries (part : List ℤ) (k : ℕ) : Type 0 where
   pub bound : ℕ
   pub small : (i : ℕ) → Within bound (getD part i (pos 0))
   pub room : bound * (2 ^ k * 2 ^ k) ≤ 2 ^ 60
-
--- "entries from −2^40 to 2^40"
-pub record SmallPyramid (pyramid : List ℤ) : Type 0 where
-  pub small : (i : ℕ) → Within (2 ^ 40) (getD pyramid i (pos 0))

@@ -21,9 +21,8 @@ use Rattle.integers.specs.Linear.{zz, ints}
 use Rattle.integers.specs.Tests.{tests, T-true, T-and, and-T, T-four, four-T, same-test, allTo-at}
 use Rattle.integers.specs.Loops.{Every, held, failed}
 use Rattle.refusals.specs.Powers.{power-small, side-pow}
-use Rattle.pyramid.specs.Asked.{Within, Whole}
+use Rattle.pyramid.specs.Asked.{Within, Whole, SmallPyramid}
 use Rattle.pyramid.specs.Small.{zero-within}
-use Rattle.renewal.specs.Asked.{SmallPyramid}
 
 module _ (z : ℤ) (fits : SFits w64 z) where
   abbrev least : Bool

@@ -6,8 +6,8 @@ ghost use Prim.Native.Nat.{_+_, _-_, _^_, _≤_, _<_, min};
 ghost use lib.ListN.{length};
 ghost use Rattle.definition.specs.Refusals.{powerOf};
 ghost use Rattle.definition.specs.Renewal.{isNear, renewed, isSmall, entriesSmall, renewable, renewalOf};
-ghost use Rattle.pyramid.specs.Asked.{withLevel, Whole};
-ghost use Rattle.renewal.specs.Asked.{inBox, renewedAt, Span, LevelGiven, SmallEntries, SmallPyramid};
+ghost use Rattle.pyramid.specs.Asked.{withLevel, Whole, SmallPyramid};
+ghost use Rattle.renewal.specs.Asked.{inBox, renewedAt, Span, LevelGiven, SmallEntries};
 
 // Renews entry (a, b) of level k, with which the part begins: it becomes the sum of its four in the next finer level, with which the part goes on.
 fn renew_entry(part: &mut [i64], k: usize, a: usize, b: usize)

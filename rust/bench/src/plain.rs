@@ -81,7 +81,7 @@ pub fn advance(
 
 /// One hole.
 fn place_dot(power: usize, dots: u32, pyramid: &mut [i64], serials: &mut [u32], order: &mut [u32]) {
-    let (row, column) = descend(power, pyramid);
+    let (row, column) = descend(power, i64::from(dots % 2), pyramid);
     let cell = (row << power) + column;
     let place = level_start(power) + cell;
     let lacking = DOT - pyramid[place];
@@ -92,13 +92,13 @@ fn place_dot(power: usize, dots: u32, pyramid: &mut [i64], serials: &mut [u32], 
     renew_over(power, row, column, pyramid);
 }
 
-/// From the top to the first of the largest of four, down to a cell.
-fn descend(power: usize, pyramid: &[i64]) -> (usize, usize) {
+/// From the top to a largest of four, down to a cell: with tie 0 the first of equals, with tie 1 the last.
+fn descend(power: usize, tie: i64, pyramid: &[i64]) -> (usize, usize) {
     let (mut row, mut column) = (0, 0);
     for level in 1..=power {
         let mut best = (2 * row, 2 * column);
         for candidate in [(2 * row, 2 * column + 1), (2 * row + 1, 2 * column), (2 * row + 1, 2 * column + 1)] {
-            if entry(level, candidate, pyramid) > entry(level, best, pyramid) {
+            if entry(level, best, pyramid) < entry(level, candidate, pyramid) + tie {
                 best = candidate;
             }
         }

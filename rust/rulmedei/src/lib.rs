@@ -67,7 +67,8 @@ pub fn load(
 }
 
 /// Advance: makes the holes that are due, at most `budget` of them, from the record that the call before returned, on
-/// the same buffers. Refusals: 1, 3, 4, 5.
+/// the same buffers. Of equal quarters a hole with an odd serial goes to the first, by row then column, and one with
+/// an even serial to the last. Refusals: 1, 3, 4, 5.
 pub fn advance(
     progress: Progress,
     budget: u32,

@@ -1,7 +1,7 @@
 -- `descent::better`.
 use borrow.Author.Needs.{needs}
 use Rattle.descent.specs.Asked.{shown}
-use Rattle.descent.specs.Walk.{better-next, better-best}
+use Rattle.descent.specs.Walk.{raised-fits, better-is}
 use Rattle.descent.proofs.better.Statement.{statement}
 use Rattle.descent.proofs.better.Tie as tie
 
@@ -9,5 +9,15 @@ pub better-spec : {M : Type 1} → statement M
 better-spec =
     tie.close
     (tie.spec
-    (λ c. let g = c .before .before .before .args in better-next (shown (g .best)) (shown (g .next)) (search needs) (search needs) (c .if1 .taken))
-    (λ c. let g = c .before .before .before .args in better-best (shown (g .best)) (shown (g .next)) (search needs) (search needs) (c .if1 .left)))
+    (λ c. tt)
+    (λ c.
+    let g = c .before .before .before .args in
+    raised-fits (g .last) (shown (g .best)) (shown (g .next)) (search needs) (search needs) (search needs))
+    (λ c.
+    let g = c .before .before .before .before .args in
+    better-is (g .last) (shown (g .best)) (shown (g .next)) (search needs) (search needs) (search needs)
+    (c .if1 .taken))
+    (λ c.
+    let g = c .before .before .before .before .args in
+    better-is (g .last) (shown (g .best)) (shown (g .next)) (search needs) (search needs) (search needs)
+    (c .if1 .left)))

@@ -2,7 +2,7 @@
 use borrow.Author.Needs.{needs}
 use native.Mathlib.Omega.{arith}
 use Rattle.definition.specs.Descent.{largest}
-use Rattle.descent.specs.Walk.{entry-small}
+use Rattle.descent.specs.Walk.{entry-small, sum-small}
 use Rattle.descent.proofs.largest.Statement.{statement}
 use Rattle.descent.proofs.largest.Tie as tie
 
@@ -11,17 +11,17 @@ unfolding largest
 largest-spec =
     tie.close
     (tie.spec
-    (λ c. omega (arith, entry-small (c .pre)))
-    (λ c. omega (arith, entry-small (c .pre)))
+    (λ c. omega (arith, entry-small (c .pre .0)))
+    (λ c. omega (arith, entry-small (c .pre .0)))
     (λ c κs. search needs)
-    (λ c. omega (arith, entry-small (c .before .pre)))
+    (λ c. omega (arith, entry-small (c .before .pre .0)))
     (λ c κs. search needs)
-    (λ c. omega (arith, entry-small (c .before .before .pre)))
+    (λ c. omega (arith, entry-small (c .before .before .pre .0)))
     (λ c κs. search needs)
-    (λ c. omega (arith, entry-small (c .before .before .before .pre)))
-    (λ c. omega (arith, entry-small (c .before .before .before .pre)))
+    (λ c. omega (arith, entry-small (c .before .before .before .pre .0)))
+    (λ c. omega (arith, entry-small (c .before .before .before .pre .0)))
     (λ c κs. search needs)
-    (λ c κs. search needs)
-    (λ c κs. search needs)
-    (λ c κs. search needs)
+    (λ c κs. search (sum-small, needs))
+    (λ c κs. search (sum-small, needs))
+    (λ c κs. search (sum-small, needs))
     (λ c. cc))

@@ -1,6 +1,19 @@
 -- `dot::place_dot`: the walk, the cells, the sums over them, the number noted.
 use borrow.Author.Needs.{needs}
-use Rattle.dot.specs.Placed.{off-bytes, off-in, place-asked, row-lt, column-lt, back-whole, back-small, side-fits, cell-fits, note-asked, placed}
+use Rattle.dot.specs.Placed.{
+  descent-asked,
+  off-bytes,
+  off-in,
+  place-asked,
+  row-lt,
+  column-lt,
+  back-whole,
+  back-small,
+  side-fits,
+  cell-fits,
+  note-asked,
+  placed,
+}
 use Rattle.dot.proofs.place_dot.Statement.{statement}
 use Rattle.dot.proofs.place_dot.Tie as tie
 
@@ -8,7 +21,7 @@ pub place-dot-spec : {M : Type 1} → statement M
 place-dot-spec =
     tie.close
     (tie.spec
-    (λ c κs. search needs)
+    (λ c κs. search (descent-asked, needs))
     (λ c κs. search needs)
     (λ c. search (off-bytes, needs))
     (λ c. search (off-in, needs))
