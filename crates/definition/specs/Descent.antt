@@ -28,6 +28,7 @@ firstOfEquals best next = ltZ best next
 unfoldable pub lastOfEquals : Choice
 lastOfEquals best next = leZ best next
 
+-- the last of equals, or the first
 unfoldable pub ofEquals : Bool → Choice
 ofEquals last = cond last lastOfEquals firstOfEquals
 
