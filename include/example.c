@@ -24,11 +24,11 @@ static const char *const words[] = {
     [RULMEDEI_SIDE_UNKNOWN] = "the side is no power of two from 2 to 256",
     [RULMEDEI_GREYS_SHORT] = "the greys buffer is shorter than N * N",
     [RULMEDEI_PYRAMID_SHORT] = "the pyramid is shorter than needed",
-    [RULMEDEI_SHEET_SHORT] = "the serial sheet, or the order list where it is lent, is shorter than N * N",
+    [RULMEDEI_SHEET_SHORT] = "a serial sheet or order list is shorter than N * N, or a shelf than n * N * N",
     [RULMEDEI_SHEET_UNSOUND] = "the sheet is not sound: Load and Advance leave no such buffers with this record",
     [RULMEDEI_BLOCK_UNKNOWN] = "the level is past the map's last, or the row or column not below 2^level",
     [RULMEDEI_TEXT_MALFORMED] = "the text does not fit the grammar of map texts",
-    [RULMEDEI_OUTPUT_SHORT] = "the output is shorter than the list or page",
+    [RULMEDEI_OUTPUT_SHORT] = "the output is shorter than the list or page, or a shelf's list than n places",
 };
 
 /* one byte more than the longest text, so that a longer one is seen to be none */

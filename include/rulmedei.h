@@ -1,5 +1,5 @@
 /*
- * Rulmedei: grey maps to ordered lists of holes. The eight calls for C, and the renewal of sums by itself.
+ * Rulmedei: grey maps to ordered lists of holes. The ten calls for C, and the renewal of sums by itself.
  *
  * `rt staticlib rulmedei` writes target/staticlib/librulmedei.a, for x86-64 Linux. It needs the C library and nothing
  * else.
@@ -30,27 +30,34 @@ extern "C" {
 #endif
 
 /*
- * What a call returns: RULMEDEI_DONE, for rulmedei_advance also RULMEDEI_MORE, or the number of a refusal. A refused
- * call leaves pyramid, serials, order, greys and out as they were. The lowest number that applies is returned;
- * rulmedei_map_text has an order of its own. rulmedei_renew, which is none of the eight calls, has no refusal numbers:
- * it returns RULMEDEI_DONE or RULMEDEI_NOT_RENEWED.
+ * What a call returns: RULMEDEI_DONE, for rulmedei_advance also RULMEDEI_MORE, or the number of a refusal; for
+ * rulmedei_compare in place of RULMEDEI_DONE one of the five from RULMEDEI_BEFORE to RULMEDEI_AFTER. A refused call
+ * leaves pyramid, serials, order, greys, out and list as they were. Of several refusals the one with the lowest number
+ * is told; rulmedei_map_text has an order of its own. rulmedei_renew, which is none of the ten calls, has no refusal
+ * numbers: it returns RULMEDEI_DONE or RULMEDEI_NOT_RENEWED.
  */
 #define RULMEDEI_DONE 0
 #define RULMEDEI_MORE 100         /* rulmedei_advance: further holes are due */
 #define RULMEDEI_NOT_RENEWED 101  /* rulmedei_renew: outside what it promises; nothing was changed */
+#define RULMEDEI_BEFORE 102       /* rulmedei_compare: left has fewer holes */
+#define RULMEDEI_BEFORE_AT 103    /* rulmedei_compare: as many holes, left is unburnt at the cell (row, column) */
+#define RULMEDEI_SAME 104         /* rulmedei_compare: the same cells are burnt */
+#define RULMEDEI_AFTER_AT 105     /* rulmedei_compare: as many holes, right is unburnt at the cell (row, column) */
+#define RULMEDEI_AFTER 106        /* rulmedei_compare: right has fewer holes */
 #define RULMEDEI_SIDE_UNKNOWN 1   /* the side is no power of two from 2 to 256 */
 #define RULMEDEI_GREYS_SHORT 2    /* the greys buffer is shorter than N * N */
 #define RULMEDEI_PYRAMID_SHORT 3  /* the pyramid is shorter than needed */
-#define RULMEDEI_SHEET_SHORT 4    /* the serial sheet, or the order list where it is lent, is shorter than N * N */
+#define RULMEDEI_SHEET_SHORT 4    /* a serial sheet or order list is shorter than N * N, or a shelf than n * N * N */
 #define RULMEDEI_SHEET_UNSOUND 5  /* the sheet is not sound: Load and Advance leave no such buffers with this record */
 #define RULMEDEI_BLOCK_UNKNOWN 6  /* the level is past the map's last, or the row or column not below 2^level */
 #define RULMEDEI_TEXT_MALFORMED 7 /* the text does not fit the grammar of map texts */
-#define RULMEDEI_OUTPUT_SHORT 8   /* the output is shorter than the list or page */
+#define RULMEDEI_OUTPUT_SHORT 8   /* the output is shorter than the list or page, or a shelf's list than n places */
 #define RULMEDEI_INPUT_LONG 9     /* the input is longer than 4,099 bytes: the program plate only, none of the calls */
 
 /*
  * The lengths that a map of side N needs, in elements: N * N for greys, serials and order, and (4 * N * N - 1) / 3 for
- * the pyramid. A longer buffer will do: its further elements play no part, and stay.
+ * the pyramid. A shelf of n plates needs n * N * N. A longer buffer will do: its further elements play no part, and
+ * stay.
  *
  *     N               2    4    8    16    32    64    128    256
  *     cells           4   16   64   256  1024  4096  16384  65536
@@ -169,8 +176,38 @@ uint32_t rulmedei_sample(uint32_t seed,
                          uint32_t *state);
 
 /*
- * The renewal by itself. It is none of the eight calls: rulmedei_advance renews in this way after each hole, and here
- * it can be had alone.
+ * Compare: how the plate on the left stands to the one on the right. A plate is a serial sheet, of which only the burnt
+ * cells count, those whose serial is not 0: neither the serials themselves nor whether a sheet is sound plays a part.
+ *
+ * A plate with fewer holes comes before one with more. If both have as many, the first cell by row, then column, that
+ * is burnt on one of them alone decides: the other one comes before. That cell is written to row and column; with
+ * every other answer, and where it refuses, 0 and 0 are.
+ *
+ * This is an order: two plates compare in just one way; with left and right exchanged before becomes after, after
+ * becomes before and the cell stays; and what is before a plate is before everything that this plate is before. Both
+ * sheets are only read, so they may overlap, or be one and the same. Refusals: 1, 4 (for either sheet).
+ */
+uint32_t rulmedei_compare(uint32_t side,
+                          const uint32_t *left, size_t left_length,
+                          const uint32_t *right, size_t right_length,
+                          uint32_t *row,
+                          uint32_t *column);
+
+/*
+ * Shelf: puts n plates in the order of rulmedei_compare. They lie one after the other in plates, N * N serials each,
+ * and are not moved. Their numbers, 0 to n - 1, are written to the first n places of list, that of the foremost plate
+ * first; of plates that are the same, the lower number comes first. Further places of list stay. A shelf without a
+ * plate (n is 0) will do. Two plates are compared at most n * (1 + log2 n) times.
+ * Refusals: 1, 4 (for plates shorter than n * N * N), 8 (for a list with fewer than n places).
+ */
+uint32_t rulmedei_shelf(uint32_t side,
+                        uint32_t n,
+                        const uint32_t *plates, size_t plates_length,
+                        uint32_t *list, size_t list_length);
+
+/*
+ * The renewal by itself. It is none of the ten calls: rulmedei_advance renews in this way after each hole, and here it
+ * can be had alone.
  */
 
 /*

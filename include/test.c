@@ -24,6 +24,9 @@ static uint32_t (*const drill_list)(uint32_t, uint32_t, const int64_t *, size_t,
 static uint32_t (*const quote_page)(uint32_t, const uint8_t *, size_t, const uint32_t *, size_t, uint32_t, uint8_t *,
                                     size_t, size_t *) = rulmedei_quote_page;
 static uint32_t (*const sample)(uint32_t, uint32_t, uint8_t *, size_t, uint32_t *) = rulmedei_sample;
+static uint32_t (*const compare)(uint32_t, const uint32_t *, size_t, const uint32_t *, size_t, uint32_t *,
+                                 uint32_t *) = rulmedei_compare;
+static uint32_t (*const shelf)(uint32_t, uint32_t, const uint32_t *, size_t, uint32_t *, size_t) = rulmedei_shelf;
 static uint32_t (*const renew)(uint32_t, uint32_t, uint32_t, int64_t *, size_t) = rulmedei_renew;
 
 static unsigned long checks, failures;
@@ -216,6 +219,11 @@ static void test_numbers(void)
     CHECK(RULMEDEI_DONE == 0);
     CHECK(RULMEDEI_MORE == 100);
     CHECK(RULMEDEI_NOT_RENEWED == 101);
+    CHECK(RULMEDEI_BEFORE == 102);
+    CHECK(RULMEDEI_BEFORE_AT == 103);
+    CHECK(RULMEDEI_SAME == 104);
+    CHECK(RULMEDEI_AFTER_AT == 105);
+    CHECK(RULMEDEI_AFTER == 106);
     CHECK(RULMEDEI_SIDE_UNKNOWN == 1);
     CHECK(RULMEDEI_GREYS_SHORT == 2);
     CHECK(RULMEDEI_PYRAMID_SHORT == 3);
@@ -511,6 +519,119 @@ static void test_page(struct map *m, uint32_t level)
     give_back(&out);
 }
 
+/* The answer for two sheets, of each of which so many places fewer are lent than it has. */
+static uint32_t compare_parts(uint32_t side, struct part *left, size_t less_left, struct part *right, size_t less_right)
+{
+    first = second = 77;
+    return compare(side, left->places, left->count - less_left, right->places, right->count - less_right, &first,
+                   &second);
+}
+
+/* Both ways round: the answers, and the same cell beside either. */
+static void compares(uint32_t side, struct part *left, struct part *right, const uint32_t *answers, uint32_t row,
+                     uint32_t column)
+{
+    keep(left);
+    keep(right);
+    CHECK(compare_parts(side, left, 0, right, 0) == answers[0] && first == row && second == column);
+    CHECK(compare_parts(side, right, 0, left, 0) == answers[1] && first == row && second == column);
+    CHECK(as_kept(left) && as_kept(right));
+}
+
+static const uint32_t before[2] = {RULMEDEI_BEFORE, RULMEDEI_AFTER}, same_plate[2] = {RULMEDEI_SAME, RULMEDEI_SAME};
+static const uint32_t before_at[2] = {RULMEDEI_BEFORE_AT, RULMEDEI_AFTER_AT};
+
+static void refused_compare(struct part *left, size_t less_left, struct part *right, size_t less_right, uint32_t side,
+                            uint32_t number)
+{
+    CHECK(compare_parts(side, left, less_left, right, less_right) == number);
+    CHECK(first == 0 && second == 0 && as_kept(left) && as_kept(right));
+}
+
+/* A plate that is burnt as the map is, with other serials. */
+static void renumber(const struct map *m, uint32_t *plate)
+{
+    const uint32_t *serials = m->serials.places;
+    for (size_t cell = 0; cell < m->serials.count; cell++)
+        plate[cell] = serials[cell] == 0 ? 0 : UINT32_MAX - serials[cell];
+}
+
+/* The sheet beside itself, one burnt alike, one with a hole less, one without a hole; then the last two cells alone. */
+static void test_compare(struct map *m)
+{
+    struct part *sheet = &m->serials, plate = part_of(sheet->count, sizeof(uint32_t));
+    struct part other = part_of(sheet->count, sizeof(uint32_t));
+    uint32_t *serials = plate.places, *others = other.places, *order = m->order.places;
+    keep_map(m);
+    compares(m->side, sheet, sheet, same_plate, 0, 0);
+    renumber(m, serials);
+    compares(m->side, &plate, sheet, same_plate, 0, 0);
+    refused_compare(sheet, 0, &plate, 0, m->side + 1, RULMEDEI_SIDE_UNKNOWN);
+    refused_compare(sheet, 1, &plate, 1, m->side + 1, RULMEDEI_SIDE_UNKNOWN);
+    refused_compare(sheet, 1, &plate, 0, m->side, RULMEDEI_SHEET_SHORT);
+    refused_compare(sheet, 0, &plate, 1, m->side, RULMEDEI_SHEET_SHORT);
+    serials[order[0]] = 0;
+    compares(m->side, &plate, sheet, before, 0, 0);
+    memset(serials, 0, plate.count * sizeof(uint32_t));
+    compares(m->side, &plate, sheet, before, 0, 0);
+    memset(others, 0, other.count * sizeof(uint32_t));
+    compares(m->side, &plate, &other, same_plate, 0, 0);
+    serials[plate.count - 1] = others[other.count - 2] = 1;
+    compares(m->side, &plate, &other, before_at, m->side - 1, m->side - 2);
+    serials[0] = others[1] = 65536;
+    compares(m->side, &other, &plate, before_at, 0, 0);
+    CHECK(map_as_kept(m));
+    give_back(&plate);
+    give_back(&other);
+}
+
+static void refused_shelves(uint32_t side, struct part *plates, struct part *list)
+{
+    const struct {
+        uint32_t side, n;
+        size_t places, room;
+        uint32_t number;
+    } asked[] = {
+        {side + 1, 3, plates->count, 3, RULMEDEI_SIDE_UNKNOWN},
+        {side + 1, UINT32_MAX, 0, 0, RULMEDEI_SIDE_UNKNOWN},
+        {side, 3, plates->count - 1, 3, RULMEDEI_SHEET_SHORT},
+        {side, 3, plates->count - 1, 2, RULMEDEI_SHEET_SHORT},
+        {side, 4, plates->count, 3, RULMEDEI_SHEET_SHORT},
+        {side, UINT32_MAX, plates->count, 3, RULMEDEI_SHEET_SHORT},
+        /* these plates would have 2^32 places */
+        {side, (uint32_t)(((uint64_t)1 << 32) / RULMEDEI_CELLS(side)), 0, 0, RULMEDEI_SHEET_SHORT},
+        {side, 3, plates->count, 2, RULMEDEI_OUTPUT_SHORT},
+        {side, 1, plates->count, 0, RULMEDEI_OUTPUT_SHORT},
+    };
+    for (size_t at = 0; at < sizeof asked / sizeof asked[0]; at++) {
+        CHECK(shelf(asked[at].side, asked[at].n, plates->places, asked[at].places, list->places, asked[at].room)
+              == asked[at].number);
+        CHECK(as_kept(plates) && as_kept(list));
+    }
+}
+
+/* Three plates: the sheet, one without a hole, and one that is burnt as the sheet is. */
+static void test_shelf(struct map *m)
+{
+    size_t cells = m->serials.count;
+    struct part plates = part_of(3 * cells, sizeof(uint32_t)), list = part_of(3, sizeof(uint32_t));
+    uint32_t *serials = plates.places, *numbers = list.places;
+    keep_map(m);
+    memcpy(serials, m->serials.places, cells * sizeof(uint32_t));
+    memset(serials + cells, 0, cells * sizeof(uint32_t));
+    renumber(m, serials + 2 * cells);
+    keep(&plates);
+    keep(&list);
+    refused_shelves(m->side, &plates, &list);
+    CHECK(shelf(m->side, 0, serials, 0, numbers, 0) == RULMEDEI_DONE && as_kept(&list));
+    CHECK(shelf(m->side, 2, serials, 2 * cells, numbers, 3) == RULMEDEI_DONE);
+    CHECK(numbers[0] == 1 && numbers[1] == 0 && all_are((const unsigned char *)(numbers + 2), sizeof(uint32_t), NINE));
+    CHECK(shelf(m->side, 3, serials, 3 * cells, numbers, 3) == RULMEDEI_DONE);
+    CHECK(numbers[0] == 1 && numbers[1] == 0 && numbers[2] == 2 && as_kept(&plates) && map_as_kept(m));
+    give_back(&plates);
+    give_back(&list);
+}
+
 static void not_renewed(struct map *m, uint32_t side, uint32_t row, uint32_t column, size_t less)
 {
     CHECK(renew(side, row, column, m->pyramid.places, m->pyramid.count - less) == RULMEDEI_NOT_RENEWED);
@@ -557,6 +678,8 @@ static void test_side(uint32_t side, uint32_t dots)
     test_list(&m);
     test_page(&m, 0);
     test_page(&m, m.power);
+    test_compare(&m);
+    test_shelf(&m);
     test_renew(&m);
     test_white(&m);
     give_back_map(&m);
@@ -623,6 +746,39 @@ static void test_small_answers(void)
     give_back_map(&m);
 }
 
+/* Plates of side 2 compared, and five of them put in order, of which two are burnt alike. */
+
+static void test_small_plates(void)
+{
+    static const struct {
+        uint32_t left[4], right[4];
+        const uint32_t *answers;
+        uint32_t row, column;
+    } pairs[] = {
+        {{1, 0, 0, 0}, {0, 0, 1, 2}, before, 0, 0},
+        {{0, 0, 1, 0}, {0, 1, 0, 0}, before_at, 0, 1},
+        {{0, 0, 0, 3}, {0, 0, 3, 0}, before_at, 1, 0},
+        {{1, 0, 0, 2}, {9, 0, 0, UINT32_MAX}, same_plate, 0, 0},
+    };
+    static const uint32_t five[20] = {1, 0, 0, 0, 0, 5, 0, 0, 3, 0, 0, 0, 0, 0, 0, 0, 1, 2, 0, 0};
+    static const uint32_t sorted[5] = {3, 1, 0, 2, 4};
+    struct part left = part_of(4, sizeof(uint32_t)), right = part_of(4, sizeof(uint32_t));
+    struct part plates = part_of(20, sizeof(uint32_t)), list = part_of(5, sizeof(uint32_t));
+    for (size_t at = 0; at < sizeof pairs / sizeof pairs[0]; at++) {
+        memcpy(left.places, pairs[at].left, sizeof pairs[at].left);
+        memcpy(right.places, pairs[at].right, sizeof pairs[at].right);
+        compares(2, &left, &right, pairs[at].answers, pairs[at].row, pairs[at].column);
+    }
+    memcpy(plates.places, five, sizeof five);
+    keep(&plates);
+    CHECK(shelf(2, 5, plates.places, 20, list.places, 5) == RULMEDEI_DONE);
+    CHECK(memcmp(list.places, sorted, sizeof sorted) == 0 && as_kept(&plates));
+    give_back(&left);
+    give_back(&right);
+    give_back(&plates);
+    give_back(&list);
+}
+
 int main(int count, char **words)
 {
     /* the holes of the sample of seed 1, from vectors/runs.csv */
@@ -634,6 +790,7 @@ int main(int count, char **words)
     test_lengths();
     test_p3();
     test_small_answers();
+    test_small_plates();
     for (int at = 0; at < SIDES; at++)
         test_side(sides[at], dots[at]);
     printf("include/test.c: %lu checks, %lu do not hold, %u guard bytes\n", checks, failures, (unsigned)guard);

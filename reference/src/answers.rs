@@ -16,7 +16,7 @@ pub enum Refusal {
     ShortGreys,
     /// "pyramid shorter than needed"
     ShortPyramid,
-    /// "serial sheet, or order list where lent, shorter than N²"
+    /// a serial sheet or a lent order list with fewer places than the map has cells, or a shelf without n whole plates
     ShortSheet,
     /// "sheet not sound"
     NotSound,
@@ -24,7 +24,7 @@ pub enum Refusal {
     BadBlock,
     /// "text doesn't fit the grammar"
     BadText,
-    /// "output shorter than the list", or than the page of document 02
+    /// "output shorter than the list", or than the page of document 02, or its list of plates shorter than n
     ShortOutput,
     /// "input longer than 4,099 bytes"
     LongInput,
@@ -68,4 +68,22 @@ pub struct AdvanceAnswer {
     pub progress: Progress,
     pub made: u32,
     pub status: Result<Ended, Refusal>,
+}
+
+/// How the left of two plates stands to the right one: before it, the same, or after it. Where both have as many dots,
+/// with the row and column of the first cell at which they differ.
+#[derive(Debug, Clone, Copy, PartialEq, Eq)]
+pub enum Compared {
+    Before,
+    BeforeAt(u32, u32),
+    Same,
+    AfterAt(u32, u32),
+    After,
+}
+
+impl Compared {
+    /// Whether the left plate comes before the right one.
+    pub fn is_before(self) -> bool {
+        matches!(self, Compared::Before | Compared::BeforeAt(..))
+    }
 }

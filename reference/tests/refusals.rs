@@ -418,6 +418,111 @@ fn sample_refuses() {
     }
 }
 
+/// The number of Compare for two sheets of these lengths.
+fn compare_number(side: u32, left: usize, right: usize) -> u32 {
+    compare(side, &vec![1; left], &vec![2; right]).map_or_else(Refusal::number, |_| 0)
+}
+
+#[test]
+fn compare_refuses() {
+    for side in SIDES {
+        let (n, _) = needed(side);
+        assert_eq!(compare_number(side, n, n), 0);
+        assert_eq!(compare_number(side, n + 1, n), 0);
+        assert_eq!(compare_number(side, n, n + 1), 0);
+        for short in [0, 1, n / 2, n - 1] {
+            assert_eq!(compare_number(side, short, n), 4);
+            assert_eq!(compare_number(side, n, short), 4);
+            assert_eq!(compare_number(side, short, short), 4);
+            assert_eq!(compare_number(side, short, 2 * n), 4);
+            assert_eq!(compare_number(side, 2 * n, short), 4);
+        }
+    }
+    // 1 comes before 4
+    for side in NO_SIDES {
+        for (left, right) in [(0, 0), (300, 300), (0, 300), (300, 0)] {
+            assert_eq!(compare_number(side, left, right), 1);
+        }
+    }
+}
+
+/// The number of Shelf for a shelf and a list of these lengths. A refusal leaves the list as it was; else the plates,
+/// which are all the same, are listed as they stand, and the further places stay.
+fn shelf_number(side: u32, n: u32, plates: usize, places: usize) -> u32 {
+    let before: Vec<u32> = (0..places as u32).map(|place| 31 * place + 70_001).collect();
+    let mut list = before.clone();
+    let answer = shelf(side, n, &vec![5; plates], &mut list);
+    let written = if answer.is_ok() { n as usize } else { 0 };
+    assert!(list[..written].iter().copied().eq(0..written as u32));
+    assert_eq!(list[written..], before[written..]);
+    answer.map_or_else(Refusal::number, |()| 0)
+}
+
+#[test]
+fn shelf_refuses() {
+    for side in SIDES {
+        let (cells, _) = needed(side);
+        for n in [1, 2, 3] {
+            let (plates, places) = (n as usize * cells, n as usize);
+            assert_eq!(shelf_number(side, n, plates, places), 0);
+            assert_eq!(shelf_number(side, n, plates + 1, places + 1), 0);
+            for short in [0, 1, plates - cells, plates - 1] {
+                assert_eq!(shelf_number(side, n, short, places), 4);
+                assert_eq!(shelf_number(side, n, short, 1_000), 4);
+            }
+            for short in 0..places {
+                assert_eq!(shelf_number(side, n, plates, short), 8);
+                assert_eq!(shelf_number(side, n, plates + cells, short), 8);
+            }
+        }
+        // no plates are a shelf too
+        for (plates, places) in [(0, 0), (0, 3), (cells, 0), (1, 1)] {
+            assert_eq!(shelf_number(side, 0, plates, places), 0);
+        }
+    }
+    for side in NO_SIDES {
+        for n in [0, 1, u32::MAX] {
+            assert_eq!(shelf_number(side, n, 0, 0), 1);
+            assert_eq!(shelf_number(side, n, 300, 300), 1);
+        }
+    }
+}
+
+/// Checks 1, 4 and 8: with any of them failing, the first one that fails is told.
+#[test]
+fn shelf_refuses_in_order() {
+    for side in SIDES {
+        let (cells, _) = needed(side);
+        for failing in 0..8u32 {
+            let fails = |check: u32| failing & (1 << check) != 0;
+            let asked = if fails(0) { side + 1 } else { side };
+            let plates = if fails(1) { 2 * cells - 1 } else { 2 * cells + 7 };
+            let places = if fails(2) { 1 } else { 9 };
+            let first = (0..3).find(|check| fails(*check));
+            let number = first.map_or(0, |check| [1, 4, 8][check as usize]);
+            assert_eq!(shelf_number(asked, 2, plates, places), number);
+        }
+    }
+}
+
+/// Plates that need 2^32 places and more: neither the largest number of them nor those whose need is small modulo 2^32
+/// are taken for fewer.
+#[test]
+fn shelf_refuses_more_plates_than_there_can_be() {
+    for side in SIDES {
+        let (cells, _) = needed(side);
+        let round = ((1u64 << 32) / cells as u64) as u32;
+        for n in [round, round + 1, round - 1, u32::MAX, u32::MAX - 1, 1 << 31] {
+            for plates in [0, 1, cells, 2 * cells, 70_000] {
+                assert_eq!(shelf_number(side, n, plates, 0), 4);
+                assert_eq!(shelf_number(side, n, plates, 70_000), 4);
+                assert_eq!(shelf_number(side + 1, n, plates, 70_000), 1);
+            }
+        }
+    }
+    assert_eq!(shelf_number(256, 65_536, 0, 65_536), 4);
+}
+
 /// The number of Map Text for a greys buffer of this length, which a refusal leaves as it was.
 fn text_number(text: &[u8], length: usize) -> u32 {
     let mut greys = vec![99; length];
@@ -581,5 +686,10 @@ fn any_lengths_and_any_content() {
         let written = quote_page(progress.side, &[255; 64], &before.serials, pick(9) as u32, &mut page);
         let kept = written.unwrap_or(0);
         assert!(page[kept..].iter().all(|byte| *byte == b'#'));
+        let compared = compare(progress.side, &before.serials, &before.order);
+        assert!(compared.is_err() || power(progress.side).is_ok());
+        let mut list = [9; 5];
+        let sorted = shelf(progress.side, numbers[pick(13)], &before.serials, &mut list);
+        assert!(sorted.is_ok() || list == [9; 5]);
     }
 }

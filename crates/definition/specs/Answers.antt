@@ -18,12 +18,27 @@ use Rattle.definition.specs.declared.TextAnswer.{TextAnswer}
 use Rattle.definition.specs.declared.TextAnswer.the-variants as Text
 use Rattle.definition.specs.declared.SampleAnswer.{SampleAnswer}
 use Rattle.definition.specs.declared.SampleAnswer.the-variants as Sample
+use Rattle.definition.specs.declared.CompareAnswer.{CompareAnswer}
+use Rattle.definition.specs.declared.CompareAnswer.the-variants as Compare
+use Rattle.definition.specs.declared.ShelfAnswer.{ShelfAnswer}
+use Rattle.definition.specs.declared.ShelfAnswer.the-variants as Shelf
 
--- What a call says: the values that it returns; or "finished", or "more"; or the number of a refusal.
+-- How the left of two plates stands to the right one (document 02, request 6): before it, the same, or after it; where
+-- a cell decides, with its row and column.
+pub data Compared : Type 0 where
+  before : Compared
+  beforeAt : ℕ → ℕ → Compared
+  same : Compared
+  afterAt : ℕ → ℕ → Compared
+  after : Compared
+
+-- What a call says: the values that it returns; or "finished", or "more"; or how two plates compare; or the number of a
+-- refusal.
 pub data Said : Type 0 where
   returned : List ℕ → Said
   finished : Said
   more : Said
+  comparison : Compared → Said
   refused : ℕ → Said
 
 -- What a call that fills greys says, and the greys afterwards.
@@ -77,3 +92,17 @@ textSays (Text.Refused why) = refused (numberOf why)
 unfoldable pub sampleSays : SampleAnswer → Said
 sampleSays (Sample.State n) = returned (n ∷ [])
 sampleSays (Sample.Refused why) = refused (numberOf why)
+
+-- document 02's comparison of two plates
+unfoldable pub compareSays : CompareAnswer → Said
+compareSays Compare.Before = comparison before
+compareSays (Compare.BeforeAt row column) = comparison (beforeAt row column)
+compareSays Compare.Same = comparison same
+compareSays (Compare.AfterAt row column) = comparison (afterAt row column)
+compareSays Compare.After = comparison after
+compareSays (Compare.Refused why) = refused (numberOf why)
+
+-- document 02's shelf
+unfoldable pub shelfSays : ShelfAnswer → Said
+shelfSays Shelf.Sorted = returned []
+shelfSays (Shelf.Refused why) = refused (numberOf why)

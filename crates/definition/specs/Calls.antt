@@ -6,7 +6,7 @@ use mathlib.Core.List.{List, [], _∷_, _++_, map}
 use Prim.Native.Nat.{ℕ, zero, suc, _+_, _-_, _^_}
 use lib.ListN.{take, drop}
 use lib.IntN.{ℤ}
-use Rattle.definition.specs.Answers.{Said, returned, finished, more, refused}
+use Rattle.definition.specs.Answers.{Said, returned, finished, more, comparison, refused}
 use Rattle.definition.specs.Diffusion.{Kernel}
 use Rattle.definition.specs.Model.{Halftone, topOf, steps}
 use Rattle.definition.specs.Refusals.{pyramidShort, sheetShort, lowest}
@@ -93,6 +93,7 @@ unfoldable pub isRefusal : Said → Bool
 isRefusal (returned values) = false
 isRefusal finished = false
 isRefusal more = false
+isRefusal (comparison c) = false
 isRefusal (refused n) = true
 
 -- the sum of the budgets of the calls not refused

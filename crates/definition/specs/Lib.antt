@@ -18,6 +18,7 @@ pub mod Renewal
 pub mod Sample
 pub mod Plate
 pub mod Quote
+pub mod Shelf
 pub mod Calls
 pub mod Expected
 pub mod Plates

@@ -9,7 +9,8 @@ use lib.Dec.{eqb}
 use lib.ListN.{length, set, take, replicate}
 use lib.IntN.{ℤ, pos, negℤ, _+ℤ_}
 use Rattle.definition.specs.Lists.{sumTo, sumZTo, allTo, tabulateFrom, joined, repeated, eqZ}
-use Rattle.definition.specs.Answers.{Said, returned, finished, more, refused, numberOf}
+use Rattle.definition.specs.Answers.{Said, returned, finished, more, comparison, refused, numberOf, Compared}
+use Rattle.definition.specs.Answers as Answers
 use Rattle.definition.specs.Pyramid.{start, needed, cellCount, placeIn, rowAt, columnAt, levelOf, inLevel, entry, four, coarser, pyramidOver}
 use Rattle.definition.specs.Blocks.{blockSum, blockSumZ, greyAt, burnt, burntAt, greySum, greyTotal, dotsIn, allDots}
 use Rattle.definition.specs.Descent.{
@@ -37,6 +38,19 @@ use Rattle.definition.specs.Renewal.{isNear, overThese, renewed, isSmall
 use Rattle.definition.specs.Sample.{nextState, greyOf, sampleGreys, stateAfter, sampleOf, sampleText}
 use Rattle.definition.specs.Plate.{refusedText, finishedOf, plateOf}
 use Rattle.definition.specs.Quote.{quoteOfMap, quoteOfText, quoteOf}
+use Rattle.definition.specs.Shelf.{
+  pattern,
+  firstDifference,
+  compared,
+  compareRefusal,
+  compareOf,
+  plateAt,
+  isBefore,
+  insert,
+  inOrder,
+  shelfRefusal,
+  shelfOf,
+}
 use Rattle.definition.specs.Calls.{Call, Held, heldAfterLoad, callOf, heldAfter, outcomesOf, heldAfterCalls, repliesOf, modelRefusal, modelCall, modelReply, modelAfterCalls, modelReplies}
 use Rattle.definition.specs.declared.Progress.{Progress}
 use Rattle.definition.specs.declared.Refusal.the-variants as Refusal
@@ -71,11 +85,19 @@ sameZ [] (y ∷ ys) = false
 sameZ (x ∷ xs) [] = false
 sameZ (x ∷ xs) (y ∷ ys) = eqZ x y && sameZ xs ys
 
+unfoldable pub comparedAs : Compared → List ℕ
+comparedAs Answers.before = 0 ∷ []
+comparedAs (Answers.beforeAt row column) = 1 ∷ row ∷ column ∷ []
+comparedAs Answers.same = 2 ∷ []
+comparedAs (Answers.afterAt row column) = 3 ∷ row ∷ column ∷ []
+comparedAs Answers.after = 4 ∷ []
+
 unfoldable pub saidAs : Said → List ℕ
 saidAs (returned values) = 0 ∷ values
 saidAs finished = 1 ∷ []
 saidAs more = 2 ∷ []
 saidAs (refused n) = 3 ∷ n ∷ []
+saidAs (comparison c) = 4 ∷ comparedAs c
 
 -- the number of a refusal
 unfoldable pub refuses : Said → ℕ → Bool
@@ -399,6 +421,36 @@ turns = 240 ∷ 200 ∷ 200 ∷ 0 ∷ []
 unfoldable pub turnsPyramid : List ℤ
 turnsPyramid = minus 32000 ∷ minus 13741 ∷ pos 0 ∷ minus 3748 ∷ minus 14511 ∷ []
 
+-- Compare on two sheets of side 2 says this
+unfoldable pub compares : List ℕ → List ℕ → Compared → Bool
+compares left right c = same (saidAs (compareOf 2 left right)) (4 ∷ comparedAs c)
+
+-- a sheet of side 4 burnt in one cell
+abbrev pub burntIn : ℕ → List ℕ
+burntIn cell = set (replicate 16 0) cell 1
+
+-- a shelf of five plates of side 2 and one place more: plates 0 and 2 are burnt alike, and plate 3 not at all
+unfoldable pub fivePlates : List ℕ
+fivePlates =
+    1 ∷ 0 ∷ 0 ∷ 0
+    ∷ 0 ∷ 5 ∷ 0 ∷ 0
+    ∷ 3 ∷ 0 ∷ 0 ∷ 0
+    ∷ 0 ∷ 0 ∷ 0 ∷ 0
+    ∷ 1 ∷ 2 ∷ 0 ∷ 0
+    ∷ 7 ∷ []
+
+-- Shelf on the first n plates of side 2 of a shelf, with a list of so many places, all 9, leaves this list
+unfoldable pub shelves : ℕ → List ℕ → ℕ → List ℕ → Bool
+shelves n plates lent list =
+    let outcome = shelfOf 2 n plates (replicate lent 9) in
+    same (saidAs (outcome .said)) (0 ∷ []) && same (outcome .list) list
+
+-- Shelf with a shelf and a list of so many places refuses with a number, and leaves the list
+unfoldable pub shelfRefuses : ℕ → ℕ → ℕ → ℕ → ℕ → Bool
+shelfRefuses side n plates lent number =
+    let outcome = shelfOf side n (replicate plates 0) (replicate lent 9) in
+    refuses (outcome .said) number && same (outcome .list) (replicate lent 9)
+
 unfoldable pub singlePlates : List Row
 singlePlates =
     -- the numbers of the table; the powers of 1, 2, 4 .. 512 as sides, and of other numbers; some needed lengths
@@ -464,6 +516,25 @@ singlePlates =
     ∷ (75, leaves 2 greysFlat4 (99 ∷ []) pyramidFlat4 serialsFlat4 orderFlat4)
     ∷ (75, leaves 2 greysFlat4 (1 ∷ 1 ∷ 3 ∷ 99 ∷ []) pyramidFlat4 serialsFlat4 orderFlat4)
     ∷ (75, same (levelsOf 4 greysFlat4 serialsFlat4 .sums) levelsFlat4)
+    -- document 02's comparison: fewer holes come first, whatever is burnt, and no cell is named; with as many, the cell
+    -- by row then column, and the plate unburnt there; the serials themselves and what lies past the map do not count
+    ∷ (76, compares (1 ∷ 0 ∷ 0 ∷ 0 ∷ []) (0 ∷ 0 ∷ 1 ∷ 2 ∷ []) Answers.before)
+    ∷ (76, compares (0 ∷ 0 ∷ 1 ∷ 2 ∷ []) (1 ∷ 0 ∷ 0 ∷ 0 ∷ []) Answers.after)
+    ∷ (77, compares (0 ∷ 1 ∷ 0 ∷ 0 ∷ []) (0 ∷ 0 ∷ 1 ∷ 0 ∷ []) (Answers.afterAt 0 1))
+    ∷ (77, compares (0 ∷ 0 ∷ 1 ∷ 0 ∷ []) (0 ∷ 1 ∷ 0 ∷ 0 ∷ []) (Answers.beforeAt 0 1))
+    ∷ (77, same (saidAs (compareOf 4 (burntIn 11) (burntIn 9))) (4 ∷ comparedAs (Answers.beforeAt 2 1)))
+    ∷ (78, compares (1 ∷ 0 ∷ 0 ∷ 2 ∷ []) (9 ∷ 0 ∷ 0 ∷ 4294967295 ∷ []) Answers.same)
+    ∷ (78, compares (1 ∷ 2 ∷ 0 ∷ 0 ∷ 3 ∷ []) (2 ∷ 1 ∷ 0 ∷ 0 ∷ 0 ∷ []) Answers.same)
+    ∷ (79, refuses (compareOf 3 [] []) 1 && refuses (compareOf 2 three p1) 4 && refuses (compareOf 2 p1 three) 4)
+    -- its shelf: five plates, the place past them left; no plate, with and without a list; one plate; two that are
+    -- the same and two that are not
+    ∷ (80, shelves 5 fivePlates 6 (3 ∷ 1 ∷ 0 ∷ 2 ∷ 4 ∷ 9 ∷ []))
+    ∷ (81, shelves 0 [] 0 [] && shelves 0 fivePlates 1 (9 ∷ []) && shelves 1 fivePlates 1 (0 ∷ []))
+    ∷ (81, shelves 2 (1 ∷ 0 ∷ 0 ∷ 0 ∷ 2 ∷ 0 ∷ 0 ∷ 0 ∷ []) 2 (0 ∷ 1 ∷ []))
+    ∷ (81, shelves 2 fivePlates 2 (1 ∷ 0 ∷ []))
+    -- its refusals, the lowest number first; a shelf of 2³² places would hold just these 65,536 plates
+    ∷ (82, shelfRefuses 3 9 0 0 1 && shelfRefuses 2 2 7 1 4 && shelfRefuses 2 2 8 1 8)
+    ∷ (82, shelfRefuses 256 65536 0 0 4 && shelfRefuses 256 4294967295 9 9 4)
     ∷ []
 
 -- the number of the first row that doesn't hold; 0 if they all do
@@ -475,7 +546,7 @@ abbrev pub allPlates : List Row
 allPlates = plates ++ furtherPlates ++ singlePlates
 
 -- no row is lost
-pub plates-there : length allPlates ≡ 98
+pub plates-there : length allPlates ≡ 112
 unfolding plates furtherPlates singlePlates
 plates-there = refl
 
@@ -490,12 +561,15 @@ unfolding sumTo sumZTo allTo tabulateFrom joined repeated eqZ numberOf start pla
     fieldOf textInto rowsText mapText valuesOf readGreys readMap mapTextOf dotLines drillText drillListRefusal
     drillListOf quoteCap figures alignedLine quoteText quotePageRefusal quotePageOf isNear overThese renewed
     isSmall entriesSmall renewable renewalOf nextState greyOf sampleGreys stateAfter sampleOf sampleText
-    refusedText finishedOf plateOf quoteOfMap quoteOfText quoteOf heldAfterLoad callOf heldAfter outcomesOf
+    refusedText finishedOf plateOf quoteOfMap quoteOfText quoteOf pattern firstDifference compared
+    compareRefusal compareOf plateAt isBefore insert inOrder shelfRefusal shelfOf heldAfterLoad callOf
+    heldAfter outcomesOf
     heldAfterCalls repliesOf modelRefusal modelCall modelReply modelAfterCalls modelReplies greys4 order4
     serials4 pyramid4 levels4 greys8 order8 serials8 pyramid8 levels8 greysFlat4 orderFlat4 serialsFlat4
-    pyramidFlat4 levelsFlat4 same sameZ saidAs refuses loadedMap callsOf after modelAfter replied answers
+    pyramidFlat4 levelsFlat4 same sameZ comparedAs saidAs refuses loadedMap callsOf after modelAfter replied answers
     leaves sharesFrom shares total p1 p2 p3 p6 textP3 listP3 listed lineP3 quoted owedWith altered renews4
     renews8 leftAlone samples sampleBegins numbers says loads advances lists reads textOfGrey acceptsLow
     lowBeside givesBack darkAt orderOf refusedLine plateRefuses quoteRefuses text64 textX level0 textRight
-    listRight tenDigits pageP3 turns turnsPyramid plates furtherPlates singlePlates firstFailing
+    listRight tenDigits pageP3 turns turnsPyramid compares fivePlates shelves shelfRefuses plates furtherPlates
+    singlePlates firstFailing
 plates-hold = refl

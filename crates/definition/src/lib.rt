@@ -80,3 +80,20 @@ pub enum SampleAnswer {
     State(u32),
     Refused(Refusal),
 }
+
+// Compare: how the left of two plates stands to the right one. Where they have as many holes, with the row and column
+// of the first cell at which they differ.
+pub enum CompareAnswer {
+    Before,
+    BeforeAt(u32, u32),
+    Same,
+    AfterAt(u32, u32),
+    After,
+    Refused(Refusal),
+}
+
+// Whether Shelf put the plates in order.
+pub enum ShelfAnswer {
+    Sorted,
+    Refused(Refusal),
+}

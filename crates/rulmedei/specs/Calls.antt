@@ -5,12 +5,23 @@ use mathlib.Core.List.{List}
 use Prim.Native.Nat.{ℕ}
 use lib.IntN.{ℤ}
 use lib.Seq.{sets}
-use Rattle.definition.specs.Answers.{Said, GreysOutcome, loadSays, advanceSays, tallySays, levelsSays, textSays}
+use Rattle.definition.specs.Answers.{
+  Said,
+  GreysOutcome,
+  loadSays,
+  advanceSays,
+  tallySays,
+  levelsSays,
+  textSays,
+  compareSays,
+  shelfSays,
+}
 use Rattle.definition.specs.Load.{loadOf}
 use Rattle.definition.specs.Diffusion.{plain}
 use Rattle.definition.specs.Advance.{advanceOf}
 use Rattle.definition.specs.Survey.{tallyOf, levelsOf}
 use Rattle.definition.specs.Text.{TextOutcome}
+use Rattle.definition.specs.Shelf.{ShelfOutcome}
 use Rattle.definition.specs.declared.LoadAnswer.{LoadAnswer}
 use Rattle.definition.specs.declared.LoadStatus.{LoadStatus}
 use Rattle.definition.specs.declared.AdvanceAnswer.{AdvanceAnswer}
@@ -19,7 +30,22 @@ use Rattle.definition.specs.declared.TallyAnswer.{TallyAnswer}
 use Rattle.definition.specs.declared.LevelsAnswer.{LevelsAnswer}
 use Rattle.definition.specs.declared.LevelsStatus.{LevelsStatus}
 use Rattle.definition.specs.declared.TextAnswer.{TextAnswer}
-use Rattle.rulmedei.specs.Codes.{codeOf, valueOf, loadCode, advanceCode, tallyCode, levelsCode, greysCode, textCode, renewCode}
+use Rattle.definition.specs.declared.CompareAnswer.{CompareAnswer}
+use Rattle.definition.specs.declared.ShelfAnswer.{ShelfAnswer}
+use Rattle.rulmedei.specs.Codes.{
+  codeOf,
+  valueOf,
+  cellOf,
+  loadCode,
+  advanceCode,
+  tallyCode,
+  levelsCode,
+  greysCode,
+  textCode,
+  compareCode,
+  shelfCode,
+  renewCode,
+}
 
 -- ---- the calls that answer a record with a status
 pub load-coded : (side : ℕ) (g : List ℕ) (p : List ℤ) (s o : List ℕ) (a : LoadAnswer) {p′ : List ℤ} {s′ o′ : List ℕ}
@@ -64,6 +90,21 @@ pub text-coded : {o : TextOutcome} {after : List ℕ} (a : TextAnswer) → recor
     → {n v : ℕ} → n ≡ codeOf (textSays a) → v ≡ valueOf (textSays a) → record { code = n; length = v; output = after } ≡ textCode o
 unfolding textCode
 text-coded a h n v = rw (← h, n, v)
+
+-- ---- the comparison and the shelf
+pub compare-coded : {o : Said} (a : CompareAnswer) → compareSays a ≡ o → {t : CompareAnswer} → a ≡ t
+    → {n x y : ℕ} → n ≡ codeOf (compareSays t) → x ≡ cellOf (compareSays t) .0
+    → y ≡ cellOf (compareSays t) .1
+    → record { code = n; row = x; column = y } ≡ compareCode o
+unfolding compareCode
+compare-coded a h is n x y = rw (← h, is, n, x, y)
+
+pub shelf-coded : {o : ShelfOutcome} {after : List ℕ} (a : ShelfAnswer)
+    → record { said = shelfSays a; list = after } ≡ o → {t : ShelfAnswer} → a ≡ t → {n : ℕ}
+    → n ≡ codeOf (shelfSays t)
+    → record { code = n; list = after } ≡ shelfCode o
+unfolding shelfCode
+shelf-coded a h is n = rw (← h, is, n)
 
 -- ---- the renewal, which answers whether it is made
 pub renew-coded : (outcome : Bool × List ℤ) {b : Bool} {p′ : List ℤ} → (b, p′) ≡ outcome → {t : Bool} → b ≡ t → {n : ℕ} → n ≡ cond t 0 101 → record { code = n; pyramid = p′ } ≡ renewCode outcome

@@ -4,18 +4,42 @@ use mathlib.Core.List.{List, [], _∷_}
 use Prim.Native.Nat.{ℕ}
 use lib.IntN.{ℤ}
 use lib.Seq.{sets}
-use Rattle.definition.specs.Answers.{Said, GreysOutcome, returned, finished, more, refused}
+use Rattle.definition.specs.Answers.{
+  Said,
+  GreysOutcome,
+  returned,
+  finished,
+  more,
+  comparison,
+  refused,
+  Compared,
+  before,
+  beforeAt,
+  same,
+  afterAt,
+  after,
+}
 use Rattle.definition.specs.Load.{loadOf}
 use Rattle.definition.specs.Diffusion.{plain}
 use Rattle.definition.specs.Advance.{advanceOf}
 use Rattle.definition.specs.Survey.{tallyOf, levelsOf}
 use Rattle.definition.specs.Text.{TextOutcome}
+use Rattle.definition.specs.Shelf.{ShelfOutcome}
 
--- 0 where the call did its work, 100 for "more", else the number of the refusal
+-- 102 to 106 for what a comparison says
+unfoldable pub comparedCode : Compared → ℕ
+comparedCode before = 102
+comparedCode (beforeAt row column) = 103
+comparedCode same = 104
+comparedCode (afterAt row column) = 105
+comparedCode after = 106
+
+-- 0 where the call did its work, 100 for "more", a comparison's code, else the number of the refusal
 unfoldable pub codeOf : Said → ℕ
 codeOf (returned values) = 0
 codeOf finished = 0
 codeOf more = 100
+codeOf (comparison c) = comparedCode c
 codeOf (refused n) = n
 
 -- the first value returned; 0 where there is none
@@ -24,6 +48,7 @@ valueOf (returned []) = 0
 valueOf (returned (v ∷ values)) = v
 valueOf finished = 0
 valueOf more = 0
+valueOf (comparison c) = 0
 valueOf (refused n) = 0
 
 pub record LoadCode : Type 0 where
@@ -84,6 +109,33 @@ pub record TextCode : Type 0 where
 
 unfoldable pub textCode : TextOutcome → TextCode
 textCode o = record { code = codeOf (o .said); length = valueOf (o .said); output = o .output }
+
+-- the row and the column of the cell that a comparison names; 0 and 0 where it names none
+unfoldable pub cellOf : Said → ℕ × ℕ
+cellOf (returned values) = (0, 0)
+cellOf finished = (0, 0)
+cellOf more = (0, 0)
+cellOf (comparison before) = (0, 0)
+cellOf (comparison (beforeAt row column)) = (row, column)
+cellOf (comparison same) = (0, 0)
+cellOf (comparison (afterAt row column)) = (row, column)
+cellOf (comparison after) = (0, 0)
+cellOf (refused n) = (0, 0)
+
+pub record CompareCode : Type 0 where
+  pub code : ℕ
+  pub row : ℕ
+  pub column : ℕ
+
+unfoldable pub compareCode : Said → CompareCode
+compareCode said = record { code = codeOf said; row = cellOf said .0; column = cellOf said .1 }
+
+pub record ShelfCode : Type 0 where
+  pub code : ℕ
+  pub list : List ℕ
+
+unfoldable pub shelfCode : ShelfOutcome → ShelfCode
+shelfCode o = record { code = codeOf (o .said); list = o .list }
 
 -- the renewal by itself: whether it is made, and the pyramid
 pub record RenewCode : Type 0 where

@@ -1,24 +1,29 @@
-// The calls for programs in C and Rust: numbers and slices only. Each returns a code: 0 where the call did its work, 100 where Advance says
-// more, or else document 01's number of the refusal. The renewal by itself, no call of document 01, returns 0 or 101. A slice is a pointer and a
-// length (include/rulmedei.h says what a caller must ensure).
+// The calls for programs in C and Rust: numbers and slices only. Each returns a code: 0 where the call did its work,
+// 100 where Advance says more, 102 to 106 for what Compare says, or else document 01's number of the refusal. The
+// renewal by itself, no call of document 01, returns 0 or 101. A slice is a pointer and a length (include/rulmedei.h
+// says what a caller must ensure).
 use definition::AdvanceStatus;
+use definition::CompareAnswer;
 use definition::LevelsStatus;
 use definition::LoadStatus;
 use definition::MapTextAnswer;
 use definition::Progress;
 use definition::SampleAnswer;
+use definition::ShelfAnswer;
 use definition::TallyAnswer;
 use definition::TextAnswer;
 ghost use mathlib.Core.Path.{_≡_};
 ghost use lib.ListN.{set};
 ghost use lib.Seq.{sets};
-ghost use Rattle.definition.specs.Answers.{textSays};
+ghost use Rattle.definition.specs.Answers.{textSays, compareSays};
 ghost use Rattle.definition.specs.MapText.{mapTextOf};
 ghost use Rattle.definition.specs.DrillList.{drillListOf};
 ghost use Rattle.definition.specs.QuotePage.{quotePageOf};
 ghost use Rattle.definition.specs.Renewal.{renewalOf};
 ghost use Rattle.definition.specs.Sample.{sampleOf};
-ghost use Rattle.rulmedei.specs.Codes.{codeOf, valueOf, loadCode, advanceCode, tallyCode, levelsCode, greysCode, textCode, renewCode};
+ghost use Rattle.definition.specs.Shelf.{compareOf, shelfOf};
+ghost use Rattle.rulmedei.specs.Codes.{codeOf, valueOf, loadCode, advanceCode, tallyCode, levelsCode};
+ghost use Rattle.rulmedei.specs.Codes.{greysCode, textCode, compareCode, shelfCode, renewCode};
 
 // Load. The record is written to `progress_side` and `progress_dots`.
 #[no_mangle]
@@ -210,6 +215,54 @@ pub extern "C" fn rulmedei_sample(seed: u32, side: u32, greys: &mut [u8], state:
             *state = 0;
             checks::number_of(why)
         }
+    }
+}
+
+// Compare. The row and column of the cell that it names are written to `row` and `column`, 0 and 0 where it names none.
+#[no_mangle]
+pub extern "C" fn rulmedei_compare(
+    side: u32,
+    left: &[u32],
+    right: &[u32],
+    row: &mut u32,
+    column: &mut u32,
+) -> u32
+    ensures { λ n. ⌜
+        record { code = n; row = now (row .exit); column = now (column .exit) }
+        ≡ compareCode (compareOf side (now (left .entry)) (now (right .entry)))
+        ⌝ }
+{
+    *row = 0;
+    *column = 0;
+    match compare::compare(side, left, right) {
+        CompareAnswer::Before => 102,
+        CompareAnswer::BeforeAt(a, b) => {
+            *row = a;
+            *column = b;
+            103
+        }
+        CompareAnswer::Same => 104,
+        CompareAnswer::AfterAt(a, b) => {
+            *row = a;
+            *column = b;
+            105
+        }
+        CompareAnswer::After => 106,
+        CompareAnswer::Refused(why) => checks::number_of(why),
+    }
+}
+
+// Shelf. The numbers of the plates are written to `list`.
+#[no_mangle]
+pub extern "C" fn rulmedei_shelf(side: u32, n: u32, plates: &[u32], list: &mut [u32]) -> u32
+    ensures { λ c. ⌜
+        record { code = c; list = now (list .exit) }
+        ≡ shelfCode (shelfOf side n (now (plates .entry)) (now (list .entry)))
+        ⌝ }
+{
+    match shelf::shelf(side, n, plates, list) {
+        ShelfAnswer::Sorted => 0,
+        ShelfAnswer::Refused(why) => checks::number_of(why),
     }
 }
 

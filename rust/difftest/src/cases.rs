@@ -1,6 +1,6 @@
 //! The cases, by kind: every call answered; every call refused; loads; runs of calls with lent parts and damage between
-//! them; sheets that no Load made; noise; the renewal by itself on wrong pyramids; samples one after another; texts,
-//! and texts of two sides.
+//! them; sheets that no Load made; noise; the renewal by itself on wrong pyramids; samples one after another; plates
+//! compared, and shelves of plates; texts, and texts of two sides.
 
 use reference::SIDES;
 
@@ -8,6 +8,7 @@ use crate::random::Random;
 use crate::renewals::renewal_case;
 use crate::runs::{load_case, made_up_case, noise_case, run_case};
 use crate::samples::sample_case;
+use crate::shelves::{compare_case, shelf_case};
 use crate::side_by_side::{Differs, SideBySide};
 use crate::texts::{mixed_text_case, text_case};
 use crate::tours::{refusals_case, tour_case};
@@ -16,7 +17,7 @@ use crate::tours::{refusals_case, tour_case};
 type Case = fn(&mut Random, &mut SideBySide, u32) -> Result<(), Differs>;
 
 /// The kinds of case, each made at every side by the sweep.
-const KINDS: [Case; 10] = [
+const KINDS: [Case; 12] = [
     tour_case,
     refusals_case,
     load_case,
@@ -25,6 +26,8 @@ const KINDS: [Case; 10] = [
     noise_case,
     renewal_case,
     sample_case,
+    compare_case,
+    shelf_case,
     text_case,
     mixed_text_case,
 ];
@@ -47,7 +50,7 @@ fn random_case(random: &mut Random, calls: &mut SideBySide) -> Result<(), Differ
     let (any, good) = (random.side(), random.good_side());
     let large = random.pick(&[32, 64, 128, 256]);
     let (quick, quick_good) = if random.once_in(200) { (large, large) } else { (any, good) };
-    match random.below(26) {
+    match random.below(29) {
         0..=3 => load_case(random, calls, any),
         4..=9 => run_case(random, calls, good),
         10 | 11 => made_up_case(random, calls, good),
@@ -55,6 +58,8 @@ fn random_case(random: &mut Random, calls: &mut SideBySide) -> Result<(), Differ
         14..=17 => renewal_case(random, calls, quick),
         18 | 19 => sample_case(random, calls, quick),
         20..=24 => text_case(random, calls, quick_good),
+        25 => compare_case(random, calls, any),
+        26 | 27 => shelf_case(random, calls, any),
         _ => mixed_text_case(random, calls, quick_good),
     }
 }

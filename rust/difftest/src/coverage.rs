@@ -1,11 +1,13 @@
-//! Which codes the calls returned at which of the eight sides.
+//! Which codes the calls returned at which of the eight sides, and what kinds of comparison and shelf there were.
 
 use std::collections::BTreeSet;
 
 use reference::SIDES;
 
+use crate::plate_kinds::{Kind, KINDS};
+
 /// The codes that each call can return at every side: those of its answers, then those of its refusals.
-const CODES: [(&str, &[u32]); 9] = [
+const CODES: [(&str, &[u32]); 11] = [
     ("load", &[0, 2, 3, 4]),
     ("advance", &[0, 100, 3, 4, 5]),
     ("tally", &[0, 4, 6]),
@@ -14,17 +16,24 @@ const CODES: [(&str, &[u32]); 9] = [
     ("drill_list", &[0, 3, 4, 5, 8]),
     ("quote_page", &[0, 2, 4, 6, 8]),
     ("sample", &[0, 2]),
+    ("compare", &[102, 103, 104, 105, 106, 4]),
+    ("shelf", &[0, 4, 8]),
     ("renew", &[0, 101]),
 ];
 
 #[derive(Default)]
 pub struct Coverage {
     seen: BTreeSet<(&'static str, u32, u32)>,
+    kinds: BTreeSet<Kind>,
 }
 
 impl Coverage {
     pub fn note(&mut self, call: &'static str, side: u32, code: u32) {
         self.seen.insert((call, side, code));
+    }
+
+    pub fn note_kinds(&mut self, kinds: Vec<Kind>) {
+        self.kinds.extend(kinds);
     }
 
     /// What has not been seen: the call, the side and the code.
@@ -33,5 +42,10 @@ impl Coverage {
             SIDES.into_iter().flat_map(move |side| codes.iter().map(move |code| (call, side, *code)))
         };
         CODES.into_iter().flat_map(of_call).filter(|wanted| !self.seen.contains(wanted)).collect()
+    }
+
+    /// The kinds of comparison and shelf that have not been seen.
+    pub fn missing_kinds(&self) -> Vec<Kind> {
+        KINDS.into_iter().filter(|wanted| !self.kinds.contains(wanted)).collect()
     }
 }

@@ -1,6 +1,6 @@
 //! The reference's answers in the same form.
 
-use reference::{Ended, Progress, Refusal};
+use reference::{Compared, Ended, Progress, Refusal};
 
 use crate::library::Outcome;
 
@@ -9,6 +9,13 @@ const MORE: u32 = 100;
 
 /// The code of a renewal that isn't promised.
 const NOT_RENEWED: u32 = 101;
+
+/// The codes of how two plates compare, from "before" to "after".
+const BEFORE: u32 = 102;
+const BEFORE_AT: u32 = 103;
+const SAME: u32 = 104;
+const AFTER_AT: u32 = 105;
+const AFTER: u32 = 106;
 
 pub fn load(side: u32, greys: &[u8], pyramid: &mut [i64], serials: &mut [u32], order: &mut [u32]) -> Outcome {
     let answer = reference::load(side, greys, pyramid, serials, order);
@@ -59,6 +66,22 @@ pub fn quote_page(side: u32, greys: &[u8], serials: &[u32], level: u32, out: &mu
 pub fn sample(seed: u32, side: u32, greys: &mut [u8]) -> Outcome {
     let answer = reference::sample(seed, side, greys);
     Outcome { code: code_of(answer), values: vec![answer.unwrap_or(0).into()] }
+}
+
+pub fn compare(side: u32, left: &[u32], right: &[u32]) -> Outcome {
+    let (code, row, column) = match reference::compare(side, left, right) {
+        Ok(Compared::Before) => (BEFORE, 0, 0),
+        Ok(Compared::BeforeAt(row, column)) => (BEFORE_AT, row, column),
+        Ok(Compared::Same) => (SAME, 0, 0),
+        Ok(Compared::AfterAt(row, column)) => (AFTER_AT, row, column),
+        Ok(Compared::After) => (AFTER, 0, 0),
+        Err(refusal) => (refusal.number(), 0, 0),
+    };
+    Outcome { code, values: vec![row.into(), column.into()] }
+}
+
+pub fn shelf(side: u32, n: u32, plates: &[u32], list: &mut [u32]) -> Outcome {
+    Outcome { code: code_of(reference::shelf(side, n, plates, list)), values: Vec::new() }
 }
 
 pub fn renew(side: u32, [row, column]: [u32; 2], pyramid: &mut [i64]) -> Outcome {

@@ -56,6 +56,15 @@ pub fn sample(seed: u32, side: u32, greys: &mut [u8]) -> Outcome {
     Outcome { code, values: vec![state.into()] }
 }
 
+pub fn compare(side: u32, left: &[u32], right: &[u32]) -> Outcome {
+    let (code, cell) = codes::compare(side, left, right);
+    Outcome { code, values: cell.map(u64::from).to_vec() }
+}
+
+pub fn shelf(side: u32, n: u32, plates: &[u32], list: &mut [u32]) -> Outcome {
+    Outcome { code: codes::shelf(side, n, plates, list), values: Vec::new() }
+}
+
 pub fn renew(side: u32, [row, column]: [u32; 2], pyramid: &mut [i64]) -> Outcome {
     Outcome { code: codes::renew(side, row, column, pyramid), values: Vec::new() }
 }

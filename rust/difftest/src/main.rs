@@ -6,10 +6,12 @@ mod coverage;
 mod expected;
 mod library;
 mod parts;
+mod plate_kinds;
 mod random;
 mod renewals;
 mod runs;
 mod samples;
+mod shelves;
 mod side_by_side;
 mod texts;
 mod tours;
@@ -17,10 +19,12 @@ mod vectors;
 
 use std::process::ExitCode;
 
+use coverage::Coverage;
 use random::Random;
 use side_by_side::SideBySide;
 
-/// Within so many cases every call has returned each of its codes at every side.
+/// Within so many cases every call has returned each of its codes at every side, and there was every kind of comparison
+/// and shelf.
 const COVERED: u64 = 1000;
 
 fn main() -> ExitCode {
@@ -59,23 +63,36 @@ fn compare_vectors() -> Result<String, String> {
 fn compare_cases(cases: u64, seed: u64) -> Result<String, String> {
     let mut random = Random::new(seed);
     let mut calls = SideBySide::default();
-    let mut covered = None;
+    let (mut codes, mut kinds) = (None, None);
     for case in 1..=cases {
         cases::case(case - 1, &mut random, &mut calls)
             .map_err(|difference| format!("case {case} of seed {seed}, after {} calls: {difference}", calls.total()))?;
-        if covered.is_none() && calls.coverage.missing().is_empty() {
-            covered = Some(case);
+        if codes.is_none() && calls.coverage.missing().is_empty() {
+            codes = Some(case);
         }
-        if covered.is_none() && case == COVERED {
-            return Err(format!("not seen within {COVERED} cases (call, side, code): {:?}", calls.coverage.missing()));
+        if kinds.is_none() && calls.coverage.missing_kinds().is_empty() {
+            kinds = Some(case);
+        }
+        if case == COVERED {
+            covered(&calls.coverage)?;
         }
     }
     for ((call, code), count) in &calls.calls {
         println!("{call},{code},{count}");
     }
-    let covered = covered.unwrap_or(cases);
+    let [codes, kinds] = [codes, kinds].map(|covered| covered.unwrap_or(cases));
     println!(
-        "each of the nine calls was answered, and gave each of its refusals, at all eight sides within {covered} cases"
+        "each of the eleven calls was answered, and gave each of its refusals, at all eight sides within {codes} cases"
     );
+    println!("every kind of comparison and shelf was met within {kinds} cases");
     Ok(format!("{} calls compared in {cases} cases of seed {seed}, no difference", calls.total()))
+}
+
+/// Whether all was seen that has to be; else what was not.
+fn covered(coverage: &Coverage) -> Result<(), String> {
+    let (codes, kinds) = (coverage.missing(), coverage.missing_kinds());
+    if codes.is_empty() && kinds.is_empty() {
+        return Ok(());
+    }
+    Err(format!("not seen within {COVERED} cases (call, side, code): {codes:?}; of comparisons and shelves: {kinds:?}"))
 }

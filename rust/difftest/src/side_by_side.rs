@@ -9,6 +9,7 @@ use reference::Progress;
 use crate::coverage::Coverage;
 use crate::expected;
 use crate::library::{self, Outcome};
+use crate::plate_kinds;
 
 /// The three buffers of a sheet, whole.
 #[derive(Debug, Clone, PartialEq, Eq)]
@@ -162,6 +163,36 @@ impl SideBySide {
         let inputs = (seed, side, &before, lent);
         self.agreed("sample", &inputs, (&ours, &*greys), (&theirs, &other[..]))?;
         self.counted("sample", side, ours)
+    }
+
+    pub fn compare(&mut self, side: u32, left: &[u32], right: &[u32]) -> Result<Outcome, Differs> {
+        let ours = library::compare(side, left, right);
+        let theirs = expected::compare(side, left, right);
+        self.agreed("compare", &(side, left, right), &ours, &theirs)?;
+        if !self.coverage.missing_kinds().is_empty() {
+            self.coverage.note_kinds(plate_kinds::of_compare(side, left, right, &ours));
+        }
+        self.counted("compare", side, ours)
+    }
+
+    pub fn shelf(
+        &mut self,
+        side: u32,
+        n: u32,
+        plates: &[u32],
+        list: &mut [u32],
+        lent: usize,
+    ) -> Result<Outcome, Differs> {
+        let before = list.to_vec();
+        let mut other = list.to_vec();
+        let ours = library::shelf(side, n, plates, &mut list[..lent]);
+        let theirs = expected::shelf(side, n, plates, &mut other[..lent]);
+        let inputs = (side, n, plates, &before, lent);
+        self.agreed("shelf", &inputs, (&ours, &*list), (&theirs, &other[..]))?;
+        if !self.coverage.missing_kinds().is_empty() {
+            self.coverage.note_kinds(plate_kinds::of_shelf(side, n, plates, &list[..lent], ours.code));
+        }
+        self.counted("shelf", side, ours)
     }
 
     pub fn renew(&mut self, side: u32, cell: [u32; 2], pyramid: &mut [i64], lent: usize) -> Result<Outcome, Differs> {

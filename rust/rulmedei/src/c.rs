@@ -86,5 +86,24 @@ extern "C" {
 
     pub fn rulmedei_sample(seed: u32, side: u32, greys: *mut u8, greys_length: usize, state: *mut u32) -> u32;
 
+    pub fn rulmedei_compare(
+        side: u32,
+        left: *const u32,
+        left_length: usize,
+        right: *const u32,
+        right_length: usize,
+        row: *mut u32,
+        column: *mut u32,
+    ) -> u32;
+
+    pub fn rulmedei_shelf(
+        side: u32,
+        n: u32,
+        plates: *const u32,
+        plates_length: usize,
+        list: *mut u32,
+        list_length: usize,
+    ) -> u32;
+
     pub fn rulmedei_renew(side: u32, row: u32, column: u32, pyramid: *mut i64, pyramid_length: usize) -> u32;
 }

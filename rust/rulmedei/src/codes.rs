@@ -1,5 +1,6 @@
-//! The calls with their codes, on slices: the number that a call returns (0 for done, 100 for more, else a refusal's),
-//! and what it writes beside the buffers. And the renewal by itself, whose number is 0 or 101.
+//! The calls with their codes, on slices: the number that a call returns (0 for done, 100 for more, 102 to 106 for how
+//! two plates compare, else a refusal's), and what it writes beside the buffers. And the renewal by itself, whose
+//! number is 0 or 101.
 
 use crate::c;
 use crate::Progress;
@@ -145,6 +146,22 @@ pub fn sample(seed: u32, side: u32, greys: &mut [u8]) -> (u32, u32) {
     // SAFETY: the pointer and length are those of a slice, and `state` is a local.
     let code = unsafe { c::rulmedei_sample(seed, side, greys.as_mut_ptr(), greys.len(), &mut state) };
     (code, state)
+}
+
+/// The code, and the cell: its row and column.
+pub fn compare(side: u32, left: &[u32], right: &[u32]) -> (u32, [u32; 2]) {
+    let [mut row, mut column] = [UNWRITTEN; 2];
+    // SAFETY: each pointer and length is that of a slice, and `row` and `column` are locals.
+    let code = unsafe {
+        c::rulmedei_compare(side, left.as_ptr(), left.len(), right.as_ptr(), right.len(), &mut row, &mut column)
+    };
+    (code, [row, column])
+}
+
+/// The code.
+pub fn shelf(side: u32, n: u32, plates: &[u32], list: &mut [u32]) -> u32 {
+    // SAFETY: each pointer and length is that of a slice.
+    unsafe { c::rulmedei_shelf(side, n, plates.as_ptr(), plates.len(), list.as_mut_ptr(), list.len()) }
 }
 
 /// The code: 0 where it renewed, else 101.

@@ -1,10 +1,11 @@
-//! Grey maps to ordered lists of holes: the eight calls of the proved library, on slices that the caller lends. No call
+//! Grey maps to ordered lists of holes: the ten calls of the proved library, on slices that the caller lends. No call
 //! asks anything of its arguments; what doesn't fit is refused, and a refused call leaves every buffer as it was.
 //!
 //! Map Text reads a map, Load fills the buffers, Advance makes holes until it is finished, and Drill List writes them
 //! down (`examples/list.rs`). Tally, Levels and Quote Page look at what was made. Sample makes a map from a seed.
+//! Compare tells which of two plates comes first, and Shelf puts many in order (`examples/shelf.rs`).
 //!
-//! Besides the eight there is `renew`, the renewal of sums that Advance does after each hole, by itself.
+//! Besides the ten there is `renew`, the renewal of sums that Advance does after each hole, by itself.
 
 #[cfg(not(all(target_arch = "x86_64", target_os = "linux")))]
 compile_error!("the proved library is compiled for x86-64 Linux");
@@ -15,7 +16,7 @@ mod refusal;
 
 pub use refusal::Refusal;
 
-use refusal::{did, MORE};
+use refusal::{did, refused, AFTER, AFTER_AT, BEFORE, BEFORE_AT, MORE, SAME};
 
 /// The record that goes from call to call: the side and the holes made so far.
 #[derive(Clone, Copy, Debug, PartialEq, Eq)]
@@ -30,6 +31,22 @@ pub struct Advanced {
     pub progress: Progress,
     pub made: u32,
     pub finished: bool,
+}
+
+/// What Compare answers: whether the left plate comes before the right one or after it, or both are burnt alike. Where
+/// they have as many holes, with the first cell, by row then column, that is burnt on one of them alone.
+#[derive(Clone, Copy, Debug, PartialEq, Eq)]
+pub enum Compared {
+    /// The left plate has fewer holes.
+    Before,
+    /// Both have as many holes, and the left one is unburnt at this cell.
+    BeforeAt { row: u32, column: u32 },
+    /// The same cells are burnt.
+    Same,
+    /// Both have as many holes, and the right one is unburnt at this cell.
+    AfterAt { row: u32, column: u32 },
+    /// The right plate has fewer holes.
+    After,
 }
 
 /// The length that greys, serials and order need: the cells of a map, N². The side is one of 2, 4, 8 .. 256.
@@ -144,7 +161,46 @@ pub fn sample(seed: u32, side: u32, greys: &mut [u8]) -> Result<u32, Refusal> {
     Ok(state)
 }
 
-/// The renewal by itself, none of the eight calls: makes each coarser entry over the cell (row, column), or over one of
+/// Compare: how the left of two plates of a side stands to the right one. A plate is a serial sheet, of which only the
+/// burnt cells count, those whose serial isn't 0. It comes before each plate with more holes, and of those with as many
+/// before each that is burnt at the first cell, by row then column, at which the two differ. Refusals: 1, 4.
+///
+/// ```
+/// use rulmedei::{compare, Compared};
+///
+/// let (left, right) = ([0, 7, 0, 1], [1, 0, 0, 2]);
+/// assert_eq!(compare(2, &left, &right), Ok(Compared::BeforeAt { row: 0, column: 0 }));
+/// assert_eq!(compare(2, &right, &left), Ok(Compared::AfterAt { row: 0, column: 0 }));
+/// ```
+pub fn compare(side: u32, left: &[u32], right: &[u32]) -> Result<Compared, Refusal> {
+    let (code, [row, column]) = codes::compare(side, left, right);
+    match code {
+        BEFORE => Ok(Compared::Before),
+        BEFORE_AT => Ok(Compared::BeforeAt { row, column }),
+        SAME => Ok(Compared::Same),
+        AFTER_AT => Ok(Compared::AfterAt { row, column }),
+        AFTER => Ok(Compared::After),
+        _ => Err(refused(code)),
+    }
+}
+
+/// Shelf: writes the numbers of n plates, 0 to n − 1, into the first n places of the list, in the order of `compare`;
+/// of plates that are burnt alike, the lower number first. The plates stand one after the other, N² serials each.
+/// Places past the n-th stay. Two plates are compared at most n × (1 + log2 n) times. Refusals: 1, 4, 8.
+///
+/// ```
+/// // three plates of side 2; the first and the last are burnt alike
+/// let plates = [1, 0, 0, 2, 0, 1, 0, 0, 2, 0, 0, 1];
+/// let mut list = [0; 3];
+/// rulmedei::shelf(2, 3, &plates, &mut list)?;
+/// assert_eq!(list, [1, 0, 2]);
+/// # Ok::<(), rulmedei::Refusal>(())
+/// ```
+pub fn shelf(side: u32, n: u32, plates: &[u32], list: &mut [u32]) -> Result<(), Refusal> {
+    did(codes::shelf(side, n, plates, list))
+}
+
+/// The renewal by itself, none of the ten calls: makes each coarser entry over the cell (row, column), or over one of
 /// its up to eight neighbours on the map, the sum of its four entries on the level below, level by level up to the top.
 /// All other entries stay as they are, right or wrong.
 ///

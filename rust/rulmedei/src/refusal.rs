@@ -6,6 +6,13 @@ use std::fmt;
 /// What Advance returns while holes are due.
 pub(crate) const MORE: u32 = 100;
 
+/// What Compare returns.
+pub(crate) const BEFORE: u32 = 102;
+pub(crate) const BEFORE_AT: u32 = 103;
+pub(crate) const SAME: u32 = 104;
+pub(crate) const AFTER_AT: u32 = 105;
+pub(crate) const AFTER: u32 = 106;
+
 /// The enum, the list of its cases and their words, from one table of names, numbers and words.
 macro_rules! refusals {
     ($($name:ident = $number:literal: $words:literal,)*) => {
@@ -32,11 +39,11 @@ refusals! {
     SideUnknown = 1: "the side is no power of two from 2 to 256",
     GreysShort = 2: "the greys buffer is shorter than N * N",
     PyramidShort = 3: "the pyramid is shorter than needed",
-    SheetShort = 4: "the serial sheet, or the order list where it is lent, is shorter than N * N",
+    SheetShort = 4: "a serial sheet or order list is shorter than N * N, or a shelf than n * N * N",
     SheetUnsound = 5: "the sheet is not sound: Load and Advance leave no such buffers with this record",
     BlockUnknown = 6: "the level is past the map's last, or the row or column not below 2^level",
     TextMalformed = 7: "the text does not fit the grammar of map texts",
-    OutputShort = 8: "the output is shorter than the list or page",
+    OutputShort = 8: "the output is shorter than the list or page, or a shelf's list than n places",
     InputLong = 9: "the input is longer than 4,099 bytes: the program plate only, none of the calls",
 }
 
@@ -55,12 +62,17 @@ impl fmt::Display for Refusal {
 
 impl Error for Refusal {}
 
-/// What a code says: 0 that the call did its work, any other the refusal of that number. (The eight calls return no
-/// further codes.)
+/// What a code says: 0 that the call did its work, any other the refusal of that number. (Further codes of the ten
+/// calls are 100 of Advance and 102 to 106 of Compare, and no others.)
 pub(crate) fn did(code: u32) -> Result<(), Refusal> {
     if code == 0 {
         return Ok(());
     }
-    let refusal = ALL.iter().find(|refusal| refusal.number() == code);
-    Err(*refusal.expect("a code is 0, 100 or the number of a refusal"))
+    Err(refused(code))
+}
+
+/// The refusal of a number.
+pub(crate) fn refused(number: u32) -> Refusal {
+    let refusal = ALL.iter().find(|refusal| refusal.number() == number);
+    *refusal.expect("a code that is no answer is the number of a refusal")
 }

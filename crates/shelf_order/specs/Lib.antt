@@ -1,0 +1,4 @@
+pub mod Differences
+pub mod Order
+pub mod Insertion
+pub mod Sorted
