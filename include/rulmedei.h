@@ -1,13 +1,13 @@
 /*
- * Rulmedei: grey maps to ordered lists of holes. The ten calls for C, and the renewal of sums by itself.
+ * Rulmedei: grey maps to ordered lists of holes. The twelve calls for C, and the renewal of sums by itself.
  *
  * `rt staticlib rulmedei` writes target/staticlib/librulmedei.a, for x86-64 Linux. It needs the C library and nothing
  * else.
  *
  * What a caller must ensure. The proofs assume it, and nothing tests it at run time:
  *
- * - Every pointer is valid for its length: for that many elements of its type, or for one where no length follows it.
- *   It is aligned for its type, and it is not null, even where the length is 0.
+ * - Every pointer is valid for its length: for that many elements of its type, or for one where no length follows it,
+ *   and for eight if it is `kept`. It is aligned for its type, and it is not null, even where the length is 0.
  * - Every element lent is initialised, also one that is only written.
  * - No part that a call may write (a pointer without const) overlaps another part of the same call, written or read.
  * - During a call nothing else writes what is lent, and nothing else reads a part that the call may write.
@@ -32,9 +32,9 @@ extern "C" {
 /*
  * What a call returns: RULMEDEI_DONE, for rulmedei_advance also RULMEDEI_MORE, or the number of a refusal; for
  * rulmedei_compare in place of RULMEDEI_DONE one of the five from RULMEDEI_BEFORE to RULMEDEI_AFTER. A refused call
- * leaves pyramid, serials, order, greys, out and list as they were. Of several refusals the one with the lowest number
- * is told; rulmedei_map_text has an order of its own. rulmedei_renew, which is none of the ten calls, has no refusal
- * numbers: it returns RULMEDEI_DONE or RULMEDEI_NOT_RENEWED.
+ * leaves pyramid, serials, order, greys, out, list and kept as they were. Of several refusals the one with the lowest
+ * number is told; rulmedei_map_text has an order of its own. rulmedei_renew, which is none of the twelve calls, has no
+ * refusal numbers: it returns RULMEDEI_DONE or RULMEDEI_NOT_RENEWED.
  */
 #define RULMEDEI_DONE 0
 #define RULMEDEI_MORE 100         /* rulmedei_advance: further holes are due */
@@ -53,6 +53,7 @@ extern "C" {
 #define RULMEDEI_TEXT_MALFORMED 7 /* the text does not fit the grammar of map texts */
 #define RULMEDEI_OUTPUT_SHORT 8   /* the output is shorter than the list or page, or a shelf's list than n places */
 #define RULMEDEI_INPUT_LONG 9     /* the input is longer than 4,099 bytes: the program plate only, none of the calls */
+#define RULMEDEI_NAME_UNKNOWN 10  /* the name is none of 1 to 8; for a return also: empty, or past the map's total */
 
 /*
  * The lengths that a map of side N needs, in elements: N * N for greys, serials and order, and (4 * N * N - 1) / 3 for
@@ -206,8 +207,42 @@ uint32_t rulmedei_shelf(uint32_t side,
                         uint32_t *list, size_t list_length);
 
 /*
- * The renewal by itself. It is none of the ten calls: rulmedei_advance renews in this way after each hole, and here it
- * can be had alone.
+ * Keep: writes down under a name, 1 to 8, how many holes the record (side, dots) has. The counts of the eight names
+ * stand in kept, which the caller holds beside the sheet: at place i is that of name i + 1, 0 while the name is empty,
+ * and else 1 more than its holes, which may be 0. At first all eight places are 0. Only the name's place becomes
+ * another, whatever was there. No sheet is looked at: dots may be any number, and so may each place of kept.
+ * Refusals: 1, 10.
+ */
+uint32_t rulmedei_keep(uint32_t side,
+                       uint32_t dots,
+                       uint64_t kept[8],
+                       uint32_t name);
+
+/*
+ * Restore, the return to a name: makes pyramid, serials and order what Load makes of the greys, and then Advance with
+ * the name's count of holes as its budget. These holes are written to after; the side stays. A refused call writes
+ * `dots`.
+ *
+ * With the greys that were loaded this is the sheet on which the name was kept, if only Advance, and Restore with these
+ * greys, have written to it since the load. The counts all stay, so that one can go back, and to a later stage forwards
+ * again. Other greys will do as well: the sheet is then theirs.
+ *
+ * Refusals: 1, 2, 3, 4, 5 (though the sheet is then made anew), 10 (no name from 1 to 8, an empty one, or more holes
+ * than the map's total, (2 * G + 255) / 510 rounded down, where G is the sum of the N * N greys).
+ */
+uint32_t rulmedei_restore(uint32_t side,
+                          uint32_t dots,
+                          const uint64_t kept[8],
+                          uint32_t name,
+                          const uint8_t *greys, size_t greys_length,
+                          int64_t *pyramid, size_t pyramid_length,
+                          uint32_t *serials, size_t serials_length,
+                          uint32_t *order, size_t order_length,
+                          uint32_t *after);
+
+/*
+ * The renewal by itself. It is none of the twelve calls: rulmedei_advance renews in this way after each hole, and here
+ * it can be had alone.
  */
 
 /*

@@ -27,6 +27,9 @@ static uint32_t (*const sample)(uint32_t, uint32_t, uint8_t *, size_t, uint32_t 
 static uint32_t (*const compare)(uint32_t, const uint32_t *, size_t, const uint32_t *, size_t, uint32_t *,
                                  uint32_t *) = rulmedei_compare;
 static uint32_t (*const shelf)(uint32_t, uint32_t, const uint32_t *, size_t, uint32_t *, size_t) = rulmedei_shelf;
+static uint32_t (*const keep_name)(uint32_t, uint32_t, uint64_t *, uint32_t) = rulmedei_keep;
+static uint32_t (*const restore)(uint32_t, uint32_t, const uint64_t *, uint32_t, const uint8_t *, size_t, int64_t *,
+                                 size_t, uint32_t *, size_t, uint32_t *, size_t, uint32_t *) = rulmedei_restore;
 static uint32_t (*const renew)(uint32_t, uint32_t, uint32_t, int64_t *, size_t) = rulmedei_renew;
 
 static unsigned long checks, failures;
@@ -212,6 +215,15 @@ static uint32_t page_map(struct map *m, uint32_t side, uint32_t level, struct pa
                       m->serials.count - less.serials, level, out->places, room, &length);
 }
 
+static uint32_t restore_map(struct map *m, uint32_t side, uint32_t dots, struct part *value, uint32_t name,
+                            struct less less)
+{
+    first = 77;
+    return restore(side, dots, value->places, name, m->greys.places, m->greys.count - less.greys, m->pyramid.places,
+                   m->pyramid.count - less.pyramid, m->serials.places, m->serials.count - less.serials,
+                   m->order.places, m->order.count - less.order, &first);
+}
+
 /* The macros. */
 
 static void test_numbers(void)
@@ -233,9 +245,10 @@ static void test_numbers(void)
     CHECK(RULMEDEI_TEXT_MALFORMED == 7);
     CHECK(RULMEDEI_OUTPUT_SHORT == 8);
     CHECK(RULMEDEI_INPUT_LONG == 9);
+    CHECK(RULMEDEI_NAME_UNKNOWN == 10);
 }
 
-enum { SIDES = 8, LEVELS = 9 };
+enum { SIDES = 8, LEVELS = 9, NAMES = 8 };
 
 static const uint32_t sides[SIDES] = {2, 4, 8, 16, 32, 64, 128, 256};
 
@@ -632,6 +645,103 @@ static void test_shelf(struct map *m)
     give_back(&list);
 }
 
+static struct part no_names(void)
+{
+    struct part value = part_of(NAMES, sizeof(uint64_t));
+    memset(value.places, 0, NAMES * sizeof(uint64_t));
+    return value;
+}
+
+static void refused_keeps(uint32_t side, struct part *value)
+{
+    const struct {
+        uint32_t side, name, number;
+    } asked[] = {
+        {side + 1, 1, RULMEDEI_SIDE_UNKNOWN},
+        {side + 1, 0, RULMEDEI_SIDE_UNKNOWN},
+        {side, 0, RULMEDEI_NAME_UNKNOWN},
+        {side, 9, RULMEDEI_NAME_UNKNOWN},
+        {side, UINT32_MAX, RULMEDEI_NAME_UNKNOWN},
+    };
+    keep(value);
+    for (size_t at = 0; at < sizeof asked / sizeof asked[0]; at++)
+        CHECK(keep_name(asked[at].side, 3, value->places, asked[at].name) == asked[at].number && as_kept(value));
+}
+
+/* Name 1 has no hole, name 8 has all of them, name 2 has one more; name 4 is empty. */
+static void refused_restores(struct map *m, struct part *value)
+{
+    const struct {
+        uint32_t side, dots, name;
+        struct less less;
+        uint32_t number;
+    } asked[] = {
+        {m->side + 1, m->dots, 1, whole, RULMEDEI_SIDE_UNKNOWN},
+        {m->side + 1, m->dots, 9, less_greys, RULMEDEI_SIDE_UNKNOWN},
+        {m->side, m->dots, 1, less_greys, RULMEDEI_GREYS_SHORT},
+        {m->side, m->dots - 1, 9, less_greys, RULMEDEI_GREYS_SHORT},
+        {m->side, m->dots, 1, less_pyramid, RULMEDEI_PYRAMID_SHORT},
+        {m->side, m->dots - 1, 0, less_pyramid, RULMEDEI_PYRAMID_SHORT},
+        {m->side, m->dots, 1, less_serials, RULMEDEI_SHEET_SHORT},
+        {m->side, m->dots - 1, 4, less_serials, RULMEDEI_SHEET_SHORT},
+        {m->side, m->dots, 1, less_order, RULMEDEI_SHEET_SHORT},
+        {m->side, m->dots - 1, 2, less_order, RULMEDEI_SHEET_SHORT},
+        {m->side, m->dots - 1, 1, whole, RULMEDEI_SHEET_UNSOUND},
+        {m->side, m->dots - 1, 9, whole, RULMEDEI_SHEET_UNSOUND},
+        {m->side, m->dots, 0, whole, RULMEDEI_NAME_UNKNOWN},
+        {m->side, m->dots, 9, whole, RULMEDEI_NAME_UNKNOWN},
+        {m->side, m->dots, UINT32_MAX, whole, RULMEDEI_NAME_UNKNOWN},
+        {m->side, m->dots, 4, whole, RULMEDEI_NAME_UNKNOWN},
+        {m->side, m->dots, 2, whole, RULMEDEI_NAME_UNKNOWN},
+    };
+    keep_map(m);
+    keep(value);
+    for (size_t at = 0; at < sizeof asked / sizeof asked[0]; at++) {
+        CHECK(restore_map(m, asked[at].side, asked[at].dots, value, asked[at].name, asked[at].less)
+              == asked[at].number);
+        CHECK(first == asked[at].dots && as_kept(value) && map_as_kept(m));
+    }
+}
+
+/* Whether the sheet is the one that Load and Advance make of the same greys. */
+static int is_stage(const struct map *m, uint32_t dots)
+{
+    struct map anew = map_of(m->side);
+    int same;
+    memcpy(anew.greys.places, m->greys.places, m->greys.count);
+    CHECK(load_map(&anew, m->side, whole) == RULMEDEI_DONE);
+    CHECK(advance_map(&anew, m->side, 0, dots, whole) == RULMEDEI_MORE && first == dots);
+    same = memcmp(anew.pyramid.places, m->pyramid.places, m->pyramid.count * sizeof(int64_t)) == 0
+           && memcmp(anew.serials.places, m->serials.places, m->serials.count * sizeof(uint32_t)) == 0
+           && memcmp(anew.order.places, m->order.places, m->order.count * sizeof(uint32_t)) == 0;
+    give_back_map(&anew);
+    return same;
+}
+
+/* The finished map taken back to no hole, then forwards to one hole, then to its end. */
+static void test_stages(struct map *m)
+{
+    const uint64_t expected[NAMES] = {1, m->dots + 2, (uint64_t)1 << 32, 0, 2, 0, 0, m->dots + 1};
+    struct part value = no_names();
+    uint64_t *kept = value.places;
+    CHECK(keep_name(m->side, 0, kept, 1) == RULMEDEI_DONE);
+    CHECK(keep_name(m->side, m->dots + 1, kept, 2) == RULMEDEI_DONE);
+    CHECK(keep_name(m->side, UINT32_MAX, kept, 3) == RULMEDEI_DONE);
+    CHECK(keep_name(m->side, 7, kept, 5) == RULMEDEI_DONE);
+    CHECK(keep_name(m->side, 1, kept, 5) == RULMEDEI_DONE);
+    CHECK(keep_name(m->side, m->dots, kept, 8) == RULMEDEI_DONE);
+    CHECK(memcmp(kept, expected, sizeof expected) == 0);
+    refused_keeps(m->side, &value);
+    refused_restores(m, &value);
+    CHECK(restore_map(m, m->side, m->dots, &value, 1, whole) == RULMEDEI_DONE);
+    CHECK(first == 0 && is_stage(m, 0));
+    CHECK(restore_map(m, m->side, 0, &value, 5, whole) == RULMEDEI_DONE);
+    CHECK(first == 1 && is_stage(m, 1));
+    CHECK(restore_map(m, m->side, 1, &value, 8, whole) == RULMEDEI_DONE);
+    CHECK(first == m->dots && map_as_kept(m) && as_kept(&value));
+    give_back(&value);
+}
+
 static void not_renewed(struct map *m, uint32_t side, uint32_t row, uint32_t column, size_t less)
 {
     CHECK(renew(side, row, column, m->pyramid.places, m->pyramid.count - less) == RULMEDEI_NOT_RENEWED);
@@ -680,6 +790,7 @@ static void test_side(uint32_t side, uint32_t dots)
     test_page(&m, m.power);
     test_compare(&m);
     test_shelf(&m);
+    test_stages(&m);
     test_renew(&m);
     test_white(&m);
     give_back_map(&m);
@@ -779,6 +890,34 @@ static void test_small_plates(void)
     give_back(&list);
 }
 
+/* Document 01's map taken back to its first hole; then, with greys of 0, refused to one hole and taken to none. */
+
+static void test_small_stages(void)
+{
+    static const int64_t one_hole[5] = {65792, 0, 19764, 19763, 26265}, no_hole[5] = {0, 0, 0, 0, 0};
+    static const uint32_t serials[4] = {1, 0, 0, 0};
+    struct map m = map_of(2);
+    struct part value = no_names();
+    uint64_t *kept = value.places;
+    memset(m.greys.places, 128, 4);
+    CHECK(load_map(&m, 2, whole) == RULMEDEI_DONE && advance_map(&m, 2, 0, 1, whole) == RULMEDEI_MORE);
+    CHECK(keep_name(2, 1, kept, 6) == RULMEDEI_DONE && kept[5] == 2);
+    CHECK(advance_map(&m, 2, 1, 9, whole) == RULMEDEI_DONE && first == 2);
+    CHECK(restore_map(&m, 2, 2, &value, 6, whole) == RULMEDEI_DONE && first == 1);
+    CHECK(memcmp(m.pyramid.places, one_hole, sizeof one_hole) == 0);
+    CHECK(memcmp(m.serials.places, serials, sizeof serials) == 0);
+    CHECK(all_are(m.order.places, 4 * sizeof(uint32_t), 0));
+    memset(m.greys.places, 0, 4);
+    CHECK(restore_map(&m, 2, 1, &value, 6, whole) == RULMEDEI_NAME_UNKNOWN && first == 1);
+    CHECK(memcmp(m.pyramid.places, one_hole, sizeof one_hole) == 0);
+    kept[5] = 1;
+    CHECK(restore_map(&m, 2, 1, &value, 6, whole) == RULMEDEI_DONE && first == 0);
+    CHECK(memcmp(m.pyramid.places, no_hole, sizeof no_hole) == 0);
+    CHECK(all_are(m.serials.places, 4 * sizeof(uint32_t), 0));
+    give_back_map(&m);
+    give_back(&value);
+}
+
 int main(int count, char **words)
 {
     /* the holes of the sample of seed 1, from vectors/runs.csv */
@@ -791,6 +930,7 @@ int main(int count, char **words)
     test_p3();
     test_small_answers();
     test_small_plates();
+    test_small_stages();
     for (int at = 0; at < SIDES; at++)
         test_side(sides[at], dots[at]);
     printf("include/test.c: %lu checks, %lu do not hold, %u guard bytes\n", checks, failures, (unsigned)guard);

@@ -28,6 +28,8 @@ pub enum Refusal {
     ShortOutput,
     /// "input longer than 4,099 bytes"
     LongInput,
+    /// none of document 02's eight names; on a return also one without a count, or with more dots than the map's total
+    UnknownName,
 }
 
 impl Refusal {
@@ -43,6 +45,7 @@ impl Refusal {
             Refusal::BadText => 7,
             Refusal::ShortOutput => 8,
             Refusal::LongInput => 9,
+            Refusal::UnknownName => 10,
         }
     }
 }
@@ -86,4 +89,19 @@ impl Compared {
     pub fn is_before(self) -> bool {
         matches!(self, Compared::Before | Compared::BeforeAt(..))
     }
+}
+
+/// The eight counts of dots that stand beside a sheet, place i for name i + 1: 0 while the name is empty, else one more
+/// than the dots kept, so that no dots can be kept too. All are empty at first.
+#[derive(Debug, Clone, Copy, PartialEq, Eq, Default)]
+pub struct Checkpoints {
+    pub kept: [u64; 8],
+}
+
+/// What Keep and Restore answer: the record and the counts afterwards, both as given where the call says no.
+#[derive(Debug, Clone, Copy, PartialEq, Eq)]
+pub struct CheckpointAnswer {
+    pub progress: Progress,
+    pub checkpoints: Checkpoints,
+    pub status: Result<(), Refusal>,
 }

@@ -33,8 +33,14 @@ pub fn load(side: u32, greys: &[u8], pyramid: &mut [i64], serials: &mut [u32], o
     }
 }
 
-/// The refusals of Load: 1, 2, 3, 4.
-fn check_load(side: u32, greys: &[u8], pyramid: &[i64], serials: &[u32], order: &[u32]) -> Result<u32, Refusal> {
+/// The refusals of Load, and the first ones of Restore: 1, 2, 3, 4.
+pub(crate) fn check_load(
+    side: u32,
+    greys: &[u8],
+    pyramid: &[i64],
+    serials: &[u32],
+    order: &[u32],
+) -> Result<u32, Refusal> {
     let power = power(side)?;
     if greys.len() < cell_count(side) {
         return Err(Refusal::ShortGreys);

@@ -3,12 +3,14 @@
 //!
 //! Names that differ from document 01's words: a dot is its hole and to place a dot is to burn; a residual is its
 //! debt; to diffuse is to spread; a block is an aligned square; serials and order are the serial sheet and the order
-//! list; Progress is the record. Words in quotation marks are sentences of document 01, or of document 02 where a
-//! module says so.
+//! list; Progress is the record; Checkpoints are the counts that document 02 keeps under names, and Restore is its
+//! return to one of them. Words in quotation marks are sentences of document 01, or of document 02 where a module says
+//! so.
 
 mod answers;
 mod calls;
 mod case_text;
+mod checkpoints;
 mod diffusion;
 mod drill_list;
 mod map_text;
@@ -26,14 +28,16 @@ mod shape;
 mod shelf;
 mod shelf_cases;
 mod sound;
+mod stage_cases;
 mod survey_cases;
 mod text_cases;
 
 pub mod maps;
 pub mod stored;
 
-pub use answers::{AdvanceAnswer, Compared, Ended, LoadAnswer, Progress, Refusal};
+pub use answers::{AdvanceAnswer, CheckpointAnswer, Checkpoints, Compared, Ended, LoadAnswer, Progress, Refusal};
 pub use calls::{advance, load};
+pub use checkpoints::{keep, restore};
 pub use diffusion::{descend, dots_due, place, shares};
 pub use drill_list::drill_list;
 pub use map_text::{map_text, write_map_text};

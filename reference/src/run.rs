@@ -1,7 +1,8 @@
 //! Buffers of the needed lengths, and a map run to its end on them.
 
-use crate::answers::{AdvanceAnswer, LoadAnswer, Progress, Refusal};
+use crate::answers::{AdvanceAnswer, CheckpointAnswer, Checkpoints, LoadAnswer, Progress, Refusal};
 use crate::calls::{advance, load};
+use crate::checkpoints::restore;
 use crate::drill_list::{drill_list, list_room};
 use crate::shape::{cell_count, power, pyramid_length};
 use crate::sound::sound;
@@ -33,6 +34,17 @@ impl Buffers {
     /// Advance on these buffers.
     pub fn advance(&mut self, progress: Progress, budget: u32) -> AdvanceAnswer {
         advance(progress, budget, &mut self.pyramid, &mut self.serials, &mut self.order)
+    }
+
+    /// Restore on these buffers.
+    pub fn restore(
+        &mut self,
+        progress: Progress,
+        checkpoints: Checkpoints,
+        name: u32,
+        greys: &[u8],
+    ) -> CheckpointAnswer {
+        restore(progress, checkpoints, name, greys, &mut self.pyramid, &mut self.serials, &mut self.order)
     }
 
     /// Drill List on these buffers.

@@ -1,10 +1,11 @@
 //! The cases of the program crate `run_cases`: its standard input, and what it ought to write.
 
-use crate::answers::{AdvanceAnswer, Ended, Progress, Refusal};
-use crate::calls::{advance, load};
-use crate::case_text::{self, fields, line, refusal, InputAndOutput, BEFORE};
+use crate::answers::Refusal;
+use crate::calls::advance;
+use crate::case_text::{self, buffers_before, fields, first_places, line, places, record, refusal};
+use crate::case_text::{InputAndOutput, WHOLE};
 use crate::maps::generated;
-use crate::shape::{cell_count, power, pyramid_length, SIDES};
+use crate::shape::{cell_count, pyramid_length, SIDES};
 
 /// One case: a side, its greys (listed, or of the generator from a seed above 0), the places that each buffer has
 /// past its needed length, and the calls of Advance.
@@ -25,9 +26,6 @@ struct Call {
     place: usize,
     amount: i64,
 }
-
-/// Longer than any buffer: the whole of it is lent.
-const WHOLE: [usize; 3] = [99_999; 3];
 
 /// Standard input and standard output.
 pub fn input_and_output() -> Result<InputAndOutput, Refusal> {
@@ -138,51 +136,17 @@ fn written_call(call: &Call) -> String {
 /// What the calls answer, and the three buffers after the last.
 fn answers(case: &Case) -> String {
     let side = case.side.min(256);
-    let cells = cell_count(side);
-    let length = power(side).map_or(1, pyramid_length);
-    let greys = if case.seed == 0 { case.greys.clone() } else { generated(case.seed, cells) };
-    let mut pyramid = vec![BEFORE.0; length + case.spare];
-    let mut serials = vec![BEFORE.1; cells + case.spare];
-    let mut order = vec![BEFORE.1; cells + case.spare];
-    let loaded = load(case.side, &greys, &mut pyramid, &mut serials, &mut order);
+    let greys = if case.seed == 0 { case.greys.clone() } else { generated(case.seed, cell_count(side)) };
+    let mut buffers = buffers_before(side, case.spare);
+    let loaded = buffers.load(case.side, &greys);
     let mut progress = loaded.progress;
     let mut text = format!("load{}{}\n", record(progress), refusal(loaded.status.err()));
     for call in &case.calls {
-        let budget = call.budget;
-        pyramid[call.place] += call.amount;
-        let lent = [pyramid.len().min(call.lent[0]), serials.len().min(call.lent[1]), order.len().min(call.lent[2])];
-        let answer = advance(progress, budget, &mut pyramid[..lent[0]], &mut serials[..lent[1]], &mut order[..lent[2]]);
+        buffers.pyramid[call.place] += call.amount;
+        let (pyramid, serials, order) = first_places(&mut buffers, call.lent);
+        let answer = advance(progress, call.budget, pyramid, serials, order);
         progress = answer.progress;
-        text.push_str(&format!("call,{budget}{},{}{}\n", record(progress), answer.made, said(answer)));
+        text.push_str(&case_text::call(call.budget, answer));
     }
-    if case.side <= 8 {
-        text.push_str(&format!("pyramid{}\nserials{}\norder{}\n", fields(&pyramid), fields(&serials), fields(&order)));
-    } else {
-        let serials: Vec<i64> = serials.into_iter().map(i64::from).collect();
-        let order: Vec<i64> = order.into_iter().map(i64::from).collect();
-        text.push_str(&format!(
-            "pyramid,{}\nserials,{}\norder,{}\n",
-            checksum(&pyramid),
-            checksum(&serials),
-            checksum(&order)
-        ));
-    }
-    text
-}
-
-fn record(progress: Progress) -> String {
-    format!(",{},{}", progress.side, progress.dots)
-}
-
-fn said(answer: AdvanceAnswer) -> String {
-    match answer.status {
-        Ok(Ended::Finished) => ",finished".to_string(),
-        Ok(Ended::More) => ",more".to_string(),
-        Err(why) => refusal(Some(why)),
-    }
-}
-
-/// A checksum over numbers, modulo 2^32.
-fn checksum(numbers: &[i64]) -> u32 {
-    numbers.iter().fold(1u32, |sum, number| sum.wrapping_mul(16_777_619).wrapping_add(*number as u32))
+    text + &places(side, &buffers)
 }

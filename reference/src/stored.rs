@@ -15,6 +15,7 @@ use crate::sample::sample_text;
 use crate::samples::{samples, SIDE};
 use crate::shape::SIDES;
 use crate::shelf_cases;
+use crate::stage_cases;
 use crate::survey_cases;
 use crate::text_cases;
 
@@ -29,6 +30,7 @@ pub fn files() -> Result<Vec<(String, Vec<u8>)>, Refusal> {
     files.push((expected, expected_values()?.into_bytes()));
     files.extend(program_files("survey_cases", survey_cases::input_and_output()?));
     files.extend(program_files("run_cases", run_cases::input_and_output()?));
+    files.extend(program_files("stage_cases", stage_cases::input_and_output()?));
     files.extend(program_files("text_cases", text_cases::input_and_output()?));
     files.extend(program_files("shelf_cases", shelf_cases::input_and_output()?));
     files.extend(sample_files());

@@ -1,5 +1,7 @@
-//! What document 01 promises of every run, tried on small pseudo-random maps; and what document 02 promises of every
-//! page, tried on these and on the named maps.
+//! What document 01 promises of every run, tried on small pseudo-random maps; and what document 02 promises of lists of
+//! calls with names, tried on these, and of every page, tried on these and on the named maps.
+
+use std::cmp::Ordering;
 
 use reference::*;
 
@@ -161,6 +163,105 @@ fn lists_of_calls() {
         assert_eq!(whole.advance(start, u32::MAX).progress, last.progress);
         assert_eq!(whole, buffers);
     });
+}
+
+/// A map under way, with a copy of the sheet for each name, taken when the name was last kept.
+struct Named {
+    greys: Vec<u8>,
+    buffers: Buffers,
+    progress: Progress,
+    checkpoints: Checkpoints,
+    copies: [Option<(Buffers, Progress)>; 8],
+}
+
+impl Named {
+    /// One of three names, or now and then another or a number that is none; and what was kept under it.
+    fn name(&self, dice: &mut Dice) -> (u32, Option<(Buffers, Progress)>) {
+        let name = if dice.below(4) == 0 { dice.below(10) } else { [1, 5, 8][dice.below(3) as usize] };
+        (name, name.checked_sub(1).and_then(|place| self.copies.get(place as usize)?.clone()))
+    }
+
+    fn keep(&mut self, dice: &mut Dice) {
+        let (name, _) = self.name(dice);
+        let answer = keep(self.progress, self.checkpoints, name);
+        assert_eq!(answer.progress, self.progress);
+        if (1..=8).contains(&name) {
+            assert_eq!(answer.status, Ok(()));
+            self.copies[name as usize - 1] = Some((self.buffers.clone(), self.progress));
+        } else {
+            assert_eq!((answer.status, answer.checkpoints), (Err(Refusal::UnknownName), self.checkpoints));
+        }
+        self.checkpoints = answer.checkpoints;
+    }
+
+    /// A return with random lengths lent: the copy comes back, or the refusal that is due, and then nothing changes.
+    /// Notes of a return that was done how the dots before it stood to those of the name.
+    fn restore(&mut self, dice: &mut Dice, returns: &mut Vec<Ordering>) {
+        let (name, copy) = self.name(dice);
+        let (cells, length) = (self.greys.len(), self.buffers.pyramid.len());
+        let (greys, pyramid) = (dice.lent(cells), dice.lent(length));
+        let (serials, order) = (dice.lent(cells), dice.lent(cells));
+        let before = (self.buffers.clone(), self.progress);
+        let answer = restore(
+            self.progress,
+            self.checkpoints,
+            name,
+            &self.greys[..greys],
+            &mut self.buffers.pyramid[..pyramid],
+            &mut self.buffers.serials[..serials],
+            &mut self.buffers.order[..order],
+        );
+        let expected = match copy {
+            _ if greys < cells => Err(Refusal::ShortGreys),
+            _ if pyramid < length => Err(Refusal::ShortPyramid),
+            _ if serials < cells || order < cells => Err(Refusal::ShortSheet),
+            None => Err(Refusal::UnknownName),
+            Some(copy) => Ok(copy),
+        };
+        let (buffers, progress) = match expected {
+            Err(refusal) => {
+                assert_eq!(answer.status, Err(refusal));
+                before
+            }
+            Ok(copy) => {
+                assert_eq!(answer.status, Ok(()));
+                returns.push(self.progress.dots.cmp(&copy.1.dots));
+                copy
+            }
+        };
+        assert_eq!((answer.checkpoints, answer.progress), (self.checkpoints, progress));
+        assert_eq!(self.buffers, buffers);
+        self.progress = progress;
+    }
+}
+
+/// Every list of Advance, Keep and Restore on one loaded map: a return leaves the whole sheet as it was when the name
+/// was last kept.
+#[test]
+fn lists_of_calls_with_names() {
+    let mut returns = Vec::new();
+    for_every_map(6, |dice, side, greys| {
+        let (buffers, progress) = fresh(side, greys);
+        let mut named = Named {
+            greys: greys.to_vec(),
+            buffers,
+            progress,
+            checkpoints: Checkpoints::default(),
+            copies: [const { None }; 8],
+        };
+        for _ in 0..dice.below(80) {
+            match dice.below(4) {
+                0 => named.keep(dice),
+                1 => named.progress = named.buffers.advance(named.progress, dice.below(side + 2)).progress,
+                _ => named.restore(dice, &mut returns),
+            }
+            check_state(greys, named.progress, &named.buffers);
+        }
+    });
+    for way in [Ordering::Less, Ordering::Equal, Ordering::Greater] {
+        let count = returns.iter().filter(|one| **one == way).count();
+        assert!(count > 700, "{count} returns from {way:?} dots");
+    }
 }
 
 #[test]

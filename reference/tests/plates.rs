@@ -1,5 +1,5 @@
-//! "Plates to check by hand": P1 to P12 of document 01, with its own figures; and quote pages worked by hand from
-//! document 02.
+//! "Plates to check by hand": P1 to P12 of document 01, with its own figures; and stages and quote pages worked by hand
+//! from document 02.
 
 use reference::*;
 
@@ -149,6 +149,35 @@ fn p12_wrong_top() {
     assert_eq!(status.map_err(Refusal::number), Err(5));
     let list = buffers.drill_list(progress, &mut [0; 100]);
     assert_eq!(list.map_err(Refusal::number), Err(5));
+}
+
+/// Document 02, request 7: P3 kept before its first hole, after it and at its end, and each stage returned to, from a
+/// later one and from an earlier one.
+#[test]
+fn stages_of_p3() {
+    let (mut buffers, start) = loaded(2, &P3_GREYS);
+    let mut checkpoints = keep(start, Checkpoints::default(), 1).checkpoints;
+    let first = buffers.advance(start, 1).progress;
+    checkpoints = keep(first, checkpoints, 8).checkpoints;
+    let second = buffers.advance(first, 1).progress;
+    checkpoints = keep(second, checkpoints, 4).checkpoints;
+    assert_eq!(checkpoints.kept, [1, 0, 0, 3, 0, 0, 0, 2]);
+
+    let stages = [
+        (1, 0, [131_072, 32_768, 32_768, 32_768, 32_768], [0, 0, 0, 0], [0, 0, 0, 0]),
+        (8, 1, [65_792, 0, 19_764, 19_763, 26_265], [1, 0, 0, 0], [0, 0, 0, 0]),
+        (4, 2, [512, -7_803, 4_158, 4_157, 0], [1, 0, 0, 2], [0, 3, 0, 0]),
+    ];
+    let mut progress = second;
+    for stage in [0, 1, 2, 1, 0, 2, 0, 0] {
+        let (name, dots, pyramid, serials, order) = stages[stage];
+        let answer = buffers.restore(progress, checkpoints, name, &P3_GREYS);
+        progress = Progress { side: 2, dots };
+        assert_eq!(answer, CheckpointAnswer { progress, checkpoints, status: Ok(()) });
+        assert_eq!(buffers.pyramid, pyramid);
+        assert_eq!(buffers.serials, serials);
+        assert_eq!(buffers.order, order);
+    }
 }
 
 #[test]

@@ -523,6 +523,149 @@ fn shelf_refuses_more_plates_than_there_can_be() {
     assert_eq!(shelf_number(256, 65_536, 0, 65_536), 4);
 }
 
+/// The number of Keep. It gives the record back, and a refusal the value too.
+fn keep_number(side: u32, dots: u32, name: u32) -> u32 {
+    let (progress, checkpoints) = (Progress { side, dots }, Checkpoints { kept: [9, 0, 7, 1, u64::MAX, 5, 4, 3] });
+    let answer = keep(progress, checkpoints, name);
+    assert_eq!(answer.progress, progress);
+    assert_eq!(answer.checkpoints == checkpoints, answer.status.is_err());
+    answer.status.map_or_else(Refusal::number, |()| 0)
+}
+
+#[test]
+fn keep_refuses() {
+    for dots in [100, 65_537, u32::MAX] {
+        for side in SIDES {
+            for name in 1..=8 {
+                assert_eq!(keep_number(side, dots, name), 0);
+            }
+            for no_name in [0, 9, 1 << 31, u32::MAX] {
+                assert_eq!(keep_number(side, dots, no_name), 10);
+            }
+        }
+        // 1 comes before 10
+        for side in NO_SIDES {
+            for name in [0, 1, 8, 9, u32::MAX] {
+                assert_eq!(keep_number(side, dots, name), 1);
+            }
+        }
+    }
+}
+
+/// What is handed to Restore, besides the value: two dots are kept under name 5, and 65,537 under name 6.
+#[derive(Clone)]
+struct Return {
+    progress: Progress,
+    name: u32,
+    greys: Vec<u8>,
+    buffers: Buffers,
+    lent: [usize; 3],
+}
+
+impl Return {
+    /// A return to two dots from one dot, on buffers that are longer than needed.
+    fn new(side: u32) -> Return {
+        let (n, p) = needed(side);
+        let mut buffers = odd_buffers(p + 7, n + 7, n + 7);
+        let progress = buffers.load(side, &vec![128; n]).progress;
+        let progress = buffers.advance(progress, 1).progress;
+        Return { progress, name: 5, greys: vec![128; n + 7], buffers, lent: [p + 7, n + 7, n + 7] }
+    }
+
+    /// The number of the call. A refusal gives record and value back, and leaves every buffer as it was.
+    fn number(&self) -> u32 {
+        let checkpoints = Checkpoints { kept: [0, 0, 0, 0, 3, 65_538, 0, u64::MAX] };
+        let Buffers { mut pyramid, mut serials, mut order } = self.buffers.clone();
+        let (p, s, o) = (&mut pyramid[..self.lent[0]], &mut serials[..self.lent[1]], &mut order[..self.lent[2]]);
+        let answer = restore(self.progress, checkpoints, self.name, &self.greys, p, s, o);
+        assert_eq!(answer.checkpoints, checkpoints);
+        match answer.status {
+            Ok(()) => {
+                assert_eq!(answer.progress, Progress { side: self.progress.side, dots: 2 });
+                0
+            }
+            Err(refusal) => {
+                assert_eq!(answer.progress, self.progress);
+                assert_eq!(Buffers { pyramid, serials, order }, self.buffers);
+                refusal.number()
+            }
+        }
+    }
+}
+
+/// A change with which a check fails.
+type Failure = fn(&mut Return);
+
+/// The ways in which each check of Restore fails, by one where it can, with the number that is then told.
+const FAILURES: [(u32, Failure); 17] = [
+    (1, |asked| asked.progress.side += 1),
+    (1, |asked| asked.progress.side = 0),
+    (1, |asked| asked.progress.side = 512),
+    (2, |asked| asked.greys.truncate(cell_count(asked.progress.side) - 1)),
+    (2, |asked| asked.greys.clear()),
+    (3, |asked| asked.lent[0] = needed(asked.progress.side).1 - 1),
+    (3, |asked| asked.lent[0] = 0),
+    (4, |asked| asked.lent[1] = needed(asked.progress.side).0 - 1),
+    (4, |asked| asked.lent[2] = needed(asked.progress.side).0 - 1),
+    (4, |asked| asked.lent[1..].fill(0)),
+    (5, |asked| asked.progress.dots = 0),
+    (5, |asked| asked.buffers.pyramid[0] += 1),
+    (5, |asked| asked.buffers.order[3] = 1),
+    (10, |asked| asked.name = 0),
+    (10, |asked| asked.name = 9),
+    (10, |asked| asked.name = 7),
+    (10, |asked| asked.name = 6),
+];
+
+#[test]
+fn restore_refuses() {
+    for side in SIDES {
+        let asked = Return::new(side);
+        assert_eq!(asked.number(), 0);
+        let (n, p) = needed(side);
+        assert_eq!(Return { greys: vec![128; n], lent: [p, n, n], ..asked.clone() }.number(), 0);
+        for (number, fail) in FAILURES {
+            let mut asked = asked.clone();
+            fail(&mut asked);
+            assert_eq!(asked.number(), number);
+        }
+        for name in [8, 10, 255, 256 + 5, 1 << 31, u32::MAX] {
+            assert_eq!(Return { name, ..asked.clone() }.number(), 10);
+        }
+    }
+    for side in NO_SIDES {
+        let mut asked = Return::new(2);
+        asked.progress.side = side;
+        assert_eq!(asked.number(), 1);
+        asked.lent = [0; 3];
+        asked.greys.clear();
+        asked.name = 0;
+        assert_eq!(asked.number(), 1);
+    }
+}
+
+/// Checks 1, 2, 3, 4, 5 and 10: of any two that fail, in whichever way, the first is told; and of all that fail from
+/// one on.
+#[test]
+fn restore_refuses_in_order() {
+    for side in SIDES {
+        let whole = Return::new(side);
+        for (place, (number, fail)) in FAILURES.into_iter().enumerate() {
+            let mut all = whole.clone();
+            for (_, other) in FAILURES.into_iter().skip(place + 1).rev() {
+                let mut two = whole.clone();
+                // a later check fails first, so that it goes by the true side
+                other(&mut two);
+                fail(&mut two);
+                assert_eq!(two.number(), number);
+                other(&mut all);
+            }
+            fail(&mut all);
+            assert_eq!(all.number(), number);
+        }
+    }
+}
+
 /// The number of Map Text for a greys buffer of this length, which a refusal leaves as it was.
 fn text_number(text: &[u8], length: usize) -> u32 {
     let mut greys = vec![99; length];
@@ -691,5 +834,12 @@ fn any_lengths_and_any_content() {
         let mut list = [9; 5];
         let sorted = shelf(progress.side, numbers[pick(13)], &before.serials, &mut list);
         assert!(sorted.is_ok() || list == [9; 5]);
+        let checkpoints = Checkpoints { kept: [(); 8].map(|()| numbers[pick(13)].into()) };
+        let answer = keep(progress, checkpoints, pick(10) as u32);
+        assert!(answer.status.is_ok() || answer.checkpoints == checkpoints);
+        let mut after = before.clone();
+        let answer = after.restore(progress, checkpoints, pick(10) as u32, &[255; 64]);
+        assert!(answer.status.is_ok() || (after == before && answer.progress == progress));
+        assert_eq!(answer.checkpoints, checkpoints);
     }
 }

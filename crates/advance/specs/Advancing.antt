@@ -33,7 +33,7 @@ use Rattle.checks.specs.Checks.{checked, passed-none, failed-number}
 use Rattle.checks.specs.declared.Check.{Check}
 use Rattle.checks.specs.declared.Check.the-variants.{Passed, Failed}
 use Rattle.sheet.specs.Sheets.{SheetAsked, sheet-asked}
-use Rattle.advance.specs.Running.{RunAsked, Ran}
+use Rattle.dot_run.specs.Running.{RunAsked, Ran}
 
 -- ---- the sheet's parts lent; n and c are what the code has worked out for the needed length and the number of cells
 module _ {r dots : ℕ} (p : List ℤ) (s o : List ℕ) (h : SheetAsked r dots p s o) {n c : ℕ} (en : n ≡ needed r) (ec : c ≡ cellCount r) where

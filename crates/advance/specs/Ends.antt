@@ -1,34 +1,21 @@
--- The test of the top, made on a word.
+-- What Advance says, from the test of the top on a word.
 use mathlib.Core.Path.{_≡_}
 use mathlib.Core.Bool.{true, false}
 use lib.IntN.{ℤ, pos}
-use lib.Signed.{_≤ℤ_, _<ℤ_, ltZ}
+use lib.Signed.{ltZ}
 use mir.Syntax.{w64}
 use mir.Val.{SFits, toZ, ofZ}
-use mir.Facts.{toZ-ofZ}
 use Rattle.definition.specs.Answers.{advanceSays}
 use Rattle.definition.specs.Pyramid.{halfDot}
 use Rattle.definition.specs.Advance.{saidAt}
 use Rattle.definition.specs.declared.AdvanceStatus.the-variants.{Finished, More}
-use Rattle.integers.specs.Linear.{ints}
+use Rattle.dot_run.specs.Tops.{low, high}
 
 module _ (top : ℤ) (f : SFits w64 top) where
-  low : ltZ (toZ w64 (ofZ w64 top)) (pos halfDot) ≡ true → ltZ top (pos halfDot) ≡ true
-  low e = rw (toZ-ofZ f) at e
-
-  high : ltZ (toZ w64 (ofZ w64 top)) (pos halfDot) ≡ false → ltZ top (pos halfDot) ≡ false
-  high e = rw (toZ-ofZ f) at e
-
   pub says-finished : ltZ (toZ w64 (ofZ w64 top)) (pos halfDot) ≡ true → advanceSays Finished ≡ saidAt top
   unfolding saidAt advanceSays
-  says-finished e = rw (low e)
+  says-finished e = rw (low top f e)
 
   pub says-more : ltZ (toZ w64 (ofZ w64 top)) (pos halfDot) ≡ false → advanceSays More ≡ saidAt top
   unfolding saidAt advanceSays
-  says-more e = rw (high e)
-
-  pub none-owed : ltZ (toZ w64 (ofZ w64 top)) (pos halfDot) ≡ true → top <ℤ pos halfDot
-  none-owed e = let h = low e in omega ints
-
-  pub some-owed : ltZ (toZ w64 (ofZ w64 top)) (pos halfDot) ≡ false → pos halfDot ≤ℤ top
-  some-owed e = let h = high e in omega ints
+  says-more e = rw (high top f e)

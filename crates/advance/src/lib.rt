@@ -6,10 +6,8 @@ use definition::Progress;
 use definition::Refusal;
 ghost use mathlib.Core.Path.{_≡_};
 ghost use Rattle.definition.specs.Answers.{advanceSays};
-ghost use Prim.Native.Nat.{_+_};
 ghost use Rattle.definition.specs.Diffusion.{plain};
 ghost use Rattle.definition.specs.Advance.{saidAt, advanced, advanceOf};
-ghost use Rattle.advance.specs.Running.{RunAsked, Ran};
 ghost use Rattle.sheet.specs.Sheets.{SheetAsked};
 
 // From this top on a dot is due.
@@ -33,30 +31,6 @@ fn refused(progress: Progress, why: Refusal) -> AdvanceAnswer
         made: 0,
         status: AdvanceStatus::Refused(why),
     }
-}
-
-// Makes the dots that are due, as far as the budget lasts, on a sound sheet of just the needed lengths, and returns how many.
-fn run(
-    pyramid: &mut [i64],
-    serials: &mut [u32],
-    order: &mut [u32],
-    r: usize,
-    dots: u32,
-    budget: u32,
-) -> u32
-    requires { ⌜ RunAsked r (record { pyramid = now pyramid; serials = now serials; order = now order; dots = dots }) ⌝ }
-    ensures { λ made. ⌜ Ran r (record { pyramid = now (pyramid .entry); serials = now (serials .entry); order = now (order .entry); dots = dots }) budget made (record { pyramid = now (pyramid .exit); serials = now (serials .exit); order = now (order .exit); dots = dots + made }) ⌝ }
-{
-    let mut made = 0;
-    while made < budget {
-        let top = pyramid[0];
-        if top < HALF_DOT {
-            return made;
-        }
-        dot::place_dot(pyramid, serials, order, r, dots + made);
-        made += 1;
-    }
-    made
 }
 
 fn answer(side: u32, dots: u32, made: u32, status: AdvanceStatus) -> AdvanceAnswer
@@ -84,7 +58,7 @@ fn advance_sheet(
     let dots = progress.dots;
     let needed = sizes::needed(r);
     let cells = sizes::cell_count(r);
-    let made = run(
+    let made = dot_run::run(
         &mut pyramid[..needed],
         &mut serials[..cells],
         &mut order[..cells],

@@ -43,7 +43,8 @@ pub kept : (side : ℕ) (g : List ℕ) (p : List ℤ) (s o : List ℕ) (calls : 
 kept side g p s o calls held e = record { held-is = e; demand = λ accepted. rw e (demand-3 side g p s o accepted calls) }
 
 -- ---- one call more
-tabulate-more : {A : Type 0} (i n : ℕ) (f : ℕ → A) → tabulateFrom i (suc n) f ≡ tabulateFrom i n f ++ (f (i + n) ∷ [])
+pub tabulate-more : {A : Type 0} (i n : ℕ) (f : ℕ → A)
+    → tabulateFrom i (suc n) f ≡ tabulateFrom i n f ++ (f (i + n) ∷ [])
 unfolding tabulateFrom
 tabulate-more i zero f = rw (add-zero i)
 tabulate-more i (suc n) f = let z : suc i + n ≡ i + suc n = omega arith in ap (λ l. f i ∷ l) (rw z at (tabulate-more (suc i) n f))

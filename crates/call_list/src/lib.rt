@@ -8,7 +8,7 @@ ghost use Rattle.definition.specs.Calls.{callOf, heldAfter, heldAfterCalls};
 ghost use Rattle.call_list.specs.Promise.{callsIn, Kept};
 
 // The number at place i, or 0 where there is none.
-fn at(numbers: &[usize], i: usize) -> usize
+pub fn at(numbers: &[usize], i: usize) -> usize
     ensures { λ n. ⌜ n ≡ getD (now (numbers .entry)) i 0 ⌝ }
 {
     if i < numbers.len() {
@@ -18,7 +18,7 @@ fn at(numbers: &[usize], i: usize) -> usize
 }
 
 // How much of a buffer is lent: what is asked, or all of it.
-fn lent(asked: usize, length: usize) -> usize
+pub fn lent(asked: usize, length: usize) -> usize
     ensures { λ n. ⌜ n ≡ min asked length ⌝ }
 {
     if length < asked {
@@ -28,7 +28,7 @@ fn lent(asked: usize, length: usize) -> usize
 }
 
 // One call, lent the first a, b and c places of the buffers.
-fn one_call(
+pub fn one_call(
     progress: Progress,
     budget: u32,
     a: usize,

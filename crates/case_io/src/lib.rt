@@ -1,8 +1,11 @@
-// What the programs share: numbers read from a text of numbers parted by commas and line ends, and numbers, lists and refusals written to
-// standard output.
+// What the programs share: numbers read from a text of numbers parted by commas and line ends, and numbers, lists,
+// answers and refusals written to standard output; and the buffers of a case, their greys, and Advance on them.
 use decimals::Number;
+use definition::AdvanceAnswer;
+use definition::AdvanceStatus;
 use definition::LoadAnswer;
 use definition::LoadStatus;
+use definition::Progress;
 use definition::Refusal;
 ghost use Prim.Native.Nat.{_≤_, _<_, _^_};
 ghost use lib.ListN.{length};
@@ -187,4 +190,153 @@ pub fn shift_entry(pyramid: &mut [i64], place: usize, plus: u32, minus: u32) {
         return;
     }
     pyramid[place] = entry + plus as i64 - minus as i64;
+}
+
+// The number of cells of a side.
+pub fn cells_of(n: usize) -> usize
+    requires { ⌜ n ≤ 256 ⌝ }
+    ensures { λ m. ⌜ m ≤ 65536 ⌝ }
+{
+    n * n
+}
+
+// The length of a side's pyramid, or 1 where there is no such side.
+pub fn pyramid_of(n: usize) -> usize
+    ensures { λ m. ⌜ m ≤ 87381 ⌝ }
+{
+    match n {
+        2 => 5,
+        4 => 21,
+        8 => 85,
+        16 => 341,
+        32 => 1365,
+        64 => 5461,
+        128 => 21845,
+        256 => 87381,
+        _ => 1,
+    }
+}
+
+// Reads the greys of seed 0, or fills in the sample of another, and returns the place behind what was read.
+pub fn make_greys(text: &[u8], from: usize, seed: u32, side: u32, greys: &mut [u8]) -> usize {
+    if seed == 0 {
+        return read_bytes(text, from, greys);
+    }
+    let _ = sample_map::sample(seed, side, greys);
+    from
+}
+
+// Lends Advance the first places of each buffer, as many as the lengths say.
+pub fn advance_on(
+    progress: Progress,
+    budget: u32,
+    p: u32,
+    s: u32,
+    o: u32,
+    pyramid: &mut [i64],
+    serials: &mut [u32],
+    order: &mut [u32],
+) -> AdvanceAnswer {
+    let pyramid_lent = limit(p, pyramid.len());
+    let serials_lent = limit(s, serials.len());
+    let order_lent = limit(o, order.len());
+    advance::advance(
+        progress,
+        budget,
+        &mut pyramid[..pyramid_lent],
+        &mut serials[..serials_lent],
+        &mut order[..order_lent],
+    )
+}
+
+// A checksum with one more value.
+fn mix(sum: u64, value: u64) -> u64 {
+    (sum % 4294967296 * 16777619 + value % 4294967296) % 4294967296
+}
+
+// A signed value in two's complement, modulo 2 to the power of 32.
+fn word(n: i64) -> u64 {
+    let m = folded(n) % 4294967296;
+    if n < 0 {
+        return 4294967295 - m;
+    }
+    m
+}
+
+fn wide(n: u32) -> u64 {
+    n as u64
+}
+
+// The checksum of values.
+fn checksum_u32(values: &[u32]) -> u64 {
+    let mut sum = 1;
+    let mut i = 0;
+    while i < values.len() {
+        sum = mix(sum, wide(values[i]));
+        i += 1;
+    }
+    sum
+}
+
+// The same for signed values.
+fn checksum_i64(values: &[i64]) -> u64 {
+    let mut sum = 1;
+    let mut i = 0;
+    while i < values.len() {
+        sum = mix(sum, word(values[i]));
+        i += 1;
+    }
+    sum
+}
+
+// Writes the values of a side up to 8, and the checksum of a larger one.
+fn write_u32(n: usize, values: &[u32]) {
+    if n <= 8 {
+        fields_u32(values);
+        return;
+    }
+    field(checksum_u32(values));
+    end_line();
+}
+
+// The same for signed values.
+fn write_i64(n: usize, values: &[i64]) {
+    if n <= 8 {
+        fields_i64(values);
+        return;
+    }
+    field(checksum_i64(values));
+    end_line();
+}
+
+// Writes the three buffers.
+pub fn write_places(n: usize, pyramid: &[i64], serials: &[u32], order: &[u32]) {
+    io::write_all(1, b"pyramid");
+    write_i64(n, pyramid);
+    io::write_all(1, b"serials");
+    write_u32(n, serials);
+    io::write_all(1, b"order");
+    write_u32(n, order);
+}
+
+// Writes what Advance answers to a budget.
+pub fn print_call(budget: u32, answer: AdvanceAnswer) {
+    let progress = answer.progress;
+    io::write_all(1, b"call");
+    field_u32(budget);
+    field_u32(progress.side);
+    field_u32(progress.dots);
+    field_u32(answer.made);
+    let status = answer.status;
+    match status {
+        AdvanceStatus::Finished => {
+            io::write_all(1, b",finished");
+            end_line();
+        }
+        AdvanceStatus::More => {
+            io::write_all(1, b",more");
+            end_line();
+        }
+        AdvanceStatus::Refused(why) => end_refused(why),
+    }
 }

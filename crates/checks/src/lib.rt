@@ -25,6 +25,7 @@ pub fn number_of(why: Refusal) -> u32
         Refusal::TextMalformed => 7,
         Refusal::OutputShort => 8,
         Refusal::InputLong => 9,
+        Refusal::NameUnknown => 10,
     }
 }
 

@@ -3,7 +3,18 @@
 use mathlib.Core.List.{List, [], _∷_}
 use Prim.Native.Nat.{ℕ}
 use Rattle.definition.specs.declared.Refusal.{Refusal}
-use Rattle.definition.specs.declared.Refusal.the-variants.{SideUnknown, GreysShort, PyramidShort, SheetShort, SheetUnsound, BlockUnknown, TextMalformed, OutputShort, InputLong}
+use Rattle.definition.specs.declared.Refusal.the-variants.{
+  SideUnknown,
+  GreysShort,
+  PyramidShort,
+  SheetShort,
+  SheetUnsound,
+  BlockUnknown,
+  TextMalformed,
+  OutputShort,
+  InputLong,
+  NameUnknown,
+}
 use Rattle.definition.specs.declared.LoadStatus.{LoadStatus}
 use Rattle.definition.specs.declared.LoadStatus.the-variants as Load
 use Rattle.definition.specs.declared.AdvanceStatus.{AdvanceStatus}
@@ -22,6 +33,8 @@ use Rattle.definition.specs.declared.CompareAnswer.{CompareAnswer}
 use Rattle.definition.specs.declared.CompareAnswer.the-variants as Compare
 use Rattle.definition.specs.declared.ShelfAnswer.{ShelfAnswer}
 use Rattle.definition.specs.declared.ShelfAnswer.the-variants as Shelf
+use Rattle.definition.specs.declared.CheckpointStatus.{CheckpointStatus}
+use Rattle.definition.specs.declared.CheckpointStatus.the-variants as Checkpoint
 
 -- How the left of two plates stands to the right one (document 02, request 6): before it, the same, or after it; where
 -- a cell decides, with its row and column.
@@ -57,6 +70,7 @@ numberOf BlockUnknown = 6
 numberOf TextMalformed = 7
 numberOf OutputShort = 8
 numberOf InputLong = 9
+numberOf NameUnknown = 10
 
 -- Load returns its record and, beside it, nothing or a number
 unfoldable pub loadSays : LoadStatus → Said
@@ -106,3 +120,8 @@ compareSays (Compare.Refused why) = refused (numberOf why)
 unfoldable pub shelfSays : ShelfAnswer → Said
 shelfSays Shelf.Sorted = returned []
 shelfSays (Shelf.Refused why) = refused (numberOf why)
+
+-- Keep and Restore of document 02: beside the record and the value, nothing or a number
+unfoldable pub checkpointSays : CheckpointStatus → Said
+checkpointSays Checkpoint.Done = returned []
+checkpointSays (Checkpoint.Refused why) = refused (numberOf why)

@@ -38,6 +38,10 @@ greySum r greys k a b = blockSum r (greyAt r greys) k a b
 unfoldable pub greyTotal : ℕ → List ℕ → ℕ
 greyTotal r greys = greySum r greys 0 0 0
 
+-- the holes of the finished map, from the sum of all greys (document 01, demand 3)
+abbrev pub totalOf : ℕ → ℕ
+totalOf G = (2 * G + 255) / 510
+
 -- "A square's holes are its cells whose serial isn't 0, as Tally counts them; all holes are those of the whole map."
 unfoldable pub dotsIn : ℕ → List ℕ → ℕ → ℕ → ℕ → ℕ
 dotsIn r serials k a b = blockSum r (burntAt r serials) k a b

@@ -20,5 +20,9 @@ pub mod Plate
 pub mod Quote
 pub mod Shelf
 pub mod Calls
+pub mod Checkpoints
+pub mod Stages
 pub mod Expected
+pub mod PlateTools
+pub mod StagePlates
 pub mod Plates

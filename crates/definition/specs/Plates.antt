@@ -1,5 +1,5 @@
--- Document 01's plates: P1 to P12 as one table; further plates, whose figures the reference wrote, as another; and as
--- a third a row for each sentence that these leave open.
+-- Document 01's plates: P1 to P12 as one table; further plates, whose figures the reference wrote, as another; as a
+-- third a row for each sentence that these leave open; and those of `StagePlates`.
 -- One proof computes all of it on the definitions. Rows that make holes ask the calls and the model.
 use mathlib.Core.Path.{_≡_, refl}
 use mathlib.Core.Bool.{Bool, true, false, cond, not, _&&_}
@@ -7,9 +7,9 @@ use mathlib.Core.List.{List, [], _∷_, _++_, map}
 use Prim.Native.Nat.{ℕ, zero, suc, _+_, _*_, _/_, _^_}
 use lib.Dec.{eqb}
 use lib.ListN.{length, set, take, replicate}
-use lib.IntN.{ℤ, pos, negℤ, _+ℤ_}
+use lib.IntN.{ℤ, pos, _+ℤ_}
 use Rattle.definition.specs.Lists.{sumTo, sumZTo, allTo, tabulateFrom, joined, repeated, eqZ}
-use Rattle.definition.specs.Answers.{Said, returned, finished, more, comparison, refused, numberOf, Compared}
+use Rattle.definition.specs.Answers.{Said, finished, more, comparison, refused, numberOf, Compared}
 use Rattle.definition.specs.Answers as Answers
 use Rattle.definition.specs.Pyramid.{start, needed, cellCount, placeIn, rowAt, columnAt, levelOf, inLevel, entry, four, coarser, pyramidOver}
 use Rattle.definition.specs.Blocks.{blockSum, blockSumZ, greyAt, burnt, burntAt, greySum, greyTotal, dotsIn, allDots}
@@ -24,7 +24,7 @@ use Rattle.definition.specs.Descent.{
   descend,
 }
 use Rattle.definition.specs.Diffusion.{plain, within, onMap, weightAt, share, diffuse}
-use Rattle.definition.specs.Model.{Halftone, topOf, modelStart, missing, placeDot, step, steps}
+use Rattle.definition.specs.Model.{topOf, modelStart, missing, placeDot, step, steps}
 use Rattle.definition.specs.Sound.{burntNear, everyEntry, fewDots, numbered, counted, unused, summed, bounded, owing, isSound}
 use Rattle.definition.specs.Refusals.{Row, powerUpTo, powerOf, lowest, greysRefusal}
 use Rattle.definition.specs.Load.{loadRefusal, loaded, loadOf}
@@ -51,7 +51,77 @@ use Rattle.definition.specs.Shelf.{
   shelfRefusal,
   shelfOf,
 }
-use Rattle.definition.specs.Calls.{Call, Held, heldAfterLoad, callOf, heldAfter, outcomesOf, heldAfterCalls, repliesOf, modelRefusal, modelCall, modelReply, modelAfterCalls, modelReplies}
+use Rattle.definition.specs.Calls.{
+  heldAfterLoad,
+  callOf,
+  heldAfter,
+  outcomesOf,
+  heldAfterCalls,
+  repliesOf,
+  modelRefusal,
+  modelCall,
+  modelReply,
+  modelAfterCalls,
+  modelReplies,
+}
+use Rattle.definition.specs.Checkpoints.{
+  isName,
+  keptAt,
+  keepRefusal,
+  keepOf,
+  canRestore,
+  restoreRefusal,
+  restored,
+  restoreOf,
+}
+use Rattle.definition.specs.Stages.{
+  callerAtFirst,
+  returnOf,
+  callerAfter,
+  act,
+  callerAfterAll,
+  memoryAtFirst,
+  sheetAt,
+  isKept,
+  modelReturnRefusal,
+  orElse,
+  modelReturn,
+  modelAct,
+  memoryAfterAll,
+  countOf,
+  countsOf,
+}
+use Rattle.definition.specs.PlateTools.{
+  same,
+  sameZ,
+  comparedAs,
+  saidAs,
+  refuses,
+  minus,
+  loadedMap,
+  callsOf,
+  after,
+  modelAfter,
+  p1,
+  p2,
+  p3,
+  p6,
+  says,
+  topOnly,
+}
+use Rattle.definition.specs.StagePlates.{
+  keeps,
+  keepRefuses,
+  restoresP3,
+  isAfter,
+  goesBack,
+  staysThere,
+  restores,
+  twoKept,
+  leavesStage,
+  keptThree,
+  stagePlates,
+}
 use Rattle.definition.specs.declared.Progress.{Progress}
 use Rattle.definition.specs.declared.Refusal.the-variants as Refusal
 use Rattle.definition.specs.Expected.{
@@ -71,53 +141,6 @@ use Rattle.definition.specs.Expected.{
   pyramidFlat4,
   levelsFlat4,
 }
-
--- ---- equal lists; what was said, as a list
-unfoldable pub same : List ℕ → List ℕ → Bool
-same [] [] = true
-same [] (y ∷ ys) = false
-same (x ∷ xs) [] = false
-same (x ∷ xs) (y ∷ ys) = eqb x y && same xs ys
-
-unfoldable pub sameZ : List ℤ → List ℤ → Bool
-sameZ [] [] = true
-sameZ [] (y ∷ ys) = false
-sameZ (x ∷ xs) [] = false
-sameZ (x ∷ xs) (y ∷ ys) = eqZ x y && sameZ xs ys
-
-unfoldable pub comparedAs : Compared → List ℕ
-comparedAs Answers.before = 0 ∷ []
-comparedAs (Answers.beforeAt row column) = 1 ∷ row ∷ column ∷ []
-comparedAs Answers.same = 2 ∷ []
-comparedAs (Answers.afterAt row column) = 3 ∷ row ∷ column ∷ []
-comparedAs Answers.after = 4 ∷ []
-
-unfoldable pub saidAs : Said → List ℕ
-saidAs (returned values) = 0 ∷ values
-saidAs finished = 1 ∷ []
-saidAs more = 2 ∷ []
-saidAs (refused n) = 3 ∷ n ∷ []
-saidAs (comparison c) = 4 ∷ comparedAs c
-
--- the number of a refusal
-unfoldable pub refuses : Said → ℕ → Bool
-refuses said n = same (saidAs said) (3 ∷ n ∷ [])
-
-abbrev pub minus : ℕ → ℤ
-minus n = negℤ (pos n)
-
--- ---- a run: a map loaded into buffers one place longer than needed, with 9s in them, then calls with these budgets, all lent whole
-unfoldable pub loadedMap : ℕ → List ℕ → Held
-loadedMap r greys = heldAfterLoad (2 ^ r) greys (replicate (suc (needed r)) (pos 9)) (replicate (suc (cellCount r)) 9) (replicate (suc (cellCount r)) 9)
-
-unfoldable pub callsOf : ℕ → List ℕ → List Call
-callsOf r budgets = map (λ budget. record { budget = budget; pyramidLent = suc (needed r); serialsLent = suc (cellCount r); orderLent = suc (cellCount r) }) budgets
-
-unfoldable pub after : ℕ → List ℕ → List ℕ → Held
-after r greys budgets = heldAfterCalls plain (loadedMap r greys) (callsOf r budgets)
-
-unfoldable pub modelAfter : ℕ → List ℕ → List ℕ → Halftone
-modelAfter r greys budgets = modelAfterCalls plain r (modelStart r greys) (callsOf r budgets)
 
 -- the calls make and say this, each in turn, and so does the model
 unfoldable pub replied : List (ℕ × Said) → List Reply → Bool
@@ -153,19 +176,6 @@ shares r row column d = sharesFrom r row column d 0 9
 -- a map of side 2 with the sum of greys G comes to n holes, and so does the price list's floor((2G + 255) / 510)
 unfoldable pub total : List ℕ → ℕ → ℕ → Bool
 total greys G n = eqb (greyTotal 1 greys) G && answers 1 greys (9 ∷ []) ((n, finished) ∷ []) && eqb ((2 * G + 255) / 510) n
-
--- ---- the maps of the plates, side 2
-unfoldable pub p1 : List ℕ
-p1 = 0 ∷ 0 ∷ 0 ∷ 0 ∷ []
-
-unfoldable pub p2 : List ℕ
-p2 = 255 ∷ 255 ∷ 255 ∷ 255 ∷ []
-
-unfoldable pub p3 : List ℕ
-p3 = 128 ∷ 128 ∷ 128 ∷ 128 ∷ []
-
-unfoldable pub p6 : List ℕ
-p6 = 128 ∷ 0 ∷ 0 ∷ 0 ∷ []
 
 unfoldable pub plates : List Row
 plates =
@@ -319,19 +329,12 @@ unfoldable pub numbers : List ℕ
 numbers =
     map numberOf
     (Refusal.SideUnknown ∷ Refusal.GreysShort ∷ Refusal.PyramidShort ∷ Refusal.SheetShort ∷ Refusal.SheetUnsound
-    ∷ Refusal.BlockUnknown ∷ Refusal.TextMalformed ∷ Refusal.OutputShort ∷ Refusal.InputLong ∷ [])
-
--- a call that isn't refused says these values
-unfoldable pub says : Said → List ℕ → Bool
-says said values = same (saidAs said) (0 ∷ values)
+    ∷ Refusal.BlockUnknown ∷ Refusal.TextMalformed ∷ Refusal.OutputShort ∷ Refusal.InputLong
+    ∷ Refusal.NameUnknown ∷ [])
 
 -- Load of a side, lent buffers of these lengths: greys, pyramid, serials, order
 unfoldable pub loads : ℕ → ℕ → ℕ → ℕ → ℕ → Said
 loads side g p s o = loadOf side (replicate g 0) (replicate p (pos 0)) (replicate s 0) (replicate o 0) .said
-
--- a pyramid of side 2 with nothing in it but its top, of which p places are lent
-abbrev pub topOnly : ℕ → ℕ → List ℤ
-topOnly p top = take p (pos top ∷ replicate 4 (pos 0))
 
 -- Advance with the record (side, 0) on such a pyramid and unburnt serials and order of these lengths
 unfoldable pub advances : ℕ → ℕ → ℕ → ℕ → ℕ → Said
@@ -454,7 +457,7 @@ shelfRefuses side n plates lent number =
 unfoldable pub singlePlates : List Row
 singlePlates =
     -- the numbers of the table; the powers of 1, 2, 4 .. 512 as sides, and of other numbers; some needed lengths
-    (50, same numbers (1 ∷ 2 ∷ 3 ∷ 4 ∷ 5 ∷ 6 ∷ 7 ∷ 8 ∷ 9 ∷ []))
+    (50, same numbers (1 ∷ 2 ∷ 3 ∷ 4 ∷ 5 ∷ 6 ∷ 7 ∷ 8 ∷ 9 ∷ 10 ∷ []))
     ∷ (51, same (tabulateFrom 0 10 (λ r. powerOf (2 ^ r))) (tabulateFrom 0 9 (λ r. r) ++ 0 ∷ []))
     ∷ (51, same (map powerOf (0 ∷ 3 ∷ 5 ∷ 31 ∷ 33 ∷ 255 ∷ 257 ∷ [])) (replicate 7 0))
     ∷ (52, eqb (needed 1) 5 && eqb (cellCount 1) 4 && eqb (needed 8) 87381 && eqb (cellCount 8) 65536)
@@ -543,11 +546,11 @@ firstFailing [] = 0
 firstFailing (row ∷ rows) = elim (row .1) [ true ↦ firstFailing rows | false ↦ row .0 ]
 
 abbrev pub allPlates : List Row
-allPlates = plates ++ furtherPlates ++ singlePlates
+allPlates = plates ++ furtherPlates ++ singlePlates ++ stagePlates
 
 -- no row is lost
-pub plates-there : length allPlates ≡ 112
-unfolding plates furtherPlates singlePlates
+pub plates-there : length allPlates ≡ 131
+unfolding plates furtherPlates singlePlates stagePlates
 plates-there = refl
 
 pub plates-hold : firstFailing allPlates ≡ 0
@@ -563,13 +566,16 @@ unfolding sumTo sumZTo allTo tabulateFrom joined repeated eqZ numberOf start pla
     isSmall entriesSmall renewable renewalOf nextState greyOf sampleGreys stateAfter sampleOf sampleText
     refusedText finishedOf plateOf quoteOfMap quoteOfText quoteOf pattern firstDifference compared
     compareRefusal compareOf plateAt isBefore insert inOrder shelfRefusal shelfOf heldAfterLoad callOf
-    heldAfter outcomesOf
-    heldAfterCalls repliesOf modelRefusal modelCall modelReply modelAfterCalls modelReplies greys4 order4
+    heldAfter outcomesOf heldAfterCalls repliesOf modelRefusal modelCall modelReply modelAfterCalls
+    modelReplies greys4 order4
     serials4 pyramid4 levels4 greys8 order8 serials8 pyramid8 levels8 greysFlat4 orderFlat4 serialsFlat4
     pyramidFlat4 levelsFlat4 same sameZ comparedAs saidAs refuses loadedMap callsOf after modelAfter replied answers
     leaves sharesFrom shares total p1 p2 p3 p6 textP3 listP3 listed lineP3 quoted owedWith altered renews4
     renews8 leftAlone samples sampleBegins numbers says loads advances lists reads textOfGrey acceptsLow
     lowBeside givesBack darkAt orderOf refusedLine plateRefuses quoteRefuses text64 textX level0 textRight
-    listRight tenDigits pageP3 turns turnsPyramid compares fivePlates shelves shelfRefuses plates furtherPlates
-    singlePlates firstFailing
+    listRight tenDigits pageP3 turns turnsPyramid compares fivePlates shelves shelfRefuses isName keptAt
+    keepRefusal keepOf canRestore restoreRefusal restored restoreOf keeps keepRefuses restoresP3 isAfter
+    goesBack staysThere restores twoKept callerAtFirst returnOf callerAfter act callerAfterAll memoryAtFirst
+    sheetAt isKept modelReturnRefusal orElse modelReturn modelAct memoryAfterAll countOf countsOf leavesStage
+    keptThree stagePlates plates furtherPlates singlePlates firstFailing
 plates-hold = refl

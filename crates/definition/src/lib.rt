@@ -18,6 +18,7 @@ pub enum Refusal {
     TextMalformed,
     OutputShort,
     InputLong,
+    NameUnknown,
 }
 
 // Whether Load filled the buffers.
@@ -96,4 +97,23 @@ pub enum CompareAnswer {
 pub enum ShelfAnswer {
     Sorted,
     Refused(Refusal),
+}
+
+// The dots kept under the names 1 to 8, place by place: 0 while a name is empty, else 1 more than its dots. So with
+// eight zeros all names are empty, and a name under which 0 dots are kept is not.
+pub struct Checkpoints {
+    pub kept: [u64; 8],
+}
+
+// Whether Keep wrote down a count, or Restore went back to one.
+pub enum CheckpointStatus {
+    Done,
+    Refused(Refusal),
+}
+
+// Keep and Restore: the record and the value afterwards, both as given where they refuse.
+pub struct CheckpointAnswer {
+    pub progress: Progress,
+    pub checkpoints: Checkpoints,
+    pub status: CheckpointStatus,
 }

@@ -4,13 +4,13 @@ use mathlib.Core.Path.{_≡_}
 use mathlib.Core.Logic.{_≢_, _↔_}
 use mathlib.Core.Bool.{false}
 use mathlib.Core.List.{List, [], _∷_}
-use Prim.Native.Nat.{ℕ, _+_, _*_, _-_, _/_, _^_, _≤_, _<_, min}
+use Prim.Native.Nat.{ℕ, _+_, _*_, _-_, _^_, _≤_, _<_, min}
 use lib.ListN.{getD, take, drop}
 use lib.IntN.{ℤ, pos, _+ℤ_}
 use lib.Signed.{_<ℤ_}
 use Rattle.definition.specs.Answers.{returned, finished}
 use Rattle.definition.specs.Pyramid.{oneDot, halfDot, needed, cellCount}
-use Rattle.definition.specs.Blocks.{blockSide, greySum, greyTotal, dotsIn, allDots}
+use Rattle.definition.specs.Blocks.{blockSide, greySum, greyTotal, totalOf, dotsIn, allDots}
 use Rattle.definition.specs.Diffusion.{Kernel}
 use Rattle.definition.specs.Model.{Halftone, topOf, modelStart, steps}
 use Rattle.definition.specs.Refusals.{powerOf}
@@ -32,10 +32,6 @@ EachBlock r P = (k a b : ℕ) → k ≤ r → a < 2 ^ k → b < 2 ^ k → P k a 
 pub record Accepted (side : ℕ) (greys : List ℕ) (pyramid : List ℤ) (serials order : List ℕ) : Type 0 where
   pub bytes : Each (λ grey. grey ≤ 255) greys
   pub said : loadOf side greys pyramid serials order .said ≡ returned []
-
--- the holes of the finished map, from G, "the sum of all greys"
-abbrev pub totalOf : ℕ → ℕ
-totalOf G = (2 * G + 255) / 510
 
 -- The holes of an aligned square of side s with grey sum g: the cap ..
 abbrev pub UnderCap : ℕ → List ℕ → List ℕ → ℕ → ℕ → ℕ → Type 0

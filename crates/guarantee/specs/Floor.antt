@@ -5,9 +5,9 @@ use mathlib.Core.List.{List}
 use Prim.Native.Nat.{ℕ, suc, _^_, _≤_, _<_}
 use native.Mathlib.Omega.{arith}
 use native.Mathlib.Nat.{div-le-self}
-use Rattle.definition.specs.Blocks.{blockSide, greyAt, burntAt, greySum, greyTotal, dotsIn, allDots}
+use Rattle.definition.specs.Blocks.{blockSide, greyAt, burntAt, greySum, greyTotal, totalOf, dotsIn, allDots}
 use Rattle.quadtree.specs.Quarters.{Quarters, quarters-of, side-halves, block-quarters, every-block}
-use Rattle.guarantee.specs.Demand3.{EachBlock, totalOf, UnderCap, OverFloor}
+use Rattle.guarantee.specs.Demand3.{EachBlock, UnderCap, OverFloor}
 
 module _ (r : ℕ) (greys serials : List ℕ) (cap : EachBlock r (UnderCap r greys serials)) (total : allDots r serials ≡ totalOf (greyTotal r greys)) where
   whole : OverFloor r greys serials 0 0 0

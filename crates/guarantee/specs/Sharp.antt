@@ -8,10 +8,21 @@ use native.Mathlib.Omega.{arith}
 use lib.Dec.{T, ltb, ltb→lt}
 use lib.ListN.{replicate}
 use Rattle.definition.specs.Lists.{sumTo, allTo, repeated}
-use Rattle.definition.specs.Blocks.{blockSide, blockSum, greyAt, burnt, burntAt, greySum, greyTotal, dotsIn, allDots}
+use Rattle.definition.specs.Blocks.{
+  blockSide,
+  blockSum,
+  greyAt,
+  burnt,
+  burntAt,
+  greySum,
+  greyTotal,
+  totalOf,
+  dotsIn,
+  allDots,
+}
 use Rattle.definition.specs.Sound.{everyEntry}
 use Rattle.integers.specs.Tests.{allTo-at, everyEntry-at}
-use Rattle.guarantee.specs.Demand3.{EachBlock, totalOf, UnderCap}
+use Rattle.guarantee.specs.Demand3.{EachBlock, UnderCap}
 
 abbrev greys : List ℕ
 greys = repeated 8 (replicate 8 241 ++ replicate 8 89) ++ replicate 128 89

@@ -1,37 +1,39 @@
 -- The model's start, on greys that are bytes: a sound sheet, with every square's cap and the total. And what an accepted Load leaves is that start.
-use mathlib.Core.Path.{_≡_, refl, ap, _∙_}
+use mathlib.Core.Path.{_≡_, refl, sym, ap, _∙_}
 use mathlib.Core.List.{List, [], _∷_, _++_}
 use Prim.Native.Nat.{ℕ, zero, suc, _+_, _*_, _^_, _≤_, _<_}
 use native.Mathlib.Omega.{arith}
 use native.Mathlib.Nat.{zero-mul}
-use lib.ListN.{length, getD, drop, length-replicate}
+use lib.ListN.{length, getD, drop, length-replicate, List·getD-append}
 use lib.IntN.{ℤ, pos}
 use Rattle.definition.specs.Answers.{refused}
-use Rattle.definition.specs.Pyramid.{cellCount, cellNumber, needed, levelOf, entry}
-use Rattle.definition.specs.Blocks.{greyAt, burnt, burntAt, greySum, greyTotal}
-use Rattle.definition.specs.Model.{Halftone, modelStart}
+use Rattle.definition.specs.Pyramid.{cellCount, cellNumber, needed, placeIn, rowAt, columnAt, levelOf, entry}
+use Rattle.definition.specs.Blocks.{greyAt, burnt, burntAt, greySum, greyTotal, totalOf}
+use Rattle.definition.specs.Model.{Halftone, topOf, modelStart}
 use Rattle.definition.specs.Sound.{Sound}
 use Rattle.definition.specs.Refusals.{powerOf}
 use Rattle.definition.specs.Load.{loadRefusal, loaded, loadOf}
+use Rattle.definition.specs.Advance.{dotsDue}
 use Rattle.definition.specs.Calls.{heldAfterLoad}
-use Rattle.integers.specs.Linear.{zz, ints}
-use Rattle.integers.specs.Lists.{getD-replicate-self}
+use Rattle.integers.specs.Linear.{zz, ints, up-or-dn}
+use Rattle.integers.specs.Lists.{getD-replicate-self, tabulate-ext}
 use Rattle.integers.specs.Sums.{sumTo-zero}
 use Rattle.refusals.specs.Powers.{side-pow}
 use Rattle.refusals.specs.Lowest.{LoadLent, load-none}
 use Rattle.quadtree.specs.Areas.{area, area-ext, area-mul, area-zero, block-area}
 use Rattle.quadtree.specs.Residues.{areaZ, areaZ-ext, areaZ-pos}
-use Rattle.quadtree.specs.Levels.{block-side}
+use Rattle.quadtree.specs.Levels.{block-side, cell-lt, place-row-column}
 use Rattle.quadtree.specs.Pyramids.{length-level, level-entry, length-pyramid, pyramid-cells, pyramid-summed}
 use Rattle.dots.specs.Placing.{Sized}
 use Rattle.dots.specs.Kept.{sound-summed}
-use Rattle.dots.specs.Steps.{Sheet, top-area}
+use Rattle.dots.specs.Steps.{Sheet, top-area, due-is}
 use Rattle.guarantee.specs.Demand3.{Each, Accepted}
 use Rattle.guarantee.specs.Capped.{Capped}
 use Rattle.guarantee.specs.Lent.{heldOf}
 
 -- what holds of each element holds at each place, where it holds of the default; and the other way round
-each-getD : {A : Type 0} (P : A → Type 0) (l : List A) (d : A) → P d → Each P l → (i : ℕ) → P (getD l i d)
+pub each-getD : {A : Type 0} (P : A → Type 0) (l : List A) (d : A)
+    → P d → Each P l → (i : ℕ) → P (getD l i d)
 each-getD P [] d z h i = z
 each-getD P (x ∷ xs) d z h zero = h .0
 each-getD P (x ∷ xs) d z h (suc i) = each-getD P xs d z (h .1) i
@@ -104,7 +106,7 @@ module _ (r : ℕ) (greys : List ℕ) (bytes : Each (λ grey. grey ≤ 255) grey
   fresh-area : (p q n : ℕ) → area p q n (burntAt r (fresh .serials)) ≡ 0
   fresh-area p q n = area-ext p q n _ (λ x y. 0) (λ x y i j. fresh-burnt x y) ∙ area-zero p q n
 
-  start-dots : fresh .dots ≡ 0
+  pub start-dots : fresh .dots ≡ 0
   unfolding modelStart
   start-dots = refl
 
@@ -117,6 +119,38 @@ module _ (r : ℕ) (greys : List ℕ) (bytes : Each (λ grey. grey ≤ 255) grey
             rw (start-dots, top-area r (fresh .pyramid) (sound-summed start-sound), fresh-residue 0 0 (2 ^ r) (omega arith) (omega arith), total-area r greys)
             (simp zz (omega arith));
       }
+
+  -- at the start, the dots due are the total
+  pub start-due : fresh .dots + dotsDue (topOf (fresh .pyramid)) ≡ totalOf (greyTotal r greys)
+  start-due =
+      let t = topOf (fresh .pyramid) in
+      let h = start-capped .total in
+      omega (ints, due-is t, up-or-dn t, start-dots, simp zz at h)
+
+-- ---- what lies behind the map's greys does not matter
+module _ (r : ℕ) (values rest : List ℕ) (enough : cellCount r ≤ length values) where
+  grey-front : (x y : ℕ) → cellNumber r x y < cellCount r → greyAt r (values ++ rest) x y ≡ greyAt r values x y
+  unfolding greyAt
+  grey-front x y h = List·getD-append values rest 0 (cellNumber r x y) (omega arith)
+
+  -- what the model's start has at place i of the cells
+  abbrev residual : List ℕ → ℕ → ℤ
+  residual greys i = pos (256 * greyAt r greys (rowAt r i) (columnAt r i))
+
+  pub start-front : modelStart r (values ++ rest) ≡ modelStart r values
+  unfolding modelStart levelOf placeIn
+  start-front =
+      rw
+      (tabulate-ext (cellCount r) (residual (values ++ rest)) (residual values)
+      (λ i h.
+      ap (λ (g : ℕ). pos (256 * g))
+      (grey-front (rowAt r i) (columnAt r i) (omega (arith, place-row-column r i)))))
+
+  pub total-front : greyTotal r (values ++ rest) ≡ greyTotal r values
+  total-front =
+      total-area r (values ++ rest)
+      ∙ area-ext 0 0 (2 ^ r) _ _ (λ x y u v. grey-front x y (cell-lt (2 ^ r) x y (omega arith) (omega arith)))
+      ∙ sym (total-area r values)
 
 -- ---- Load
 -- what an accepted Load was lent

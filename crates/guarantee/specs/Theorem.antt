@@ -13,24 +13,32 @@ use lib.IntN.{ℤ, pos}
 use Rattle.definition.specs.Lists.{sumTo}
 use Rattle.definition.specs.Answers.{finished}
 use Rattle.definition.specs.Pyramid.{cellCount, cellNumber, needed}
-use Rattle.definition.specs.Blocks.{greyAt, burnt, burntAt, greySum, greyTotal, dotsIn, allDots}
+use Rattle.definition.specs.Blocks.{greyAt, burnt, burntAt, greySum, greyTotal, totalOf, dotsIn, allDots}
 use Rattle.definition.specs.Diffusion.{Kernel, plain}
 use Rattle.definition.specs.Model.{Halftone, topOf, modelStart}
 use Rattle.definition.specs.Refusals.{powerOf}
 use Rattle.definition.specs.Advance.{dotsDue}
 use Rattle.definition.specs.Calls.{Call, callOf, outcomesOf, repliesOf, modelCall, modelReply, modelAfterCalls, modelReplies, isRefusal}
-use Rattle.integers.specs.Linear.{zz, ints, up-or-dn}
+use Rattle.integers.specs.Linear.{zz, ints}
 use Rattle.integers.specs.Sums.{sumTo-rows, sumTo-ext}
 use Rattle.refusals.specs.Powers.{power-small}
 use Rattle.quadtree.specs.Areas.{span, area, area-ext, block-area}
 use Rattle.quadtree.specs.Levels.{start-suc, cell-lt, block-side, block-on-map}
 use Rattle.shares.specs.Kernels.{Fit, plain-fit}
-use Rattle.dots.specs.Steps.{Sheet, due-is, steps-keep}
-use Rattle.guarantee.specs.Demand3.{Each, EachBlock, Accepted, totalOf, UnderCap, Ends, Holds, Demand3}
+use Rattle.dots.specs.Steps.{Sheet, steps-keep}
+use Rattle.guarantee.specs.Demand3.{Each, EachBlock, Accepted, UnderCap, Ends, Holds, Demand3}
 use Rattle.guarantee.specs.Floor.{floor}
 use Rattle.guarantee.specs.Quote.{figures-fit, under-quote}
 use Rattle.guarantee.specs.Capped.{Capped, capped-kept}
-use Rattle.guarantee.specs.Start.{grey-byte, start-sheet, start-capped, accepted-loaded, loaded-held}
+use Rattle.guarantee.specs.Start.{
+  grey-byte,
+  start-sheet,
+  start-dots,
+  start-capped,
+  start-due,
+  accepted-loaded,
+  loaded-held,
+}
 use Rattle.guarantee.specs.Lent.{heldOf}
 use Rattle.guarantee.specs.OneCall.{call-same, held-same}
 use Rattle.guarantee.specs.ManyCalls.{call-sheet, calls-sheet, calls-keep, calls-held, calls-replies, calls-number, calls-first, reply-finished, call-due}
@@ -72,15 +80,10 @@ module _ (kernel : Kernel) (fit : Fit kernel) (r : ℕ) (big : 2 ≤ 2 ^ r) (pow
   total = totalOf (greyTotal r greys)
 
   no-dots : fresh .dots ≡ 0
-  unfolding modelStart
-  no-dots = refl
+  no-dots = start-dots r greys bytes
 
-  -- at the start, the dots due are the total
-  start-due : fresh .dots + dotsDue (topOf (fresh .pyramid)) ≡ total
-  start-due =
-      let t = topOf (fresh .pyramid) in
-      let h = start-capped r greys bytes .total in
-      omega (ints, due-is t, up-or-dn t, no-dots, simp zz at h)
+  due-total : fresh .dots + dotsDue (topOf (fresh .pyramid)) ≡ total
+  due-total = start-due r greys bytes
 
   -- ---- each call says finished exactly if all dots are made
   ends-one : (p : List ℤ) (s o : List ℕ) (t : Halftone) → Sheet r t → (c : Call) → t .dots + dotsDue (topOf (t .pyramid)) ≡ total → Ends r total (callOf kernel (heldOf r t p s o) c)
@@ -154,7 +157,9 @@ module _ (kernel : Kernel) (fit : Fit kernel) (r : ℕ) (big : 2 ≤ 2 ^ r) (pow
 
     -- on a finished map all dots are made
     all-made : 2 * greyTotal r greys < 510 * last .dots + 255 → allDots r (last .serials ++ s) ≡ total
-    all-made h = omega (arith, all-dots-is r last sheet s, calls-number kernel fit r big power cs fresh (start-sheet r greys bytes), no-dots, start-due)
+    all-made h =
+        let number = calls-number kernel fit r big power cs fresh (start-sheet r greys bytes) in
+        omega (arith, all-dots-is r last sheet s, number, no-dots, due-total)
 
     pub holds : Holds kernel r (greyTotal r greys) greys lentPyramid lentSerials lentOrder cs (heldOf r last p s o) (outcomesOf kernel (heldOf r fresh p s o) cs) (repliesOf kernel (heldOf r fresh p s o) cs) last (modelReplies kernel r fresh cs)
     holds =
@@ -171,7 +176,8 @@ module _ (kernel : Kernel) (fit : Fit kernel) (r : ℕ) (big : 2 ≤ 2 ^ r) (pow
           all-dots = all-dots-is r last sheet s;
           number =
               rw (calls-replies kernel fit r big power p s o cs fresh (start-sheet r greys bytes))
-              (omega (arith, calls-number kernel fit r big power cs fresh (start-sheet r greys bytes), no-dots, start-due));
+              (let number = calls-number kernel fit r big power cs fresh (start-sheet r greys bytes) in
+              omega (arith, number, no-dots, due-total));
           once = λ i j h k e. different i j h k (sym (at-order i (omega arith)) ∙ e ∙ at-order j k);
           cap = capped-blocks;
           floor = λ low.
@@ -184,7 +190,7 @@ module _ (kernel : Kernel) (fit : Fit kernel) (r : ℕ) (big : 2 ≤ 2 ^ r) (pow
                 fits = figures-fit r greys (last .serials ++ s) k a b (power-small (2 ^ r) (sym power)) h u v (grey-byte greys bytes);
               };
           debt = rw at-top (capped .total);
-          ends = ends-all p s o cs fresh (start-sheet r greys bytes) start-due;
+          ends = ends-all p s o cs fresh (start-sheet r greys bytes) due-total;
         }
 
 -- Demand 3, for every table of weights that is fit ..

@@ -5,50 +5,8 @@ use definition::LoadStatus;
 use definition::Progress;
 use definition::Refusal;
 ghost use mathlib.Core.Path.{_≡_};
-ghost use mathlib.Core.List.{_++_};
-ghost use Prim.Native.Nat.{_≤_};
-ghost use lib.ListN.{length, drop, replicate};
 ghost use Rattle.definition.specs.Answers.{loadSays};
-ghost use Rattle.definition.specs.Load.{loadRefusal, loadOf};
-ghost use Rattle.checks.specs.Checks.{checked};
-ghost use Rattle.load.specs.Loading.{FillLent, Filled};
-
-// Refusals 1, 2, 3, 4, from the side's power and the lengths lent.
-fn check_load(r: usize, greys: usize, pyramid: usize, serials: usize, order: usize) -> Check
-    requires { ⌜ r ≤ 8 ⌝ }
-    ensures { λ c. ⌜ checked c ≡ loadRefusal r greys pyramid serials order ⌝ }
-{
-    if r == 0 {
-        return Check::Failed(Refusal::SideUnknown);
-    }
-    let cells = sizes::cell_count(r);
-    let needed = sizes::needed(r);
-    if greys < cells {
-        return Check::Failed(Refusal::GreysShort);
-    }
-    if pyramid < needed {
-        return Check::Failed(Refusal::PyramidShort);
-    }
-    if serials < cells {
-        return Check::Failed(Refusal::SheetShort);
-    }
-    if order < cells {
-        return Check::Failed(Refusal::SheetShort);
-    }
-    Check::Passed
-}
-
-// Sets the first `count` places to 0.
-fn clear(places: &mut [u32], count: usize)
-    requires { ⌜ count ≤ length (now places) ⌝ }
-    ensures { λ _. ⌜ now (places .exit) ≡ replicate count 0 ++ drop count (now (places .entry)) ⌝ }
-{
-    let mut i = 0;
-    while i < count {
-        places[i] = 0;
-        i += 1;
-    }
-}
+ghost use Rattle.definition.specs.Load.{loadOf};
 
 fn refused(why: Refusal) -> LoadAnswer
     ensures { λ a. ⌜ a ≡ record { progress = record { side = 0; dots = 0 }; status = LoadStatus.Refused why } ⌝ }
@@ -68,18 +26,6 @@ fn loaded(side: u32) -> LoadAnswer
     }
 }
 
-// Fills the three buffers.
-fn fill(r: usize, greys: &[u8], pyramid: &mut [i64], serials: &mut [u32], order: &mut [u32])
-    requires { ⌜ FillLent r (length (now greys)) (length (now pyramid)) (length (now serials)) (length (now order)) ⌝ }
-    ensures { λ _. ⌜ Filled r (now (greys .entry)) (now (pyramid .entry)) (now (serials .entry)) (now (order .entry)) (now (pyramid .exit)) (now (serials .exit)) (now (order .exit)) ⌝ }
-{
-    let needed = sizes::needed(r);
-    pyramid::fill_pyramid(&mut pyramid[..needed], greys, r);
-    let cells = sizes::cell_count(r);
-    clear(serials, cells);
-    clear(order, cells);
-}
-
 pub fn load(
     side: u32,
     greys: &[u8],
@@ -90,10 +36,10 @@ pub fn load(
     ensures { λ a. ⌜ record { progress = a .progress; said = loadSays (a .status); pyramid = now (pyramid .exit); serials = now (serials .exit); order = now (order .exit) } ≡ loadOf side (now (greys .entry)) (now (pyramid .entry)) (now (serials .entry)) (now (order .entry)) ⌝ }
 {
     let r = sizes::power_of(side);
-    match check_load(r, greys.len(), pyramid.len(), serials.len(), order.len()) {
+    match fresh_sheet::check_load(r, greys.len(), pyramid.len(), serials.len(), order.len()) {
         Check::Failed(why) => refused(why),
         Check::Passed => {
-            fill(r, greys, pyramid, serials, order);
+            fresh_sheet::fill(r, greys, pyramid, serials, order);
             loaded(side)
         }
     }

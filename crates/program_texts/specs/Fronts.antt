@@ -17,7 +17,7 @@ use Rattle.definition.specs.Plate.{finishedOf}
 use Rattle.definition.specs.Quote.{quoteOfMap}
 use Rattle.quadtree.specs.Areas.{area-ext, block-area}
 use Rattle.quadtree.specs.Levels.{cell-lt, block-side, block-on-map}
-use Rattle.program_texts.specs.Greys.{start-front}
+use Rattle.guarantee.specs.Start.{start-front}
 
 -- a block's sum sees the cells of the map only
 block-ext : (r k a b : ℕ) (f g : ℕ → ℕ → ℕ) → k ≤ r → a < 2 ^ k → b < 2 ^ k
@@ -73,7 +73,7 @@ module _ (side : ℕ) (values rest : List ℕ) (count : length values ≡ cellCo
 
   pub finished-front : finishedOf plain r (values ++ rest) ≡ finishedOf plain r values
   unfolding finishedOf
-  finished-front = rw (start-front r values rest count)
+  finished-front = rw (start-front r values rest (omega arith))
 
   pub quoted-front : (level : ℕ) → quoteOfMap level side (values ++ rest) ≡ quoteOfMap level side values
   quoted-front level = go (decLt r level)

@@ -1,3 +1,4 @@
 pub mod Powers
 pub mod Lowest
 pub mod Numbers
+pub mod Names

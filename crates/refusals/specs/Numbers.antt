@@ -3,7 +3,18 @@ use mathlib.Core.Path.{_≡_, refl}
 use Prim.Native.Nat.{suc, _-_}
 use Rattle.definition.specs.Answers.{numberOf}
 use Rattle.definition.specs.declared.Refusal.{Refusal}
-use Rattle.definition.specs.declared.Refusal.the-variants.{SideUnknown, GreysShort, PyramidShort, SheetShort, SheetUnsound, BlockUnknown, TextMalformed, OutputShort, InputLong}
+use Rattle.definition.specs.declared.Refusal.the-variants.{
+  SideUnknown,
+  GreysShort,
+  PyramidShort,
+  SheetShort,
+  SheetUnsound,
+  BlockUnknown,
+  TextMalformed,
+  OutputShort,
+  InputLong,
+  NameUnknown,
+}
 
 pub number-positive : (why : Refusal) → numberOf why ≡ suc (numberOf why - 1)
 unfolding numberOf
@@ -16,3 +27,4 @@ number-positive BlockUnknown = refl
 number-positive TextMalformed = refl
 number-positive OutputShort = refl
 number-positive InputLong = refl
+number-positive NameUnknown = refl

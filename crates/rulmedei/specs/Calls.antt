@@ -10,6 +10,7 @@ use Rattle.definition.specs.Answers.{
   GreysOutcome,
   loadSays,
   advanceSays,
+  checkpointSays,
   tallySays,
   levelsSays,
   textSays,
@@ -19,6 +20,7 @@ use Rattle.definition.specs.Answers.{
 use Rattle.definition.specs.Load.{loadOf}
 use Rattle.definition.specs.Diffusion.{plain}
 use Rattle.definition.specs.Advance.{advanceOf}
+use Rattle.definition.specs.Checkpoints.{keepOf, restoreOf}
 use Rattle.definition.specs.Survey.{tallyOf, levelsOf}
 use Rattle.definition.specs.Text.{TextOutcome}
 use Rattle.definition.specs.Shelf.{ShelfOutcome}
@@ -26,6 +28,8 @@ use Rattle.definition.specs.declared.LoadAnswer.{LoadAnswer}
 use Rattle.definition.specs.declared.LoadStatus.{LoadStatus}
 use Rattle.definition.specs.declared.AdvanceAnswer.{AdvanceAnswer}
 use Rattle.definition.specs.declared.AdvanceStatus.{AdvanceStatus}
+use Rattle.definition.specs.declared.CheckpointAnswer.{CheckpointAnswer}
+use Rattle.definition.specs.declared.CheckpointStatus.{CheckpointStatus}
 use Rattle.definition.specs.declared.TallyAnswer.{TallyAnswer}
 use Rattle.definition.specs.declared.LevelsAnswer.{LevelsAnswer}
 use Rattle.definition.specs.declared.LevelsStatus.{LevelsStatus}
@@ -38,6 +42,8 @@ use Rattle.rulmedei.specs.Codes.{
   cellOf,
   loadCode,
   advanceCode,
+  keepCode,
+  restoreCode,
   tallyCode,
   levelsCode,
   greysCode,
@@ -62,6 +68,36 @@ pub advance-coded : (side dots budget : ℕ) (p : List ℤ) (s o : List ℕ) (a 
     → record { code = n; dots = a .progress .dots; made = a .made; pyramid = p′; serials = s′; order = o′ } ≡ advanceCode side dots budget p s o
 unfolding advanceCode
 advance-coded side dots budget p s o a h is n = rw (← h, is, n)
+
+-- what `status_code` returns
+pub status-coded : (status : CheckpointStatus) {t : CheckpointStatus} → status ≡ t
+    → {n : ℕ} → n ≡ codeOf (checkpointSays t) → n ≡ codeOf (checkpointSays status)
+status-coded status is n = rw (is, n)
+
+pub keep-coded : (side dots : ℕ) (kept : List ℕ) (name : ℕ) (a : CheckpointAnswer)
+    → record { progress = a .progress; checkpoints = a .checkpoints; said = checkpointSays (a .status) }
+    ≡ keepOf (record { side = side; dots = dots }) (record { kept = kept }) name
+    → {n : ℕ} → n ≡ codeOf (checkpointSays (a .status))
+    → record { code = n; kept = a .checkpoints .kept } ≡ keepCode side dots kept name
+unfolding keepCode
+keep-coded side dots kept name a h n = rw (← h, n)
+
+pub restore-coded : (side dots : ℕ) (kept : List ℕ) (name : ℕ) (g : List ℕ) (p : List ℤ) (s o : List ℕ)
+    (a : CheckpointAnswer) {p′ : List ℤ} {s′ o′ : List ℕ}
+    → record {
+      progress = a .progress;
+      checkpoints = a .checkpoints;
+      said = checkpointSays (a .status);
+      pyramid = p′;
+      serials = s′;
+      order = o′;
+    }
+    ≡ restoreOf plain (record { side = side; dots = dots }) (record { kept = kept }) name g p s o
+    → {n : ℕ} → n ≡ codeOf (checkpointSays (a .status))
+    → record { code = n; dots = a .progress .dots; pyramid = p′; serials = s′; order = o′ }
+    ≡ restoreCode side dots kept name g p s o
+unfolding restoreCode
+restore-coded side dots kept name g p s o a h n = rw (← h, n)
 
 pub levels-coded : (side : ℕ) (g s sums : List ℕ) (a : LevelsAnswer) → record { sums = a .sums; said = levelsSays (a .status) } ≡ levelsOf side g s
     → {stored : List ℕ} → stored ≡ sets sums 0 (a .sums) → {t : LevelsStatus} → a .status ≡ t → {n : ℕ} → n ≡ codeOf (levelsSays t)

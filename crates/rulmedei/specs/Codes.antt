@@ -22,6 +22,7 @@ use Rattle.definition.specs.Answers.{
 use Rattle.definition.specs.Load.{loadOf}
 use Rattle.definition.specs.Diffusion.{plain}
 use Rattle.definition.specs.Advance.{advanceOf}
+use Rattle.definition.specs.Checkpoints.{keepOf, restoreOf}
 use Rattle.definition.specs.Survey.{tallyOf, levelsOf}
 use Rattle.definition.specs.Text.{TextOutcome}
 use Rattle.definition.specs.Shelf.{ShelfOutcome}
@@ -76,6 +77,37 @@ unfoldable pub advanceCode : ℕ → ℕ → ℕ → List ℤ → List ℕ → L
 advanceCode side dots budget pyramid serials order =
     let o = advanceOf plain (record { side = side; dots = dots }) budget pyramid serials order in
     record { code = codeOf (o .reply .said); dots = o .reply .progress .dots; made = o .reply .made; pyramid = o .pyramid; serials = o .serials; order = o .order }
+
+-- Keep: the value is changed in place
+pub record KeepCode : Type 0 where
+  pub code : ℕ
+  pub kept : List ℕ
+
+unfoldable pub keepCode : ℕ → ℕ → List ℕ → ℕ → KeepCode
+keepCode side dots kept name =
+    let o = keepOf (record { side = side; dots = dots }) (record { kept = kept }) name in
+    record { code = codeOf (o .said); kept = o .checkpoints .kept }
+
+-- Restore: the value is only read
+pub record RestoreCode : Type 0 where
+  pub code : ℕ
+  pub dots : ℕ
+  pub pyramid : List ℤ
+  pub serials : List ℕ
+  pub order : List ℕ
+
+unfoldable pub restoreCode :
+    ℕ → ℕ → List ℕ → ℕ → List ℕ → List ℤ → List ℕ → List ℕ → RestoreCode
+restoreCode side dots kept name greys pyramid serials order =
+    let o = restoreOf plain (record { side = side; dots = dots }) (record { kept = kept }) name
+    greys pyramid serials order in
+    record {
+      code = codeOf (o .said);
+      dots = o .progress .dots;
+      pyramid = o .pyramid;
+      serials = o .serials;
+      order = o .order;
+    }
 
 pub record TallyCode : Type 0 where
   pub code : ℕ

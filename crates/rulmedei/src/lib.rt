@@ -3,6 +3,8 @@
 // renewal by itself, no call of document 01, returns 0 or 101. A slice is a pointer and a length (include/rulmedei.h
 // says what a caller must ensure).
 use definition::AdvanceStatus;
+use definition::CheckpointStatus;
+use definition::Checkpoints;
 use definition::CompareAnswer;
 use definition::LevelsStatus;
 use definition::LoadStatus;
@@ -15,7 +17,7 @@ use definition::TextAnswer;
 ghost use mathlib.Core.Path.{_≡_};
 ghost use lib.ListN.{set};
 ghost use lib.Seq.{sets};
-ghost use Rattle.definition.specs.Answers.{textSays, compareSays};
+ghost use Rattle.definition.specs.Answers.{checkpointSays, textSays, compareSays};
 ghost use Rattle.definition.specs.MapText.{mapTextOf};
 ghost use Rattle.definition.specs.DrillList.{drillListOf};
 ghost use Rattle.definition.specs.QuotePage.{quotePageOf};
@@ -23,6 +25,7 @@ ghost use Rattle.definition.specs.Renewal.{renewalOf};
 ghost use Rattle.definition.specs.Sample.{sampleOf};
 ghost use Rattle.definition.specs.Shelf.{compareOf, shelfOf};
 ghost use Rattle.rulmedei.specs.Codes.{codeOf, valueOf, loadCode, advanceCode, tallyCode, levelsCode};
+ghost use Rattle.rulmedei.specs.Codes.{keepCode, restoreCode};
 ghost use Rattle.rulmedei.specs.Codes.{greysCode, textCode, compareCode, shelfCode, renewCode};
 
 // Load. The record is written to `progress_side` and `progress_dots`.
@@ -73,6 +76,71 @@ pub extern "C" fn rulmedei_advance(
         AdvanceStatus::More => 100,
         AdvanceStatus::Refused(why) => checks::number_of(why),
     }
+}
+
+// The code of a call on names.
+fn status_code(status: CheckpointStatus) -> u32
+    ensures { λ n. ⌜ n ≡ codeOf (checkpointSays status) ⌝ }
+{
+    match status {
+        CheckpointStatus::Done => 0,
+        CheckpointStatus::Refused(why) => checks::number_of(why),
+    }
+}
+
+// Keep, with the record (side, dots). The value is changed in place, and stays where it refuses.
+#[no_mangle]
+pub extern "C" fn rulmedei_keep(side: u32, dots: u32, kept: &mut [u64; 8], name: u32) -> u32
+    ensures { λ n. ⌜
+        record { code = n; kept = now (kept .exit) } ≡ keepCode side dots (now (kept .entry)) name
+        ⌝ }
+{
+    let answer = checkpoints::keep(Progress { side, dots }, Checkpoints { kept: *kept }, name);
+    let checkpoints = answer.checkpoints;
+    let after = checkpoints.kept;
+    *kept = after;
+    let status = answer.status;
+    status_code(status)
+}
+
+// Restore, with the record (side, dots). The holes afterwards are written to `after`.
+#[no_mangle]
+pub extern "C" fn rulmedei_restore(
+    side: u32,
+    dots: u32,
+    kept: &[u64; 8],
+    name: u32,
+    greys: &[u8],
+    pyramid: &mut [i64],
+    serials: &mut [u32],
+    order: &mut [u32],
+    after: &mut u32,
+) -> u32
+    ensures { λ n. ⌜
+        record {
+          code = n;
+          dots = now (after .exit);
+          pyramid = now (pyramid .exit);
+          serials = now (serials .exit);
+          order = now (order .exit);
+        }
+        ≡ restoreCode side dots (now (kept .entry)) name
+        (now (greys .entry)) (now (pyramid .entry)) (now (serials .entry)) (now (order .entry))
+        ⌝ }
+{
+    let answer = checkpoints::restore(
+        Progress { side, dots },
+        Checkpoints { kept: *kept },
+        name,
+        greys,
+        pyramid,
+        serials,
+        order,
+    );
+    let progress = answer.progress;
+    *after = progress.dots;
+    let status = answer.status;
+    status_code(status)
 }
 
 // Tally. The holes of the square are written to `dots`, 0 where it refuses.

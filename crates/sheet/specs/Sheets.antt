@@ -81,58 +81,58 @@ sheet-asked {r} small dots p s o check e passed =
     let q = sheet-lent r (length p) (length s) (length o) (isSound r (sheetIn r dots p s o)) (passed-none check e passed) in
     record { small = small; lent = q .0; sound = q .1 }
 
--- ---- the code's way: the lengths are checked first; n and c are what it has worked out for the needed length and the number of cells
-module _ {r : ℕ} (small : r ≤ 8) (p : List ℤ) (s o : List ℕ) (dots : ℕ) (lengths : Check) (e : checked lengths ≡ advanceRefusal r (length p) (length s) (length o) true) where
+-- ---- the test of a sheet; n and c are what the code has worked out for the needed length and the number of cells
+module _ {r : ℕ} (small : r ≤ 8) (p : List ℤ) (s o : List ℕ)
+    (lent : SheetLent r (length p) (length s) (length o))
+    {n c : ℕ} (en : n ≡ needed r) (ec : c ≡ cellCount r) where
+  pub pyramid-part : n ≡ length (take n p)
+  pyramid-part = sym (length-take-le n p (omega (arith, lent .pyramid-long)))
+
+  pub serials-part : c ≡ length (take c s)
+  serials-part = sym (length-take-le c s (omega (arith, lent .serials-long)))
+
+  pub order-part : c ≡ length (take c o)
+  order-part = sym (length-take-le c o (omega (arith, lent .order-long)))
+
+  pub sound-asked : SoundAsked r (length (take n p)) (length (take c s)) (length (take c o))
+  sound-asked =
+      record {
+        some = lent .power;
+        most = small;
+        whole = sym pyramid-part ∙ en;
+        cells = sym serials-part ∙ ec;
+        places = sym order-part ∙ ec;
+      }
+
+  pub sound-is : (dots : ℕ) {b : Bool}
+      → b ≡ isSound r (record { pyramid = take n p; serials = take c s; order = take c o; dots = dots })
+      → b ≡ isSound r (sheetIn r dots p s o)
+  unfolding sheetIn
+  sound-is dots eb = eb ∙ rw (en, ec)
+
+-- ---- the code's way: the lengths are checked first
+module _ {r : ℕ} (small : r ≤ 8) (p : List ℤ) (s o : List ℕ) (dots : ℕ) (lengths : Check)
+    (e : checked lengths ≡ advanceRefusal r (length p) (length s) (length o) true) where
   pub lengths-failed : {why : Refusal} → lengths ≡ Failed why
       → checked (Failed why) ≡ advanceRefusal r (length p) (length s) (length o) (isSound r (sheetIn r dots p s o))
   unfolding checked
   lengths-failed {why} failed =
-      number-positive why ∙ sym (lengths-first r (length p) (length s) (length o) (numberOf why - 1) (failed-number lengths e why failed) (isSound r (sheetIn r dots p s o)))
+      number-positive why
+      ∙ sym
+      (lengths-first r (length p) (length s) (length o) (numberOf why - 1) (failed-number lengths e why failed)
+      (isSound r (sheetIn r dots p s o)))
 
   module _ (passed : lengths ≡ Passed) where
-    lent : SheetLent r (length p) (length s) (length o)
-    lent = sheet-lent r (length p) (length s) (length o) true (passed-none lengths e passed) .0
+    pub lengths-passed : SheetLent r (length p) (length s) (length o)
+    lengths-passed = sheet-lent r (length p) (length s) (length o) true (passed-none lengths e passed) .0
 
-    module _ (n : ℕ) (en : n ≡ needed r) where
-      pub pyramid-in : n ≤ length p
-      pyramid-in = omega (arith, lent .pyramid-long)
+    module _ {b : Bool} (eb : b ≡ isSound r (sheetIn r dots p s o)) where
+      pub is-sound : b ≡ true
+          → checked Passed ≡ advanceRefusal r (length p) (length s) (length o) (isSound r (sheetIn r dots p s o))
+      unfolding checked
+      is-sound yes′ = sym (rw (← eb, yes′) (then-sound r (length p) (length s) (length o) lengths-passed true))
 
-      pub pyramid-part : n ≡ length (take n p)
-      pyramid-part = sym (length-take-le n p pyramid-in)
-
-    module _ (c : ℕ) (ec : c ≡ cellCount r) where
-      pub serials-in : c ≤ length s
-      serials-in = omega (arith, lent .serials-long)
-
-      pub order-in : c ≤ length o
-      order-in = omega (arith, lent .order-long)
-
-      pub serials-part : c ≡ length (take c s)
-      serials-part = sym (length-take-le c s serials-in)
-
-      pub order-part : c ≡ length (take c o)
-      order-part = sym (length-take-le c o order-in)
-
-    module _ (n c : ℕ) (en : n ≡ needed r) (ec : c ≡ cellCount r) where
-      pub sound-asked : SoundAsked r (length (take n p)) (length (take c s)) (length (take c o))
-      sound-asked =
-          record {
-            some = lent .power;
-            most = small;
-            whole = sym (pyramid-part n en) ∙ en;
-            cells = sym (serials-part c ec) ∙ ec;
-            places = sym (order-part c ec) ∙ ec;
-          }
-
-      module _ (b : Bool) (eb : b ≡ isSound r (record { pyramid = take n p; serials = take c s; order = take c o; dots = dots })) where
-        sound-is : isSound r (sheetIn r dots p s o) ≡ b
-        unfolding sheetIn
-        sound-is = rw (eb, en, ec)
-
-        pub is-sound : b ≡ true → checked Passed ≡ advanceRefusal r (length p) (length s) (length o) (isSound r (sheetIn r dots p s o))
-        unfolding checked
-        is-sound yes′ = sym (rw (sound-is, yes′) (then-sound r (length p) (length s) (length o) lent true))
-
-        pub is-unsound : b ≡ false → checked (Failed SheetUnsound) ≡ advanceRefusal r (length p) (length s) (length o) (isSound r (sheetIn r dots p s o))
-        unfolding checked numberOf
-        is-unsound no′ = sym (rw (sound-is, no′) (then-sound r (length p) (length s) (length o) lent false))
+      pub is-unsound : b ≡ false → checked (Failed SheetUnsound)
+          ≡ advanceRefusal r (length p) (length s) (length o) (isSound r (sheetIn r dots p s o))
+      unfolding checked numberOf
+      is-unsound no′ = sym (rw (← eb, no′) (then-sound r (length p) (length s) (length o) lengths-passed false))

@@ -8,6 +8,7 @@ ghost use lib.ListN.{length};
 ghost use Rattle.definition.specs.Sound.{isSound};
 ghost use Rattle.definition.specs.Advance.{sheetIn, advanceRefusal};
 ghost use Rattle.checks.specs.Checks.{checked};
+ghost use Rattle.sheet.specs.Sheets.{SheetLent};
 
 // Refusals 1, 3, 4, from the side's power and the lengths lent.
 fn check_lengths(r: usize, pyramid: usize, serials: usize, order: usize) -> Check
@@ -31,23 +32,38 @@ fn check_lengths(r: usize, pyramid: usize, serials: usize, order: usize) -> Chec
     Check::Passed
 }
 
+// Whether the sheet that lies in these buffers is sound.
+pub fn sound_lent(r: usize, dots: u32, pyramid: &[i64], serials: &[u32], order: &[u32]) -> bool
+    requires { ⌜ (r ≤ 8) × SheetLent r (length (now pyramid)) (length (now serials)) (length (now order)) ⌝ }
+    ensures { λ b. ⌜
+        b ≡ isSound r (sheetIn r dots (now (pyramid .entry)) (now (serials .entry)) (now (order .entry)))
+        ⌝ }
+{
+    let needed = sizes::needed(r);
+    let cells = sizes::cell_count(r);
+    sound::is_sound(
+        r,
+        dots,
+        &pyramid[..needed],
+        &serials[..cells],
+        &order[..cells],
+    )
+}
+
 // Refusals 1, 3, 4, 5: the lengths lent, then whether the sheet is sound.
 pub fn check_sheet(r: usize, dots: u32, pyramid: &[i64], serials: &[u32], order: &[u32]) -> Check
     requires { ⌜ r ≤ 8 ⌝ }
-    ensures { λ c. ⌜ checked c ≡ advanceRefusal r (length (now (pyramid .entry))) (length (now (serials .entry))) (length (now (order .entry))) (isSound r (sheetIn r dots (now (pyramid .entry)) (now (serials .entry)) (now (order .entry)))) ⌝ }
+    ensures { λ c. ⌜
+        checked c
+        ≡ advanceRefusal r
+        (length (now (pyramid .entry))) (length (now (serials .entry))) (length (now (order .entry)))
+        (isSound r (sheetIn r dots (now (pyramid .entry)) (now (serials .entry)) (now (order .entry))))
+        ⌝ }
 {
     match check_lengths(r, pyramid.len(), serials.len(), order.len()) {
         Check::Failed(why) => Check::Failed(why),
         Check::Passed => {
-            let needed = sizes::needed(r);
-            let cells = sizes::cell_count(r);
-            if sound::is_sound(
-                r,
-                dots,
-                &pyramid[..needed],
-                &serials[..cells],
-                &order[..cells],
-            ) {
+            if sound_lent(r, dots, pyramid, serials, order) {
                 return Check::Passed;
             }
             Check::Failed(Refusal::SheetUnsound)

@@ -1,6 +1,6 @@
 //! The cases, by kind: every call answered; every call refused; loads; runs of calls with lent parts and damage between
-//! them; sheets that no Load made; noise; the renewal by itself on wrong pyramids; samples one after another; plates
-//! compared, and shelves of plates; texts, and texts of two sides.
+//! them; runs with names; sheets that no Load made; noise; the renewal by itself on wrong pyramids; samples one after
+//! another; plates compared, and shelves of plates; texts, and texts of two sides.
 
 use reference::SIDES;
 
@@ -10,6 +10,7 @@ use crate::runs::{load_case, made_up_case, noise_case, run_case};
 use crate::samples::sample_case;
 use crate::shelves::{compare_case, shelf_case};
 use crate::side_by_side::{Differs, SideBySide};
+use crate::stages::stage_case;
 use crate::texts::{mixed_text_case, text_case};
 use crate::tours::{refusals_case, tour_case};
 
@@ -17,11 +18,12 @@ use crate::tours::{refusals_case, tour_case};
 type Case = fn(&mut Random, &mut SideBySide, u32) -> Result<(), Differs>;
 
 /// The kinds of case, each made at every side by the sweep.
-const KINDS: [Case; 12] = [
+const KINDS: [Case; 13] = [
     tour_case,
     refusals_case,
     load_case,
     run_case,
+    stage_case,
     made_up_case,
     noise_case,
     renewal_case,
@@ -50,7 +52,7 @@ fn random_case(random: &mut Random, calls: &mut SideBySide) -> Result<(), Differ
     let (any, good) = (random.side(), random.good_side());
     let large = random.pick(&[32, 64, 128, 256]);
     let (quick, quick_good) = if random.once_in(200) { (large, large) } else { (any, good) };
-    match random.below(29) {
+    match random.below(31) {
         0..=3 => load_case(random, calls, any),
         4..=9 => run_case(random, calls, good),
         10 | 11 => made_up_case(random, calls, good),
@@ -60,6 +62,7 @@ fn random_case(random: &mut Random, calls: &mut SideBySide) -> Result<(), Differ
         20..=24 => text_case(random, calls, quick_good),
         25 => compare_case(random, calls, any),
         26 | 27 => shelf_case(random, calls, any),
+        28 | 29 => stage_case(random, calls, good),
         _ => mixed_text_case(random, calls, quick_good),
     }
 }

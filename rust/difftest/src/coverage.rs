@@ -1,13 +1,15 @@
-//! Which codes the calls returned at which of the eight sides, and what kinds of comparison and shelf there were.
+//! Which codes the calls returned at which of the eight sides, and what kinds of comparison, shelf, Keep and Restore
+//! there were.
 
 use std::collections::BTreeSet;
 
 use reference::SIDES;
 
-use crate::plate_kinds::{Kind, KINDS};
+use crate::plate_kinds::{self, Kind};
+use crate::stage_kinds;
 
 /// The codes that each call can return at every side: those of its answers, then those of its refusals.
-const CODES: [(&str, &[u32]); 11] = [
+const CODES: [(&str, &[u32]); 13] = [
     ("load", &[0, 2, 3, 4]),
     ("advance", &[0, 100, 3, 4, 5]),
     ("tally", &[0, 4, 6]),
@@ -18,6 +20,8 @@ const CODES: [(&str, &[u32]); 11] = [
     ("sample", &[0, 2]),
     ("compare", &[102, 103, 104, 105, 106, 4]),
     ("shelf", &[0, 4, 8]),
+    ("keep", &[0, 10]),
+    ("restore", &[0, 2, 3, 4, 5, 10]),
     ("renew", &[0, 101]),
 ];
 
@@ -44,8 +48,9 @@ impl Coverage {
         CODES.into_iter().flat_map(of_call).filter(|wanted| !self.seen.contains(wanted)).collect()
     }
 
-    /// The kinds of comparison and shelf that have not been seen.
+    /// The kinds of comparison, shelf, Keep and Restore that have not been seen.
     pub fn missing_kinds(&self) -> Vec<Kind> {
-        KINDS.into_iter().filter(|wanted| !self.kinds.contains(wanted)).collect()
+        let kinds = plate_kinds::KINDS.into_iter().chain(stage_kinds::KINDS);
+        kinds.filter(|wanted| !self.kinds.contains(wanted)).collect()
     }
 }

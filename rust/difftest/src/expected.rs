@@ -1,6 +1,6 @@
 //! The reference's answers in the same form.
 
-use reference::{Compared, Ended, Progress, Refusal};
+use reference::{Checkpoints, Compared, Ended, Progress, Refusal};
 
 use crate::library::Outcome;
 
@@ -82,6 +82,25 @@ pub fn compare(side: u32, left: &[u32], right: &[u32]) -> Outcome {
 
 pub fn shelf(side: u32, n: u32, plates: &[u32], list: &mut [u32]) -> Outcome {
     Outcome { code: code_of(reference::shelf(side, n, plates, list)), values: Vec::new() }
+}
+
+pub fn keep(progress: Progress, checkpoints: Checkpoints, name: u32) -> Outcome {
+    let answer = reference::keep(progress, checkpoints, name);
+    Outcome { code: code_of(answer.status), values: answer.checkpoints.kept.to_vec() }
+}
+
+pub fn restore(
+    progress: Progress,
+    checkpoints: Checkpoints,
+    name: u32,
+    greys: &[u8],
+    pyramid: &mut [i64],
+    serials: &mut [u32],
+    order: &mut [u32],
+) -> Outcome {
+    let answer = reference::restore(progress, checkpoints, name, greys, pyramid, serials, order);
+    let values = [record(answer.progress), answer.checkpoints.kept.to_vec()].concat();
+    Outcome { code: code_of(answer.status), values }
 }
 
 pub fn renew(side: u32, [row, column]: [u32; 2], pyramid: &mut [i64]) -> Outcome {

@@ -1,6 +1,6 @@
 //! The library's calls with their codes, so that what they write on a refusal is compared too.
 
-use reference::Progress;
+use reference::{Checkpoints, Progress};
 use rulmedei::codes;
 
 /// What a call returned, and what it wrote beside the buffers.
@@ -63,6 +63,26 @@ pub fn compare(side: u32, left: &[u32], right: &[u32]) -> Outcome {
 
 pub fn shelf(side: u32, n: u32, plates: &[u32], list: &mut [u32]) -> Outcome {
     Outcome { code: codes::shelf(side, n, plates, list), values: Vec::new() }
+}
+
+pub fn keep(progress: Progress, checkpoints: Checkpoints, name: u32) -> Outcome {
+    let (code, after) = codes::keep(ours(progress), rulmedei::Checkpoints { kept: checkpoints.kept }, name);
+    Outcome { code, values: after.kept.to_vec() }
+}
+
+/// The value stands behind the record, so that it is seen to stay.
+pub fn restore(
+    progress: Progress,
+    checkpoints: Checkpoints,
+    name: u32,
+    greys: &[u8],
+    pyramid: &mut [i64],
+    serials: &mut [u32],
+    order: &mut [u32],
+) -> Outcome {
+    let value = rulmedei::Checkpoints { kept: checkpoints.kept };
+    let (code, after) = codes::restore(ours(progress), &value, name, greys, pyramid, serials, order);
+    Outcome { code, values: [&[after.side.into(), after.dots.into()], &value.kept[..]].concat() }
 }
 
 pub fn renew(side: u32, [row, column]: [u32; 2], pyramid: &mut [i64]) -> Outcome {

@@ -13,6 +13,8 @@ mod runs;
 mod samples;
 mod shelves;
 mod side_by_side;
+mod stage_kinds;
+mod stages;
 mod texts;
 mod tours;
 mod vectors;
@@ -23,8 +25,8 @@ use coverage::Coverage;
 use random::Random;
 use side_by_side::SideBySide;
 
-/// Within so many cases every call has returned each of its codes at every side, and there was every kind of comparison
-/// and shelf.
+/// Within so many cases every call has returned each of its codes at every side, and there was every kind of
+/// comparison, shelf, Keep and Restore.
 const COVERED: u64 = 1000;
 
 fn main() -> ExitCode {
@@ -81,10 +83,8 @@ fn compare_cases(cases: u64, seed: u64) -> Result<String, String> {
         println!("{call},{code},{count}");
     }
     let [codes, kinds] = [codes, kinds].map(|covered| covered.unwrap_or(cases));
-    println!(
-        "each of the eleven calls was answered, and gave each of its refusals, at all eight sides within {codes} cases"
-    );
-    println!("every kind of comparison and shelf was met within {kinds} cases");
+    println!("each of the thirteen calls was answered, and gave each refusal, at all eight sides within {codes} cases");
+    println!("every kind of comparison, shelf, Keep and Restore was met within {kinds} cases");
     Ok(format!("{} calls compared in {cases} cases of seed {seed}, no difference", calls.total()))
 }
 
@@ -94,5 +94,5 @@ fn covered(coverage: &Coverage) -> Result<(), String> {
     if codes.is_empty() && kinds.is_empty() {
         return Ok(());
     }
-    Err(format!("not seen within {COVERED} cases (call, side, code): {codes:?}; of comparisons and shelves: {kinds:?}"))
+    Err(format!("not seen within {COVERED} cases (call, side, code): {codes:?}; of the kinds: {kinds:?}"))
 }

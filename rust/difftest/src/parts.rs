@@ -1,6 +1,6 @@
-//! What is lent to calls: sheets, greys and parts of them, blocks, levels and budgets, drawn for a side.
+//! What is lent to calls: sheets, greys and parts of them, damage, blocks, levels and budgets, drawn for a side.
 
-use reference::{cell_count, power, pyramid_length};
+use reference::{cell_count, power, pyramid_length, Progress};
 
 use crate::random::Random;
 use crate::side_by_side::{Lent, Sheet};
@@ -52,6 +52,26 @@ pub fn lent(random: &mut Random, side: u32, sheet: &Sheet) -> Lent {
     }
 }
 
+/// Makes one bit of a sheet, or the record, another.
+pub fn damage(random: &mut Random, progress: &mut Progress, sheet: &mut Sheet) {
+    match random.below(8) {
+        0 => progress.side = random.side(),
+        1 => progress.dots = progress.dots.wrapping_add(random.pick(&[1, u32::MAX, 2, 1 << 31])),
+        2..=4 => {
+            let place = random.below(sheet.pyramid.len());
+            sheet.pyramid[place] ^= 1 << random.below(64);
+        }
+        5 | 6 => {
+            let place = random.below(sheet.serials.len());
+            sheet.serials[place] ^= 1 << random.below(32);
+        }
+        _ => {
+            let place = random.below(sheet.order.len());
+            sheet.order[place] ^= 1 << random.below(32);
+        }
+    }
+}
+
 /// Greys of one kind or another.
 pub fn greys(random: &mut Random, count: usize) -> Vec<u8> {
     let flat = random.next() as u8;
@@ -68,6 +88,12 @@ pub fn greys(random: &mut Random, count: usize) -> Vec<u8> {
 pub fn lent_greys<'a>(random: &mut Random, side: u32, greys: &'a [u8]) -> &'a [u8] {
     let length = if random.once_in(4) { random.length(needed(side).0) } else { greys.len() };
     &greys[..length.min(greys.len())]
+}
+
+/// The holes of the finished map.
+pub fn total(greys: &[u8]) -> u64 {
+    let sum: u64 = greys.iter().map(|grey| u64::from(*grey)).sum();
+    (2 * sum + 255) / 510
 }
 
 /// A budget. On large sides it is mostly of some dozens of holes, and on the two largest never of more, which would

@@ -33,7 +33,7 @@ pub const KINDS: [Kind; 20] = [
 ];
 
 /// The kinds of which this is true.
-fn true_ones<const N: usize>(kinds: [(Kind, bool); N]) -> Vec<Kind> {
+pub fn true_ones<const N: usize>(kinds: [(Kind, bool); N]) -> Vec<Kind> {
     kinds.into_iter().filter_map(|(kind, is_so)| is_so.then_some(kind)).collect()
 }
 

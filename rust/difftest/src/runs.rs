@@ -3,7 +3,7 @@
 use reference::{renew_all, Progress};
 use rulmedei::page_length;
 
-use crate::parts::{blank, block, budget, greys, last_level, lent, lent_greys, level, needed, noise, whole};
+use crate::parts::{blank, block, budget, damage, greys, last_level, lent, lent_greys, level, needed, noise, whole};
 use crate::random::Random;
 use crate::side_by_side::{Differs, Lent, Sheet, SideBySide};
 
@@ -91,22 +91,7 @@ fn on_damage(
 ) -> Result<(), Differs> {
     let mut damaged = sheet.clone();
     let mut progress = progress;
-    match random.below(8) {
-        0 => progress.side = random.side(),
-        1 => progress.dots = progress.dots.wrapping_add(random.pick(&[1, u32::MAX, 2, 1 << 31])),
-        2..=4 => {
-            let place = random.below(damaged.pyramid.len());
-            damaged.pyramid[place] ^= 1 << random.below(64);
-        }
-        5 | 6 => {
-            let place = random.below(damaged.serials.len());
-            damaged.serials[place] ^= 1 << random.below(32);
-        }
-        _ => {
-            let place = random.below(damaged.order.len());
-            damaged.order[place] ^= 1 << random.below(32);
-        }
-    }
+    damage(random, &mut progress, &mut damaged);
     if random.once_in(3) {
         return list(random, calls, progress, &damaged, lent);
     }

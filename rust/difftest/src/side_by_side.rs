@@ -4,12 +4,13 @@
 use std::collections::BTreeMap;
 use std::fmt::Debug;
 
-use reference::Progress;
+use reference::{Checkpoints, Progress};
 
 use crate::coverage::Coverage;
 use crate::expected;
 use crate::library::{self, Outcome};
 use crate::plate_kinds;
+use crate::stage_kinds;
 
 /// The three buffers of a sheet, whole.
 #[derive(Debug, Clone, PartialEq, Eq)]
@@ -193,6 +194,57 @@ impl SideBySide {
             self.coverage.note_kinds(plate_kinds::of_shelf(side, n, plates, &list[..lent], ours.code));
         }
         self.counted("shelf", side, ours)
+    }
+
+    /// Keep, which changes the value.
+    pub fn keep(&mut self, progress: Progress, checkpoints: &mut Checkpoints, name: u32) -> Result<Outcome, Differs> {
+        let before = *checkpoints;
+        let ours = library::keep(progress, before, name);
+        let theirs = expected::keep(progress, before, name);
+        self.agreed("keep", &(progress, before, name), &ours, &theirs)?;
+        checkpoints.kept.copy_from_slice(&ours.values);
+        if !self.coverage.missing_kinds().is_empty() {
+            self.coverage.note_kinds(stage_kinds::of_keep(progress, before, name, ours.code));
+        }
+        self.counted("keep", progress.side, ours)
+    }
+
+    pub fn restore(
+        &mut self,
+        progress: Progress,
+        checkpoints: Checkpoints,
+        name: u32,
+        greys: &[u8],
+        sheet: &mut Sheet,
+        lent: Lent,
+    ) -> Result<Outcome, Differs> {
+        let before = sheet.clone();
+        let mut other = sheet.clone();
+        let ours = library::restore(
+            progress,
+            checkpoints,
+            name,
+            greys,
+            &mut sheet.pyramid[..lent.pyramid],
+            &mut sheet.serials[..lent.serials],
+            &mut sheet.order[..lent.order],
+        );
+        let theirs = expected::restore(
+            progress,
+            checkpoints,
+            name,
+            greys,
+            &mut other.pyramid[..lent.pyramid],
+            &mut other.serials[..lent.serials],
+            &mut other.order[..lent.order],
+        );
+        let inputs = (progress, checkpoints, name, greys, &before, lent);
+        self.agreed("restore", &inputs, (&ours, &*sheet), (&theirs, &other))?;
+        if !self.coverage.missing_kinds().is_empty() {
+            let top = before.pyramid.first().copied();
+            self.coverage.note_kinds(stage_kinds::of_restore(progress, checkpoints, name, greys, top, ours.code));
+        }
+        self.counted("restore", progress.side, ours)
     }
 
     pub fn renew(&mut self, side: u32, cell: [u32; 2], pyramid: &mut [i64], lent: usize) -> Result<Outcome, Differs> {

@@ -8,10 +8,11 @@ use crate::parts::{blank, last_level, needed, square, whole};
 use crate::random::Random;
 use crate::shelves::{plates_tour, refused_plates};
 use crate::side_by_side::{Differs, Lent, Sheet, SideBySide};
+use crate::stages::{refused_stages, stages_tour};
 
 /// A sample of at least two holes, its text read, the map loaded and run to its end in three calls, with Levels and
-/// Drill List after each. Then Tally and Quote Page at every level, Compare and Shelf on the plate and others, and the
-/// renewal of sums of which the top is wrong.
+/// Drill List after each. Then Tally and Quote Page at every level, Compare and Shelf on the plate and others, Keep and
+/// Restore, and the renewal of sums of which the top is wrong.
 pub fn tour_case(random: &mut Random, calls: &mut SideBySide, side: u32) -> Result<(), Differs> {
     let greys = sampled(random, calls, side)?;
     let mut read = vec![9; greys.len()];
@@ -27,6 +28,7 @@ pub fn tour_case(random: &mut Random, calls: &mut SideBySide, side: u32) -> Resu
     }
     every_level(random, calls, side, &greys, &sheet.serials)?;
     plates_tour(random, calls, side, &sheet.serials)?;
+    stages_tour(calls, progress, &greys, &sheet)?;
     sheet.pyramid[0] += 1 + random.below(1000) as i64;
     let cell = [random.below(side as usize) as u32, random.below(side as usize) as u32];
     calls.renew(side, cell, &mut sheet.pyramid, all.pyramid)?;
@@ -71,6 +73,7 @@ pub fn refusals_case(random: &mut Random, calls: &mut SideBySide, side: u32) -> 
     refused_looks(random, calls, side, &greys, &sheet.serials)?;
     refused_lists(calls, progress, &sheet)?;
     refused_plates(calls, side, &sheet.serials)?;
+    refused_stages(random, calls, progress, &greys, &mut sheet)?;
     refused_for_damage(random, calls, progress, &sheet)?;
     refused_texts(random, calls, side, &greys)
 }

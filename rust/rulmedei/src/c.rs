@@ -1,5 +1,5 @@
 //! The functions of `include/rulmedei.h`. A slice is two arguments: a pointer to its first element, then the number of
-//! its elements.
+//! its elements. The eight counts of names are one, a pointer to all of them.
 
 extern "C" {
     pub fn rulmedei_load(
@@ -103,6 +103,24 @@ extern "C" {
         plates_length: usize,
         list: *mut u32,
         list_length: usize,
+    ) -> u32;
+
+    pub fn rulmedei_keep(side: u32, dots: u32, kept: *mut [u64; 8], name: u32) -> u32;
+
+    pub fn rulmedei_restore(
+        side: u32,
+        dots: u32,
+        kept: *const [u64; 8],
+        name: u32,
+        greys: *const u8,
+        greys_length: usize,
+        pyramid: *mut i64,
+        pyramid_length: usize,
+        serials: *mut u32,
+        serials_length: usize,
+        order: *mut u32,
+        order_length: usize,
+        after: *mut u32,
     ) -> u32;
 
     pub fn rulmedei_renew(side: u32, row: u32, column: u32, pyramid: *mut i64, pyramid_length: usize) -> u32;

@@ -3,7 +3,7 @@
 //! number is 0 or 101.
 
 use crate::c;
-use crate::Progress;
+use crate::{Checkpoints, Progress};
 
 /// What a place for a number holds before a call has written it.
 const UNWRITTEN: u32 = u32::MAX;
@@ -162,6 +162,46 @@ pub fn compare(side: u32, left: &[u32], right: &[u32]) -> (u32, [u32; 2]) {
 pub fn shelf(side: u32, n: u32, plates: &[u32], list: &mut [u32]) -> u32 {
     // SAFETY: each pointer and length is that of a slice.
     unsafe { c::rulmedei_shelf(side, n, plates.as_ptr(), plates.len(), list.as_mut_ptr(), list.len()) }
+}
+
+/// The code, and the counts afterwards.
+pub fn keep(progress: Progress, checkpoints: Checkpoints, name: u32) -> (u32, Checkpoints) {
+    let mut after = checkpoints;
+    // SAFETY: the pointer is a reference to a field of a local.
+    let code = unsafe { c::rulmedei_keep(progress.side, progress.dots, &mut after.kept, name) };
+    (code, after)
+}
+
+/// The code, and the new record.
+pub fn restore(
+    progress: Progress,
+    checkpoints: &Checkpoints,
+    name: u32,
+    greys: &[u8],
+    pyramid: &mut [i64],
+    serials: &mut [u32],
+    order: &mut [u32],
+) -> (u32, Progress) {
+    let mut after = Progress { side: progress.side, dots: UNWRITTEN };
+    // SAFETY: each pointer and length is that of a slice, or the pointer a reference to a field.
+    let code = unsafe {
+        c::rulmedei_restore(
+            progress.side,
+            progress.dots,
+            &checkpoints.kept,
+            name,
+            greys.as_ptr(),
+            greys.len(),
+            pyramid.as_mut_ptr(),
+            pyramid.len(),
+            serials.as_mut_ptr(),
+            serials.len(),
+            order.as_mut_ptr(),
+            order.len(),
+            &mut after.dots,
+        )
+    };
+    (code, after)
 }
 
 /// The code: 0 where it renewed, else 101.

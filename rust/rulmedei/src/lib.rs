@@ -1,11 +1,12 @@
-//! Grey maps to ordered lists of holes: the ten calls of the proved library, on slices that the caller lends. No call
-//! asks anything of its arguments; what doesn't fit is refused, and a refused call leaves every buffer as it was.
+//! Grey maps to ordered lists of holes: the twelve calls of the proved library, on slices that the caller lends. No
+//! call asks anything of its arguments; what doesn't fit is refused, and a refused call leaves every buffer as it was.
 //!
 //! Map Text reads a map, Load fills the buffers, Advance makes holes until it is finished, and Drill List writes them
 //! down (`examples/list.rs`). Tally, Levels and Quote Page look at what was made. Sample makes a map from a seed.
-//! Compare tells which of two plates comes first, and Shelf puts many in order (`examples/shelf.rs`).
+//! Compare tells which of two plates comes first, and Shelf puts many in order (`examples/shelf.rs`). Keep writes down
+//! under a name how far a plate is, and Restore goes back to it.
 //!
-//! Besides the ten there is `renew`, the renewal of sums that Advance does after each hole, by itself.
+//! Besides the twelve there is `renew`, the renewal of sums that Advance does after each hole, by itself.
 
 #[cfg(not(all(target_arch = "x86_64", target_os = "linux")))]
 compile_error!("the proved library is compiled for x86-64 Linux");
@@ -47,6 +48,22 @@ pub enum Compared {
     AfterAt { row: u32, column: u32 },
     /// The right plate has fewer holes.
     After,
+}
+
+/// The counts of holes under the names 1 to 8, beside a sheet. All names are empty at first: `Checkpoints::default()`.
+/// Any value may be handed in.
+#[derive(Clone, Copy, Debug, Default, PartialEq, Eq)]
+pub struct Checkpoints {
+    /// Place i is that of name i + 1: 0 while it is empty, else 1 more than the holes kept, which may be 0.
+    pub kept: [u64; 8],
+}
+
+impl Checkpoints {
+    /// The holes kept under a name; `None` if it is empty, or no name from 1 to 8.
+    pub fn dots(&self, name: u32) -> Option<u64> {
+        let place = name.checked_sub(1)?;
+        self.kept.get(place as usize)?.checked_sub(1)
+    }
 }
 
 /// The length that greys, serials and order need: the cells of a map, N². The side is one of 2, 4, 8 .. 256.
@@ -200,9 +217,53 @@ pub fn shelf(side: u32, n: u32, plates: &[u32], list: &mut [u32]) -> Result<(), 
     did(codes::shelf(side, n, plates, list))
 }
 
-/// The renewal by itself, none of the ten calls: makes each coarser entry over the cell (row, column), or over one of
-/// its up to eight neighbours on the map, the sum of its four entries on the level below, level by level up to the top.
-/// All other entries stay as they are, right or wrong.
+/// Keep: writes the holes of the record down under a name from 1 to 8, over what was kept there, and returns the counts
+/// so changed. No sheet is looked at, and the record may have any number of holes. Refusals: 1, 10.
+pub fn keep(progress: Progress, checkpoints: Checkpoints, name: u32) -> Result<Checkpoints, Refusal> {
+    let (code, after) = codes::keep(progress, checkpoints, name);
+    did(code)?;
+    Ok(after)
+}
+
+/// Restore, the return to a name: makes the sheet what Load makes of the greys, and then Advance with the name's count
+/// of holes as its budget; returns its record. With the greys that were loaded this is the sheet on which the name was
+/// kept, if only Advance, and Restore with these greys, have written to it since the load. The counts all stay, so that
+/// one can go back, and to a later stage forwards again. With other greys the sheet is theirs.
+///
+/// Refusals: 1, 2, 3, 4, 5 (though the sheet is then made anew), 10 (also for an empty name, and for more holes than
+/// the total, (2 × the sum of the N² greys + 255) / 510 rounded down).
+///
+/// ```
+/// use rulmedei::{advance, keep, load, restore, Checkpoints};
+///
+/// let greys = [128; 4];
+/// let (mut pyramid, mut serials, mut order) = ([0; 5], [0; 4], [0; 4]);
+/// let start = load(2, &greys, &mut pyramid, &mut serials, &mut order)?;
+/// let stage = advance(start, 1, &mut pyramid, &mut serials, &mut order)?.progress;
+/// let checkpoints = keep(stage, Checkpoints::default(), 3)?;
+/// let end = advance(stage, u32::MAX, &mut pyramid, &mut serials, &mut order)?.progress;
+/// assert_eq!((end.dots, serials), (2, [1, 0, 0, 2]));
+/// let back = restore(end, checkpoints, 3, &greys, &mut pyramid, &mut serials, &mut order)?;
+/// assert_eq!((back, serials), (stage, [1, 0, 0, 0]));
+/// # Ok::<(), rulmedei::Refusal>(())
+/// ```
+pub fn restore(
+    progress: Progress,
+    checkpoints: Checkpoints,
+    name: u32,
+    greys: &[u8],
+    pyramid: &mut [i64],
+    serials: &mut [u32],
+    order: &mut [u32],
+) -> Result<Progress, Refusal> {
+    let (code, after) = codes::restore(progress, &checkpoints, name, greys, pyramid, serials, order);
+    did(code)?;
+    Ok(after)
+}
+
+/// The renewal by itself, none of the twelve calls: makes each coarser entry over the cell (row, column), or over one
+/// of its up to eight neighbours on the map, the sum of its four entries on the level below, level by level up to the
+/// top. All other entries stay as they are, right or wrong.
 ///
 /// True where it did so: the side is one of the eight, the pyramid is long enough, row and column are below the side,
 /// and each entry of the needed length is from −2^40 to 2^40. Else false, and nothing has changed.

@@ -16,7 +16,7 @@ pub(crate) const AFTER: u32 = 106;
 /// The enum, the list of its cases and their words, from one table of names, numbers and words.
 macro_rules! refusals {
     ($($name:ident = $number:literal: $words:literal,)*) => {
-        /// Why a call says no: document 01's table, row by row.
+        /// Why a call says no: document 01's table, row by row, and document 02's further one.
         #[derive(Clone, Copy, Debug, PartialEq, Eq)]
         pub enum Refusal {
             $(#[doc = $words] $name = $number,)*
@@ -45,10 +45,11 @@ refusals! {
     TextMalformed = 7: "the text does not fit the grammar of map texts",
     OutputShort = 8: "the output is shorter than the list or page, or a shelf's list than n places",
     InputLong = 9: "the input is longer than 4,099 bytes: the program plate only, none of the calls",
+    NameUnknown = 10: "the name is none of 1 to 8; for a return also: empty, or past the map's total",
 }
 
 impl Refusal {
-    /// Document 01's number.
+    /// The papers' number.
     pub fn number(self) -> u32 {
         self as u32
     }
@@ -62,8 +63,8 @@ impl fmt::Display for Refusal {
 
 impl Error for Refusal {}
 
-/// What a code says: 0 that the call did its work, any other the refusal of that number. (Further codes of the ten
-/// calls are 100 of Advance and 102 to 106 of Compare, and no others.)
+/// What a code says: 0 that the call did its work, any other the refusal of that number. (Further codes of the
+/// twelve calls are 100 of Advance and 102 to 106 of Compare, and no others.)
 pub(crate) fn did(code: u32) -> Result<(), Refusal> {
     if code == 0 {
         return Ok(());

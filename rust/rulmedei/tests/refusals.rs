@@ -5,7 +5,7 @@ use rulmedei::Refusal;
 const HEADER: &str = include_str!("../../../include/rulmedei.h");
 const EXAMPLE: &str = include_str!("../../../include/example.c");
 
-const REFUSALS: [Refusal; 9] = [
+const REFUSALS: [Refusal; 10] = [
     Refusal::SideUnknown,
     Refusal::GreysShort,
     Refusal::PyramidShort,
@@ -15,6 +15,7 @@ const REFUSALS: [Refusal; 9] = [
     Refusal::TextMalformed,
     Refusal::OutputShort,
     Refusal::InputLong,
+    Refusal::NameUnknown,
 ];
 
 /// The name, number and words of a line `#define RULMEDEI_NAME number /* words */`, where the number is a refusal's.
@@ -46,14 +47,14 @@ fn the_header_has_the_same_refusals() {
 }
 
 #[test]
-fn the_numbers_are_1_to_9() {
-    assert_eq!(REFUSALS.map(Refusal::number), [1, 2, 3, 4, 5, 6, 7, 8, 9]);
+fn the_numbers_are_1_to_10() {
+    assert_eq!(REFUSALS.map(Refusal::number), [1, 2, 3, 4, 5, 6, 7, 8, 9, 10]);
 }
 
 #[test]
 fn the_example_in_c_has_the_words_of_the_calls_refusals() {
-    for refusal in &REFUSALS[..8] {
-        let entry = format!("[RULMEDEI_{}] = \"{}\",", header_name(*refusal), refusal.words());
+    for refusal in REFUSALS.into_iter().filter(|refusal| *refusal != Refusal::InputLong) {
+        let entry = format!("[RULMEDEI_{}] = \"{}\",", header_name(refusal), refusal.words());
         assert!(EXAMPLE.contains(&entry), "{entry}");
     }
 }

@@ -1,6 +1,6 @@
 -- `sheet::check_sheet`: what the check of the lengths says, told apart, then the test of the sheet.
 use borrow.Author.Needs.{needs}
-use Rattle.sheet.specs.Sheets.{lengths-failed, pyramid-part, serials-part, order-part, sound-asked, is-sound, is-unsound}
+use Rattle.sheet.specs.Sheets.{lengths-failed, lengths-passed, is-sound, is-unsound}
 use Rattle.sheet.proofs.check_sheet.Statement.{statement}
 use Rattle.sheet.proofs.check_sheet.Tie as tie
 
@@ -11,12 +11,7 @@ check-sheet-spec =
     (λ c κs. search needs)
     (λ c. search needs)
     (λ c. search needs)
-    (λ c κs. search needs)
-    (λ c κs. search needs)
-    (λ c. search (pyramid-part, needs))
-    (λ c. search (serials-part, needs))
-    (λ c. search (order-part, needs))
-    (λ c κs. search (sound-asked, needs))
+    (λ c κs. search (lengths-passed, needs))
     (λ c. search (is-sound, needs))
     (λ c. search (lengths-failed, needs))
     (λ c. search (is-unsound, needs)))

@@ -1,0 +1,19 @@
+-- `checkpoints::check_restore`: what Load's check says, told apart, then the last two rows.
+use borrow.Author.Needs.{needs}
+use Rattle.checkpoints.specs.Calls.{first-failed, map-lent, sheet-lent, last-checked}
+use Rattle.checkpoints.proofs.check_restore.Statement.{statement}
+use Rattle.checkpoints.proofs.check_restore.Tie as tie
+
+pub check-restore-spec : {M : Type 1} → statement M
+check-restore-spec =
+    tie.close
+    (tie.spec
+    (λ c κs. search needs)
+    (λ c. search needs)
+    (λ c. search needs)
+    (λ c κs. search (sheet-lent, needs))
+    (λ c κs. search (map-lent, needs))
+    (λ c κs. search needs)
+    (λ c κs. search needs)
+    (λ c. search (first-failed, needs))
+    (λ c. search (last-checked, needs)))

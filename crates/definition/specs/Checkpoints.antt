@@ -1,0 +1,121 @@
+-- Document 02, request 7: names for stages of a map. A value beside the sheet has a count of dots for each of eight
+-- names; Keep writes the record's dots down under a name, and Restore goes back to them. What they answer and leave,
+-- for every record, every value, every name and all lists lent.
+use mathlib.Core.Bool.{Bool, false, not, _&&_}
+use mathlib.Core.List.{List, [], _∷_, _++_}
+use Prim.Native.Nat.{ℕ, zero, suc, _-_}
+use lib.Dec.{leb}
+use lib.ListN.{length, getD, set, drop}
+use lib.IntN.{ℤ}
+use Rattle.definition.specs.Answers.{Said, returned, refused}
+use Rattle.definition.specs.Pyramid.{needed, cellCount}
+use Rattle.definition.specs.Blocks.{greyTotal, totalOf}
+use Rattle.definition.specs.Diffusion.{Kernel}
+use Rattle.definition.specs.Model.{modelStart, steps}
+use Rattle.definition.specs.Sound.{isSound}
+use Rattle.definition.specs.Refusals.{
+  Row,
+  powerOf,
+  sideUnknown,
+  greysShort,
+  pyramidShort,
+  sheetShort,
+  sheetUnsound,
+  lowest,
+}
+use Rattle.definition.specs.Advance.{sheetIn}
+use Rattle.definition.specs.declared.Progress.{Progress}
+use Rattle.definition.specs.declared.Checkpoints.{Checkpoints}
+
+-- the names are 1 to 8
+unfoldable pub isName : ℕ → Bool
+isName name = leb 1 name && leb name 8
+
+-- what stands under a name: 0 while it is empty, and with n dots kept suc n
+unfoldable pub keptAt : Checkpoints → ℕ → ℕ
+keptAt checkpoints name = getD (checkpoints .kept) (name - 1) 0
+
+-- the row of refusal 10: a name that will not do
+abbrev pub nameUnknown : Bool → Row
+nameUnknown known = (10, not known)
+
+-- ---- Keep: the checks 1, then 10
+unfoldable pub keepRefusal : ℕ → ℕ → ℕ
+keepRefusal r name = lowest (sideUnknown r ∷ nameUnknown (isName name) ∷ [])
+
+pub record KeepOutcome : Type 0 where
+  pub progress : Progress
+  pub checkpoints : Checkpoints
+  pub said : Said
+
+-- The record's dots are written down, whatever they are; the other names stay. A refusal gives back record and value.
+unfoldable pub keepOf : Progress → Checkpoints → ℕ → KeepOutcome
+keepOf progress checkpoints name =
+    elim (keepRefusal (powerOf (progress .side)) name) [
+      | zero ↦
+          record {
+            progress = progress;
+            checkpoints = record { kept = set (checkpoints .kept) (name - 1) (suc (progress .dots)) };
+            said = returned [];
+          }
+      | suc n ↦ record { progress = progress; checkpoints = checkpoints; said = refused (suc n) }
+    ]
+
+-- ---- Restore: the request's return to a name
+-- one of the eight names, not empty, with at most as many dots as the map comes to
+unfoldable pub canRestore : Checkpoints → ℕ → ℕ → Bool
+canRestore checkpoints name total =
+    isName name && elim (keptAt checkpoints name) [ zero ↦ false | suc dots ↦ leb dots total ]
+
+-- The checks of Load and Advance, 1, 2, 3, 4, 5, then 10: from the side's power, the lengths lent, whether the sheet is
+-- sound, and whether the name will do
+unfoldable pub restoreRefusal : ℕ → ℕ → ℕ → ℕ → ℕ → Bool → Bool → ℕ
+restoreRefusal r greys pyramid serials order sound known =
+    lowest
+    (sideUnknown r ∷ greysShort r greys ∷ pyramidShort r pyramid ∷ sheetShort r serials ∷ sheetShort r order
+    ∷ sheetUnsound sound ∷ nameUnknown known ∷ [])
+
+pub record RestoreOutcome : Type 0 where
+  pub progress : Progress
+  pub checkpoints : Checkpoints
+  pub said : Said
+  pub pyramid : List ℤ
+  pub serials : List ℕ
+  pub order : List ℕ
+
+-- the sheet that the model of these greys has with so many dots, over the needed lengths of the buffers; the value
+-- stays
+unfoldable pub restored :
+    Kernel → ℕ → ℕ → ℕ → Checkpoints
+    → List ℕ → List ℤ → List ℕ → List ℕ → RestoreOutcome
+restored kernel side r dots checkpoints greys pyramid serials order =
+    let sheet = steps kernel r dots (modelStart r greys) in
+    record {
+      progress = record { side = side; dots = dots };
+      checkpoints = checkpoints;
+      said = returned [];
+      pyramid = sheet .pyramid ++ drop (needed r) pyramid;
+      serials = sheet .serials ++ drop (cellCount r) serials;
+      order = sheet .order ++ drop (cellCount r) order;
+    }
+
+-- A refusal gives back record and value, and leaves every buffer unchanged.
+unfoldable pub restoreOf :
+    Kernel → Progress → Checkpoints → ℕ → List ℕ → List ℤ → List ℕ → List ℕ → RestoreOutcome
+restoreOf kernel progress checkpoints name greys pyramid serials order =
+    let side = progress .side in
+    let r = powerOf side in
+    let sound = isSound r (sheetIn r (progress .dots) pyramid serials order) in
+    let known = canRestore checkpoints name (totalOf (greyTotal r greys)) in
+    elim (restoreRefusal r (length greys) (length pyramid) (length serials) (length order) sound known) [
+      | zero ↦ restored kernel side r (keptAt checkpoints name - 1) checkpoints greys pyramid serials order
+      | suc n ↦
+          record {
+            progress = progress;
+            checkpoints = checkpoints;
+            said = refused (suc n);
+            pyramid = pyramid;
+            serials = serials;
+            order = order;
+          }
+    ]

@@ -1,0 +1,50 @@
+-- `dot_run::run`: after each turn the sheet holds one dot more.
+use Prim.Native.Nat.{_-_}
+use borrow.Author.Needs.{needs}
+use Rattle.dot_run.specs.Running.{
+  Going,
+  begins,
+  same-pyramid,
+  same-serials,
+  same-order,
+  top-in,
+  few,
+  spent,
+  none-due,
+  dot-asked,
+  goes-on,
+}
+use Rattle.dot_run.proofs.run.Statement.{statement}
+use Rattle.dot_run.proofs.run.Tie as tie
+
+abbrev Inv-loop : tie.InvT-loop
+Inv-loop pyramid₀ serials₀ order₀ r dots budget made₀ pyramid serials order made = Going r pyramid₀ serials₀ order₀ dots budget pyramid serials order made
+
+abbrev μ-loop : tie.MeasureT-loop
+μ-loop pyramid₀ serials₀ order₀ r dots budget made₀ pyramid serials order made = budget - made
+
+-- past the test a dot is due
+due : tie.Need-place-dot-requires Inv-loop μ-loop
+due c κs = search (dot-asked, needs)
+
+pub run-spec : {M : Type 1} → statement M
+run-spec =
+    tie.close
+    (tie.spec
+    Inv-loop
+    μ-loop
+    (λ c. search (begins, needs))
+    (λ c. search (top-in, needs))
+    (λ c. search (same-pyramid, needs))
+    (λ c. search (same-serials, needs))
+    (λ c. search (same-order, needs))
+    (λ c. search (none-due, needs))
+    (λ c. search (few, needs))
+    due
+    (λ c. search needs)
+    (λ c. search needs)
+    (λ c. search (goes-on, needs))
+    (λ c. search (same-pyramid, needs))
+    (λ c. search (same-serials, needs))
+    (λ c. search (same-order, needs))
+    (λ c. search (spent, needs)))

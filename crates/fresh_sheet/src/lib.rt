@@ -1,0 +1,64 @@
+// The sheet that a map starts with: the check of what is lent for it, and the filling of the three buffers.
+use checks::Check;
+use definition::Refusal;
+ghost use mathlib.Core.Path.{_≡_};
+ghost use mathlib.Core.List.{_++_};
+ghost use Prim.Native.Nat.{_≤_};
+ghost use lib.ListN.{length, drop, replicate};
+ghost use Rattle.definition.specs.Load.{loadRefusal};
+ghost use Rattle.checks.specs.Checks.{checked};
+ghost use Rattle.fresh_sheet.specs.Filling.{FillLent, Filled};
+
+// Refusals 1, 2, 3, 4, from the side's power and the lengths lent.
+pub fn check_load(r: usize, greys: usize, pyramid: usize, serials: usize, order: usize) -> Check
+    requires { ⌜ r ≤ 8 ⌝ }
+    ensures { λ c. ⌜ checked c ≡ loadRefusal r greys pyramid serials order ⌝ }
+{
+    if r == 0 {
+        return Check::Failed(Refusal::SideUnknown);
+    }
+    let cells = sizes::cell_count(r);
+    let needed = sizes::needed(r);
+    if greys < cells {
+        return Check::Failed(Refusal::GreysShort);
+    }
+    if pyramid < needed {
+        return Check::Failed(Refusal::PyramidShort);
+    }
+    if serials < cells {
+        return Check::Failed(Refusal::SheetShort);
+    }
+    if order < cells {
+        return Check::Failed(Refusal::SheetShort);
+    }
+    Check::Passed
+}
+
+// Sets the first `count` places to 0.
+fn clear(places: &mut [u32], count: usize)
+    requires { ⌜ count ≤ length (now places) ⌝ }
+    ensures { λ _. ⌜ now (places .exit) ≡ replicate count 0 ++ drop count (now (places .entry)) ⌝ }
+{
+    let mut i = 0;
+    while i < count {
+        places[i] = 0;
+        i += 1;
+    }
+}
+
+// Fills the three buffers.
+pub fn fill(r: usize, greys: &[u8], pyramid: &mut [i64], serials: &mut [u32], order: &mut [u32])
+    requires { ⌜
+        FillLent r (length (now greys)) (length (now pyramid)) (length (now serials)) (length (now order))
+        ⌝ }
+    ensures { λ _. ⌜
+        Filled r (now (greys .entry)) (now (pyramid .entry)) (now (serials .entry)) (now (order .entry))
+        (now (pyramid .exit)) (now (serials .exit)) (now (order .exit))
+        ⌝ }
+{
+    let needed = sizes::needed(r);
+    pyramid::fill_pyramid(&mut pyramid[..needed], greys, r);
+    let cells = sizes::cell_count(r);
+    clear(serials, cells);
+    clear(order, cells);
+}

@@ -1,0 +1,4 @@
+pub mod Items
+pub mod Promise
+pub mod OneItem
+pub mod ManyItems

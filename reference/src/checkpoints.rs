@@ -1,0 +1,79 @@
+//! Keep and Restore: document 02's request 7, in other words than its own. Restore is its return to a name.
+
+use crate::answers::{CheckpointAnswer, Checkpoints, Progress, Refusal};
+use crate::calls::{advance, check_load, check_sheet, load};
+use crate::shape::{cell_count, power};
+
+/// Writes the dots of a record down under a name, over what was there. No sheet is looked at, so the dots may be any
+/// number. Refusals: 1, then 10 for the name.
+pub fn keep(progress: Progress, checkpoints: Checkpoints, name: u32) -> CheckpointAnswer {
+    match check_keep(progress.side, name) {
+        Err(refusal) => CheckpointAnswer { progress, checkpoints, status: Err(refusal) },
+        Ok(place) => {
+            let mut checkpoints = checkpoints;
+            checkpoints.kept[place] = u64::from(progress.dots) + 1;
+            CheckpointAnswer { progress, checkpoints, status: Ok(()) }
+        }
+    }
+}
+
+fn check_keep(side: u32, name: u32) -> Result<usize, Refusal> {
+    power(side)?;
+    place_of(name)
+}
+
+/// The place of one of the eight names.
+fn place_of(name: u32) -> Result<usize, Refusal> {
+    match name {
+        1..=8 => Ok(name as usize - 1),
+        _ => Err(Refusal::UnknownName),
+    }
+}
+
+/// Makes the sheet that these greys have after as many dots as the name has: the map is loaded anew, and advanced so
+/// far. Were these greys loaded before, that is the sheet on which the name was kept.
+pub fn restore(
+    progress: Progress,
+    checkpoints: Checkpoints,
+    name: u32,
+    greys: &[u8],
+    pyramid: &mut [i64],
+    serials: &mut [u32],
+    order: &mut [u32],
+) -> CheckpointAnswer {
+    match check_restore(progress, checkpoints, name, greys, pyramid, serials, order) {
+        Err(refusal) => CheckpointAnswer { progress, checkpoints, status: Err(refusal) },
+        Ok(dots) => {
+            let loaded = load(progress.side, greys, pyramid, serials, order);
+            let advanced = advance(loaded.progress, dots, pyramid, serials, order);
+            CheckpointAnswer { progress: advanced.progress, checkpoints, status: Ok(()) }
+        }
+    }
+}
+
+/// The refusals of Load, then those of Advance, then 10 for the name: 1, 2, 3, 4, 5, 10. Gives the name's dots.
+fn check_restore(
+    progress: Progress,
+    checkpoints: Checkpoints,
+    name: u32,
+    greys: &[u8],
+    pyramid: &[i64],
+    serials: &[u32],
+    order: &[u32],
+) -> Result<u32, Refusal> {
+    check_load(progress.side, greys, pyramid, serials, order)?;
+    check_sheet(progress, pyramid, serials, order)?;
+    let count = checkpoints.kept[place_of(name)?];
+    let dots = count.checked_sub(1).ok_or(Refusal::UnknownName)?;
+    if dots > total(&greys[..cell_count(progress.side)]) {
+        return Err(Refusal::UnknownName);
+    }
+    // at most one for each cell
+    Ok(dots as u32)
+}
+
+/// The map's total, the dots of its finished plate: the grey sum over 255, to the nearest number.
+fn total(greys: &[u8]) -> u64 {
+    let grey_sum: u64 = greys.iter().map(|grey| u64::from(*grey)).sum();
+    (2 * grey_sum + 255) / 510
+}
