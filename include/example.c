@@ -1,5 +1,5 @@
 /*
- * Reads a map text on standard input and prints its drill list. From the repository's top:
+ * Reads a map text on standard input and prints its drill list, on plain cloth. From the repository's top:
  *
  *     rt staticlib rulmedei
  *     gcc -std=c99 -Wall -Wextra -Werror -Iinclude include/example.c target/staticlib/librulmedei.a -o target/example
@@ -30,6 +30,7 @@ static const char *const words[] = {
     [RULMEDEI_TEXT_MALFORMED] = "the text does not fit the grammar of map texts",
     [RULMEDEI_OUTPUT_SHORT] = "the output is shorter than the list or page, or a shelf's list than n places",
     [RULMEDEI_NAME_UNKNOWN] = "the name is none of 1 to 8; for a return also: empty, or past the map's total",
+    [RULMEDEI_KNIT_UNKNOWN] = "the knit is neither 0 nor 1",
 };
 
 /* one byte more than the longest text, so that a longer one is seen to be none */
@@ -40,23 +41,27 @@ static uint32_t serials[CELLS];
 static uint32_t order[CELLS];
 static uint8_t list[LIST];
 
-static uint32_t load_text(size_t text_length, uint32_t *side, uint32_t *dots)
+/* the record, which goes from call to call */
+static uint32_t side, dots, knit;
+
+static uint32_t load_text(size_t text_length)
 {
     uint32_t read = 0;
     uint32_t code = rulmedei_map_text(text, text_length, greys, CELLS, &read);
     if (code != RULMEDEI_DONE)
         return code;
-    return rulmedei_load(read, greys, CELLS, pyramid, PYRAMID, serials, CELLS, order, CELLS, side, dots);
+    return rulmedei_load(read, RULMEDEI_PLAIN, greys, CELLS, pyramid, PYRAMID, serials, CELLS, order, CELLS, &side,
+                         &dots, &knit);
 }
 
 /* a thousand holes at a time */
-static uint32_t run(uint32_t side, uint32_t *dots)
+static uint32_t run(void)
 {
     uint32_t code = RULMEDEI_MORE;
     while (code == RULMEDEI_MORE) {
         uint32_t after = 0, made = 0;
-        code = rulmedei_advance(side, *dots, 1000, pyramid, PYRAMID, serials, CELLS, order, CELLS, &after, &made);
-        *dots = after;
+        code = rulmedei_advance(side, dots, knit, 1000, pyramid, PYRAMID, serials, CELLS, order, CELLS, &after, &made);
+        dots = after;
     }
     return code;
 }
@@ -64,12 +69,12 @@ static uint32_t run(uint32_t side, uint32_t *dots)
 /* the list of the text, whole */
 static uint32_t list_of(size_t text_length, size_t *length)
 {
-    uint32_t side = 0, dots = 0;
-    uint32_t code = load_text(text_length, &side, &dots);
+    uint32_t code = load_text(text_length);
     if (code == RULMEDEI_DONE)
-        code = run(side, &dots);
+        code = run();
     if (code == RULMEDEI_DONE)
-        code = rulmedei_drill_list(side, dots, pyramid, PYRAMID, serials, CELLS, order, CELLS, list, LIST, length);
+        code = rulmedei_drill_list(side, dots, knit, pyramid, PYRAMID, serials, CELLS, order, CELLS, list, LIST,
+                                   length);
     return code;
 }
 

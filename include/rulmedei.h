@@ -32,9 +32,10 @@ extern "C" {
 /*
  * What a call returns: RULMEDEI_DONE, for rulmedei_advance also RULMEDEI_MORE, or the number of a refusal; for
  * rulmedei_compare in place of RULMEDEI_DONE one of the five from RULMEDEI_BEFORE to RULMEDEI_AFTER. A refused call
- * leaves pyramid, serials, order, greys, out, list and kept as they were. Of several refusals the one with the lowest
- * number is told; rulmedei_map_text has an order of its own. rulmedei_renew, which is none of the twelve calls, has no
- * refusal numbers: it returns RULMEDEI_DONE or RULMEDEI_NOT_RENEWED.
+ * leaves pyramid, serials, order, greys, out, list and kept as they were. Below, each call has its refusals in the
+ * order in which it looks for them, and of several the first is told. That is by rising number, but for 11, which comes
+ * directly after 1; rulmedei_map_text has an order of its own. rulmedei_renew, which is none of the twelve calls, has
+ * no refusal numbers: it returns RULMEDEI_DONE or RULMEDEI_NOT_RENEWED.
  */
 #define RULMEDEI_DONE 0
 #define RULMEDEI_MORE 100         /* rulmedei_advance: further holes are due */
@@ -54,6 +55,21 @@ extern "C" {
 #define RULMEDEI_OUTPUT_SHORT 8   /* the output is shorter than the list or page, or a shelf's list than n places */
 #define RULMEDEI_INPUT_LONG 9     /* the input is longer than 4,099 bytes: the program plate only, none of the calls */
 #define RULMEDEI_NAME_UNKNOWN 10  /* the name is none of 1 to 8; for a return also: empty, or past the map's total */
+#define RULMEDEI_KNIT_UNKNOWN 11  /* the knit is neither 0 nor 1 */
+
+/*
+ * The knits of the cloth. A hole is mostly more than its cell asks for, and the rest is taken from the cells around it:
+ * on plain cloth from all of them, from those above, below and beside it twice as much as from those at its corners; on
+ * ribbed cloth from those above, below and beside it alone, from each as much. A part is a whole number, less than one
+ * off.
+ */
+#define RULMEDEI_PLAIN 0
+#define RULMEDEI_RIBBED 1
+
+/*
+ * The record of a sheet is three numbers, always in this order: its side, its holes (dots) and its knit. Load makes it,
+ * and it goes on from call to call.
+ */
 
 /*
  * The lengths that a map of side N needs, in elements: N * N for greys, serials and order, and (4 * N * N - 1) / 3 for
@@ -75,22 +91,25 @@ extern "C" {
 #define RULMEDEI_LIST(n) (14 * (RULMEDEI_CELLS(n) + 1))
 
 /*
- * Load: fills the pyramid from the greys (by row, then column) and sets the cells of serials and order to 0. The record
- * is written to progress_side and progress_dots: the side and 0 holes, or 0 and 0 where it refuses.
- * Refusals: 1, 2, 3, 4.
+ * Load: fills the pyramid from the greys (by row, then column) and sets the cells of serials and order to 0; the knit
+ * plays no part in this. The record is written to progress_side, progress_dots and progress_knit: the side, 0 holes and
+ * the knit, or 0, 0 and 0 where it refuses. Refusals: 1, 11, 2, 3, 4.
  */
 uint32_t rulmedei_load(uint32_t side,
+                       uint32_t knit,
                        const uint8_t *greys, size_t greys_length,
                        int64_t *pyramid, size_t pyramid_length,
                        uint32_t *serials, size_t serials_length,
                        uint32_t *order, size_t order_length,
                        uint32_t *progress_side,
-                       uint32_t *progress_dots);
+                       uint32_t *progress_dots,
+                       uint32_t *progress_knit);
 
 /*
- * Advance: makes the holes that are due, at most `budget` of them, from the record (side, dots) that the call before
- * returned, on the same buffers. The holes so far are written to after and those of this call to made; the side stays.
- * RULMEDEI_DONE says that none are due any more. A refused call writes `dots` and 0. Refusals: 1, 3, 4, 5.
+ * Advance: makes the holes that are due, at most `budget` of them, from the record (side, dots, knit) that the call
+ * before returned, on the same buffers. The holes so far are written to after and those of this call to made; the side
+ * and the knit stay. RULMEDEI_DONE says that none are due any more. A refused call writes `dots` and 0.
+ * Refusals: 1, 11, 3, 4, 5.
  *
  * A hole goes down from the whole map to the quarter that asks for most, again and again. Of equal quarters a hole with
  * an odd serial takes the first by row then column, and one with an even serial the last. A sheet that was loaded when
@@ -98,6 +117,7 @@ uint32_t rulmedei_load(uint32_t side,
  */
 uint32_t rulmedei_advance(uint32_t side,
                           uint32_t dots,
+                          uint32_t knit,
                           uint32_t budget,
                           int64_t *pyramid, size_t pyramid_length,
                           uint32_t *serials, size_t serials_length,
@@ -138,10 +158,12 @@ uint32_t rulmedei_map_text(const uint8_t *text, size_t text_length,
 /*
  * Drill List: writes the number of holes and the side on a first line, and then the serial, row and column of each
  * hole, a line for each as they were made; commas part the numbers. The number of bytes is written to length, 0 where
- * it refuses. Bytes past the list stay. No zero byte ends it. Refusals: 1, 3, 4, 5, 8.
+ * it refuses. Bytes past the list stay. No zero byte ends it. The list is the same for either knit.
+ * Refusals: 1, 11, 3, 4, 5, 8.
  */
 uint32_t rulmedei_drill_list(uint32_t side,
                              uint32_t dots,
+                             uint32_t knit,
                              const int64_t *pyramid, size_t pyramid_length,
                              const uint32_t *serials, size_t serials_length,
                              const uint32_t *order, size_t order_length,
@@ -207,31 +229,34 @@ uint32_t rulmedei_shelf(uint32_t side,
                         uint32_t *list, size_t list_length);
 
 /*
- * Keep: writes down under a name, 1 to 8, how many holes the record (side, dots) has. The counts of the eight names
- * stand in kept, which the caller holds beside the sheet: at place i is that of name i + 1, 0 while the name is empty,
- * and else 1 more than its holes, which may be 0. At first all eight places are 0. Only the name's place becomes
- * another, whatever was there. No sheet is looked at: dots may be any number, and so may each place of kept.
- * Refusals: 1, 10.
+ * Keep: writes down under a name, 1 to 8, how many holes the record (side, dots, knit) has. The counts of the eight
+ * names stand in kept, which the caller holds beside the sheet: at place i is that of name i + 1, 0 while the name is
+ * empty, and else 1 more than its holes, which may be 0. At first all eight places are 0. Only the name's place becomes
+ * another, whatever was there. Neither a sheet nor the knit is looked at: dots and knit may be any numbers, and so may
+ * each place of kept. Refusals: 1, 10.
  */
 uint32_t rulmedei_keep(uint32_t side,
                        uint32_t dots,
+                       uint32_t knit,
                        uint64_t kept[8],
                        uint32_t name);
 
 /*
  * Restore, the return to a name: makes pyramid, serials and order what Load makes of the greys, and then Advance with
- * the name's count of holes as its budget. These holes are written to after; the side stays. A refused call writes
- * `dots`.
+ * the name's count of holes as its budget, on the knit given. These holes are written to after; the side and the knit
+ * stay. A refused call writes `dots`.
  *
- * With the greys that were loaded this is the sheet on which the name was kept, if only Advance, and Restore with these
- * greys, have written to it since the load. The counts all stay, so that one can go back, and to a later stage forwards
- * again. Other greys will do as well: the sheet is then theirs.
+ * With the greys and the knit that were loaded this is the sheet on which the name was kept, if only Advance, and
+ * Restore with these greys, have written to it since the load, all with that knit. The counts all stay, so that one can
+ * go back, and to a later stage forwards again. Other greys will do as well, and the other knit: the sheet is then
+ * theirs.
  *
- * Refusals: 1, 2, 3, 4, 5 (though the sheet is then made anew), 10 (no name from 1 to 8, an empty one, or more holes
- * than the map's total, (2 * G + 255) / 510 rounded down, where G is the sum of the N * N greys).
+ * Refusals: 1, 11, 2, 3, 4, 5 (though the sheet is then made anew), 10 (no name from 1 to 8, an empty one, or more
+ * holes than the map's total, (2 * G + 255) / 510 rounded down, where G is the sum of the N * N greys).
  */
 uint32_t rulmedei_restore(uint32_t side,
                           uint32_t dots,
+                          uint32_t knit,
                           const uint64_t kept[8],
                           uint32_t name,
                           const uint8_t *greys, size_t greys_length,

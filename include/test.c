@@ -1,7 +1,8 @@
 /*
- * The test of the header and of the library behind it: numbers, lengths and types, and every call for all eight sides
- * on parts of just the needed length, and of one place less. Beside each part lie guards, which must stay as they are.
- * With an argument there are no guards, so that valgrind sees the first access beside a part. rust/test runs both.
+ * The test of the header and of the library behind it: numbers, lengths and types, and every call for all eight sides,
+ * those that look at the knit on plain cloth and on ribbed, on parts of just the needed length, and of one place less.
+ * Beside each part lie guards, which must stay as they are. With an argument there are no guards, so that valgrind sees
+ * the first access beside a part. rust/test runs both.
  */
 #include <stdio.h>
 #include <stdlib.h>
@@ -10,16 +11,16 @@
 #include "rulmedei.h"
 
 /* The exact types. The calls below are made through these. */
-static uint32_t (*const load)(uint32_t, const uint8_t *, size_t, int64_t *, size_t, uint32_t *, size_t, uint32_t *,
-                              size_t, uint32_t *, uint32_t *) = rulmedei_load;
-static uint32_t (*const advance)(uint32_t, uint32_t, uint32_t, int64_t *, size_t, uint32_t *, size_t, uint32_t *,
-                                 size_t, uint32_t *, uint32_t *) = rulmedei_advance;
+static uint32_t (*const load)(uint32_t, uint32_t, const uint8_t *, size_t, int64_t *, size_t, uint32_t *, size_t,
+                              uint32_t *, size_t, uint32_t *, uint32_t *, uint32_t *) = rulmedei_load;
+static uint32_t (*const advance)(uint32_t, uint32_t, uint32_t, uint32_t, int64_t *, size_t, uint32_t *, size_t,
+                                 uint32_t *, size_t, uint32_t *, uint32_t *) = rulmedei_advance;
 static uint32_t (*const tally)(uint32_t, const uint32_t *, size_t, uint32_t, uint32_t, uint32_t,
                                uint32_t *) = rulmedei_tally;
 static uint32_t (*const levels)(uint32_t, const uint8_t *, size_t, const uint32_t *, size_t, uint64_t *,
                                 size_t) = rulmedei_levels;
 static uint32_t (*const map_text)(const uint8_t *, size_t, uint8_t *, size_t, uint32_t *) = rulmedei_map_text;
-static uint32_t (*const drill_list)(uint32_t, uint32_t, const int64_t *, size_t, const uint32_t *, size_t,
+static uint32_t (*const drill_list)(uint32_t, uint32_t, uint32_t, const int64_t *, size_t, const uint32_t *, size_t,
                                     const uint32_t *, size_t, uint8_t *, size_t, size_t *) = rulmedei_drill_list;
 static uint32_t (*const quote_page)(uint32_t, const uint8_t *, size_t, const uint32_t *, size_t, uint32_t, uint8_t *,
                                     size_t, size_t *) = rulmedei_quote_page;
@@ -27,9 +28,10 @@ static uint32_t (*const sample)(uint32_t, uint32_t, uint8_t *, size_t, uint32_t 
 static uint32_t (*const compare)(uint32_t, const uint32_t *, size_t, const uint32_t *, size_t, uint32_t *,
                                  uint32_t *) = rulmedei_compare;
 static uint32_t (*const shelf)(uint32_t, uint32_t, const uint32_t *, size_t, uint32_t *, size_t) = rulmedei_shelf;
-static uint32_t (*const keep_name)(uint32_t, uint32_t, uint64_t *, uint32_t) = rulmedei_keep;
-static uint32_t (*const restore)(uint32_t, uint32_t, const uint64_t *, uint32_t, const uint8_t *, size_t, int64_t *,
-                                 size_t, uint32_t *, size_t, uint32_t *, size_t, uint32_t *) = rulmedei_restore;
+static uint32_t (*const keep_name)(uint32_t, uint32_t, uint32_t, uint64_t *, uint32_t) = rulmedei_keep;
+static uint32_t (*const restore)(uint32_t, uint32_t, uint32_t, const uint64_t *, uint32_t, const uint8_t *, size_t,
+                                 int64_t *, size_t, uint32_t *, size_t, uint32_t *, size_t,
+                                 uint32_t *) = rulmedei_restore;
 static uint32_t (*const renew)(uint32_t, uint32_t, uint32_t, int64_t *, size_t) = rulmedei_renew;
 
 static unsigned long checks, failures;
@@ -110,15 +112,15 @@ static int as_kept(const struct part *part)
     return memcmp(part->kept, part->memory, part->bytes) == 0;
 }
 
-/* A map with the parts of its side, and the holes made so far. */
+/* A map with the parts of its side, the knit of its cloth, and the holes made so far. */
 struct map {
-    uint32_t side, power, dots;
+    uint32_t side, power, dots, knit;
     struct part greys, pyramid, serials, order;
 };
 
-static struct map map_of(uint32_t side)
+static struct map map_of(uint32_t side, uint32_t knit)
 {
-    struct map m = {.side = side, .dots = 0, .power = 0};
+    struct map m = {.side = side, .dots = 0, .power = 0, .knit = knit};
     while (1u << m.power < side)
         m.power++;
     m.greys = part_of(RULMEDEI_CELLS(side), sizeof(uint8_t));
@@ -170,22 +172,34 @@ static const struct less less_greys = {1, 0, 0, 0}, less_pyramid = {0, 1, 0, 0};
 static const struct less less_serials = {0, 0, 1, 0}, less_order = {0, 0, 0, 1};
 
 /* What the last call wrote beside its parts. */
-static uint32_t first, second;
+static uint32_t first, second, third;
 static size_t length;
 
-static uint32_t load_map(struct map *m, uint32_t side, struct less less)
+static uint32_t load_map(struct map *m, uint32_t side, uint32_t knit, struct less less)
 {
-    first = second = 77;
-    return load(side, m->greys.places, m->greys.count - less.greys, m->pyramid.places, m->pyramid.count - less.pyramid,
-                m->serials.places, m->serials.count - less.serials, m->order.places, m->order.count - less.order,
-                &first, &second);
+    first = second = third = 77;
+    return load(side, knit, m->greys.places, m->greys.count - less.greys, m->pyramid.places,
+                m->pyramid.count - less.pyramid, m->serials.places, m->serials.count - less.serials, m->order.places,
+                m->order.count - less.order, &first, &second, &third);
 }
 
-static uint32_t advance_map(struct map *m, uint32_t side, uint32_t dots, uint32_t budget, struct less less)
+/* The record that a call is given. */
+struct record {
+    uint32_t side, dots, knit;
+};
+
+static struct record record_of(const struct map *m, uint32_t dots)
+{
+    struct record r = {m->side, dots, m->knit};
+    return r;
+}
+
+static uint32_t advance_map(struct map *m, struct record r, uint32_t budget, struct less less)
 {
     first = second = 77;
-    return advance(side, dots, budget, m->pyramid.places, m->pyramid.count - less.pyramid, m->serials.places,
-                   m->serials.count - less.serials, m->order.places, m->order.count - less.order, &first, &second);
+    return advance(r.side, r.dots, r.knit, budget, m->pyramid.places, m->pyramid.count - less.pyramid,
+                   m->serials.places, m->serials.count - less.serials, m->order.places, m->order.count - less.order,
+                   &first, &second);
 }
 
 static uint32_t tally_map(struct map *m, uint32_t side, uint32_t level, uint32_t row, uint32_t column, struct less less)
@@ -200,10 +214,10 @@ static uint32_t levels_map(struct map *m, uint32_t side, struct part *sums, stru
                   m->serials.count - less.serials, sums->places, sums->count);
 }
 
-static uint32_t list_map(struct map *m, uint32_t side, uint32_t dots, struct part *out, size_t room, struct less less)
+static uint32_t list_map(struct map *m, struct record r, struct part *out, size_t room, struct less less)
 {
     length = 77;
-    return drill_list(side, dots, m->pyramid.places, m->pyramid.count - less.pyramid, m->serials.places,
+    return drill_list(r.side, r.dots, r.knit, m->pyramid.places, m->pyramid.count - less.pyramid, m->serials.places,
                       m->serials.count - less.serials, m->order.places, m->order.count - less.order, out->places, room,
                       &length);
 }
@@ -215,13 +229,12 @@ static uint32_t page_map(struct map *m, uint32_t side, uint32_t level, struct pa
                       m->serials.count - less.serials, level, out->places, room, &length);
 }
 
-static uint32_t restore_map(struct map *m, uint32_t side, uint32_t dots, struct part *value, uint32_t name,
-                            struct less less)
+static uint32_t restore_map(struct map *m, struct record r, struct part *value, uint32_t name, struct less less)
 {
     first = 77;
-    return restore(side, dots, value->places, name, m->greys.places, m->greys.count - less.greys, m->pyramid.places,
-                   m->pyramid.count - less.pyramid, m->serials.places, m->serials.count - less.serials,
-                   m->order.places, m->order.count - less.order, &first);
+    return restore(r.side, r.dots, r.knit, value->places, name, m->greys.places, m->greys.count - less.greys,
+                   m->pyramid.places, m->pyramid.count - less.pyramid, m->serials.places,
+                   m->serials.count - less.serials, m->order.places, m->order.count - less.order, &first);
 }
 
 /* The macros. */
@@ -246,6 +259,9 @@ static void test_numbers(void)
     CHECK(RULMEDEI_OUTPUT_SHORT == 8);
     CHECK(RULMEDEI_INPUT_LONG == 9);
     CHECK(RULMEDEI_NAME_UNKNOWN == 10);
+    CHECK(RULMEDEI_KNIT_UNKNOWN == 11);
+    CHECK(RULMEDEI_PLAIN == 0);
+    CHECK(RULMEDEI_RIBBED == 1);
 }
 
 enum { SIDES = 8, LEVELS = 9, NAMES = 8 };
@@ -320,10 +336,27 @@ static void test_map_text(struct map *m)
     give_back(&read);
 }
 
-static void refused_load(struct map *m, uint32_t side, struct less less, uint32_t number)
+static void refused_load(struct map *m, uint32_t side, uint32_t knit, struct less less, uint32_t number)
 {
-    CHECK(load_map(m, side, less) == number);
-    CHECK(first == 0 && second == 0 && map_as_kept(m));
+    CHECK(load_map(m, side, knit, less) == number);
+    CHECK(first == 0 && second == 0 && third == 0 && map_as_kept(m));
+}
+
+/* Numbers that are no knit. The side comes before the knit, and all lengths after it. */
+enum { NO_KNITS = 4 };
+
+static const uint32_t no_knits[NO_KNITS] = {2, 3, 256, UINT32_MAX};
+
+static void refused_knits_load(struct map *m)
+{
+    for (int at = 0; at < NO_KNITS; at++) {
+        refused_load(m, m->side, no_knits[at], whole, RULMEDEI_KNIT_UNKNOWN);
+        refused_load(m, m->side + 1, no_knits[at], whole, RULMEDEI_SIDE_UNKNOWN);
+        refused_load(m, m->side, no_knits[at], less_greys, RULMEDEI_KNIT_UNKNOWN);
+        refused_load(m, m->side, no_knits[at], less_pyramid, RULMEDEI_KNIT_UNKNOWN);
+        refused_load(m, m->side, no_knits[at], less_serials, RULMEDEI_KNIT_UNKNOWN);
+        refused_load(m, m->side, no_knits[at], less_order, RULMEDEI_KNIT_UNKNOWN);
+    }
 }
 
 static void test_load(struct map *m)
@@ -332,13 +365,14 @@ static void test_load(struct map *m)
     const int64_t *pyramid = m->pyramid.places, *cells = pyramid + m->pyramid.count - m->greys.count;
     int same = 1;
     keep_map(m);
-    refused_load(m, m->side + 1, whole, RULMEDEI_SIDE_UNKNOWN);
-    refused_load(m, m->side, less_greys, RULMEDEI_GREYS_SHORT);
-    refused_load(m, m->side, less_pyramid, RULMEDEI_PYRAMID_SHORT);
-    refused_load(m, m->side, less_serials, RULMEDEI_SHEET_SHORT);
-    refused_load(m, m->side, less_order, RULMEDEI_SHEET_SHORT);
-    CHECK(load_map(m, m->side, whole) == RULMEDEI_DONE);
-    CHECK(first == m->side && second == 0 && as_kept(&m->greys));
+    refused_load(m, m->side + 1, m->knit, whole, RULMEDEI_SIDE_UNKNOWN);
+    refused_load(m, m->side, m->knit, less_greys, RULMEDEI_GREYS_SHORT);
+    refused_load(m, m->side, m->knit, less_pyramid, RULMEDEI_PYRAMID_SHORT);
+    refused_load(m, m->side, m->knit, less_serials, RULMEDEI_SHEET_SHORT);
+    refused_load(m, m->side, m->knit, less_order, RULMEDEI_SHEET_SHORT);
+    refused_knits_load(m);
+    CHECK(load_map(m, m->side, m->knit, whole) == RULMEDEI_DONE);
+    CHECK(first == m->side && second == 0 && third == m->knit && as_kept(&m->greys));
     for (size_t cell = 0; cell < m->greys.count; cell++)
         same = same && cells[cell] == 256 * (int64_t)greys[cell];
     CHECK(same && pyramid[0] == 256 * (int64_t)grey_sum(m));
@@ -346,10 +380,32 @@ static void test_load(struct map *m)
     CHECK(all_are(m->order.places, m->order.count * sizeof(uint32_t), 0));
 }
 
-static void refused_advance(struct map *m, uint32_t side, uint32_t dots, struct less less, uint32_t number)
+/* After one hole: of each refusal one call, and calls with a number that is no knit beside what else is refused. */
+static void refused_advances(struct map *m)
 {
-    CHECK(advance_map(m, side, dots, UINT32_MAX, less) == number);
-    CHECK(first == dots && second == 0 && map_as_kept(m));
+    const struct {
+        uint32_t side, dots, knit;
+        struct less less;
+        uint32_t number;
+    } asked[] = {
+        {m->side + 1, 1, m->knit, whole, RULMEDEI_SIDE_UNKNOWN},
+        {m->side + 1, 1, 2, whole, RULMEDEI_SIDE_UNKNOWN},
+        {m->side, 1, 2, whole, RULMEDEI_KNIT_UNKNOWN},
+        {m->side, 1, UINT32_MAX, whole, RULMEDEI_KNIT_UNKNOWN},
+        {m->side, 1, 2, less_pyramid, RULMEDEI_KNIT_UNKNOWN},
+        {m->side, 1, 2, less_serials, RULMEDEI_KNIT_UNKNOWN},
+        {m->side, 1, 2, less_order, RULMEDEI_KNIT_UNKNOWN},
+        {m->side, 2, 2, whole, RULMEDEI_KNIT_UNKNOWN},
+        {m->side, 1, m->knit, less_pyramid, RULMEDEI_PYRAMID_SHORT},
+        {m->side, 1, m->knit, less_serials, RULMEDEI_SHEET_SHORT},
+        {m->side, 1, m->knit, less_order, RULMEDEI_SHEET_SHORT},
+        {m->side, 2, m->knit, whole, RULMEDEI_SHEET_UNSOUND},
+    };
+    for (size_t at = 0; at < sizeof asked / sizeof asked[0]; at++) {
+        struct record r = {asked[at].side, asked[at].dots, asked[at].knit};
+        CHECK(advance_map(m, r, UINT32_MAX, asked[at].less) == asked[at].number);
+        CHECK(first == r.dots && second == 0 && map_as_kept(m));
+    }
 }
 
 /* One hole, refusals, then all others, as many as are told. */
@@ -358,15 +414,11 @@ static void test_advance(struct map *m, uint32_t dots)
     const int64_t *pyramid = m->pyramid.places;
     const uint32_t *serials = m->serials.places, *order = m->order.places;
     int same = 1;
-    CHECK(advance_map(m, m->side, 0, 1, whole) == RULMEDEI_MORE);
+    CHECK(advance_map(m, record_of(m, 0), 1, whole) == RULMEDEI_MORE);
     CHECK(first == 1 && second == 1);
     keep_map(m);
-    refused_advance(m, m->side + 1, 1, whole, RULMEDEI_SIDE_UNKNOWN);
-    refused_advance(m, m->side, 1, less_pyramid, RULMEDEI_PYRAMID_SHORT);
-    refused_advance(m, m->side, 1, less_serials, RULMEDEI_SHEET_SHORT);
-    refused_advance(m, m->side, 1, less_order, RULMEDEI_SHEET_SHORT);
-    refused_advance(m, m->side, 2, whole, RULMEDEI_SHEET_UNSOUND);
-    CHECK(advance_map(m, m->side, 1, UINT32_MAX, whole) == RULMEDEI_DONE);
+    refused_advances(m);
+    CHECK(advance_map(m, record_of(m, 1), UINT32_MAX, whole) == RULMEDEI_DONE);
     CHECK(first == dots && second == dots - 1 && as_kept(&m->greys));
     m->dots = dots;
     for (uint32_t at = 0; at < dots; at++)
@@ -444,21 +496,30 @@ static void test_levels(struct map *m)
 static void refused_lists(struct map *m, struct part *out)
 {
     const struct {
-        uint32_t side, dots;
+        uint32_t side, dots, knit;
         size_t room;
         struct less less;
         uint32_t number;
     } asked[] = {
-        {m->side + 1, m->dots, out->count, whole, RULMEDEI_SIDE_UNKNOWN},
-        {m->side, m->dots, out->count, less_pyramid, RULMEDEI_PYRAMID_SHORT},
-        {m->side, m->dots, out->count, less_serials, RULMEDEI_SHEET_SHORT},
-        {m->side, m->dots, out->count, less_order, RULMEDEI_SHEET_SHORT},
-        {m->side, m->dots - 1, out->count, whole, RULMEDEI_SHEET_UNSOUND},
-        {m->side, m->dots, out->count - 1, whole, RULMEDEI_OUTPUT_SHORT},
+        {m->side + 1, m->dots, m->knit, out->count, whole, RULMEDEI_SIDE_UNKNOWN},
+        {m->side + 1, m->dots, 2, out->count, whole, RULMEDEI_SIDE_UNKNOWN},
+        {m->side, m->dots, 2, out->count, whole, RULMEDEI_KNIT_UNKNOWN},
+        {m->side, m->dots, UINT32_MAX, out->count, whole, RULMEDEI_KNIT_UNKNOWN},
+        {m->side, m->dots, 2, out->count, less_pyramid, RULMEDEI_KNIT_UNKNOWN},
+        {m->side, m->dots, 2, out->count, less_serials, RULMEDEI_KNIT_UNKNOWN},
+        {m->side, m->dots, 2, out->count, less_order, RULMEDEI_KNIT_UNKNOWN},
+        {m->side, m->dots - 1, 2, out->count, whole, RULMEDEI_KNIT_UNKNOWN},
+        {m->side, m->dots, 2, out->count - 1, whole, RULMEDEI_KNIT_UNKNOWN},
+        {m->side, m->dots, m->knit, out->count, less_pyramid, RULMEDEI_PYRAMID_SHORT},
+        {m->side, m->dots, m->knit, out->count, less_serials, RULMEDEI_SHEET_SHORT},
+        {m->side, m->dots, m->knit, out->count, less_order, RULMEDEI_SHEET_SHORT},
+        {m->side, m->dots - 1, m->knit, out->count, whole, RULMEDEI_SHEET_UNSOUND},
+        {m->side, m->dots, m->knit, out->count - 1, whole, RULMEDEI_OUTPUT_SHORT},
     };
     keep(out);
     for (size_t at = 0; at < sizeof asked / sizeof asked[0]; at++) {
-        CHECK(list_map(m, asked[at].side, asked[at].dots, out, asked[at].room, asked[at].less) == asked[at].number);
+        struct record r = {asked[at].side, asked[at].dots, asked[at].knit};
+        CHECK(list_map(m, r, out, asked[at].room, asked[at].less) == asked[at].number);
         CHECK(length == 0 && as_kept(out) && map_as_kept(m));
     }
 }
@@ -471,7 +532,7 @@ static void test_list(struct map *m)
     char line[32];
     size_t lines = 0;
     keep_map(m);
-    CHECK(list_map(m, m->side, m->dots, &longest, longest.count, whole) == RULMEDEI_DONE);
+    CHECK(list_map(m, record_of(m, m->dots), &longest, longest.count, whole) == RULMEDEI_DONE);
     CHECK(length <= longest.count && all_are(list + length, longest.count - length, NINE) && map_as_kept(m));
     for (size_t at = 0; at < length; at++)
         lines += list[at] == '\n';
@@ -479,7 +540,7 @@ static void test_list(struct map *m)
     CHECK(memcmp(list, line, sprintf(line, "%u,%u\n1,", (unsigned)m->dots, (unsigned)m->side)) == 0);
     struct part out = part_of(length, 1);
     refused_lists(m, &out);
-    CHECK(list_map(m, m->side, m->dots, &out, out.count, whole) == RULMEDEI_DONE);
+    CHECK(list_map(m, record_of(m, m->dots), &out, out.count, whole) == RULMEDEI_DONE);
     CHECK(length == out.count && memcmp(out.places, list, length) == 0 && map_as_kept(m));
     give_back(&longest);
     give_back(&out);
@@ -665,52 +726,63 @@ static void refused_keeps(uint32_t side, struct part *value)
     };
     keep(value);
     for (size_t at = 0; at < sizeof asked / sizeof asked[0]; at++)
-        CHECK(keep_name(asked[at].side, 3, value->places, asked[at].name) == asked[at].number && as_kept(value));
+        for (uint32_t knit = 0; knit < 3; knit++) {
+            CHECK(keep_name(asked[at].side, 3, knit, value->places, asked[at].name) == asked[at].number);
+            CHECK(as_kept(value));
+        }
 }
 
 /* Name 1 has no hole, name 8 has all of them, name 2 has one more; name 4 is empty. */
 static void refused_restores(struct map *m, struct part *value)
 {
     const struct {
-        uint32_t side, dots, name;
+        uint32_t side, dots, knit, name;
         struct less less;
         uint32_t number;
     } asked[] = {
-        {m->side + 1, m->dots, 1, whole, RULMEDEI_SIDE_UNKNOWN},
-        {m->side + 1, m->dots, 9, less_greys, RULMEDEI_SIDE_UNKNOWN},
-        {m->side, m->dots, 1, less_greys, RULMEDEI_GREYS_SHORT},
-        {m->side, m->dots - 1, 9, less_greys, RULMEDEI_GREYS_SHORT},
-        {m->side, m->dots, 1, less_pyramid, RULMEDEI_PYRAMID_SHORT},
-        {m->side, m->dots - 1, 0, less_pyramid, RULMEDEI_PYRAMID_SHORT},
-        {m->side, m->dots, 1, less_serials, RULMEDEI_SHEET_SHORT},
-        {m->side, m->dots - 1, 4, less_serials, RULMEDEI_SHEET_SHORT},
-        {m->side, m->dots, 1, less_order, RULMEDEI_SHEET_SHORT},
-        {m->side, m->dots - 1, 2, less_order, RULMEDEI_SHEET_SHORT},
-        {m->side, m->dots - 1, 1, whole, RULMEDEI_SHEET_UNSOUND},
-        {m->side, m->dots - 1, 9, whole, RULMEDEI_SHEET_UNSOUND},
-        {m->side, m->dots, 0, whole, RULMEDEI_NAME_UNKNOWN},
-        {m->side, m->dots, 9, whole, RULMEDEI_NAME_UNKNOWN},
-        {m->side, m->dots, UINT32_MAX, whole, RULMEDEI_NAME_UNKNOWN},
-        {m->side, m->dots, 4, whole, RULMEDEI_NAME_UNKNOWN},
-        {m->side, m->dots, 2, whole, RULMEDEI_NAME_UNKNOWN},
+        {m->side + 1, m->dots, m->knit, 1, whole, RULMEDEI_SIDE_UNKNOWN},
+        {m->side + 1, m->dots, 2, 9, less_greys, RULMEDEI_SIDE_UNKNOWN},
+        {m->side, m->dots, 2, 1, whole, RULMEDEI_KNIT_UNKNOWN},
+        {m->side, m->dots, UINT32_MAX, 1, whole, RULMEDEI_KNIT_UNKNOWN},
+        {m->side, m->dots, 2, 1, less_greys, RULMEDEI_KNIT_UNKNOWN},
+        {m->side, m->dots, 2, 1, less_pyramid, RULMEDEI_KNIT_UNKNOWN},
+        {m->side, m->dots, 2, 1, less_serials, RULMEDEI_KNIT_UNKNOWN},
+        {m->side, m->dots, 2, 1, less_order, RULMEDEI_KNIT_UNKNOWN},
+        {m->side, m->dots - 1, 2, 1, whole, RULMEDEI_KNIT_UNKNOWN},
+        {m->side, m->dots, 2, 9, whole, RULMEDEI_KNIT_UNKNOWN},
+        {m->side, m->dots, m->knit, 1, less_greys, RULMEDEI_GREYS_SHORT},
+        {m->side, m->dots - 1, m->knit, 9, less_greys, RULMEDEI_GREYS_SHORT},
+        {m->side, m->dots, m->knit, 1, less_pyramid, RULMEDEI_PYRAMID_SHORT},
+        {m->side, m->dots - 1, m->knit, 0, less_pyramid, RULMEDEI_PYRAMID_SHORT},
+        {m->side, m->dots, m->knit, 1, less_serials, RULMEDEI_SHEET_SHORT},
+        {m->side, m->dots - 1, m->knit, 4, less_serials, RULMEDEI_SHEET_SHORT},
+        {m->side, m->dots, m->knit, 1, less_order, RULMEDEI_SHEET_SHORT},
+        {m->side, m->dots - 1, m->knit, 2, less_order, RULMEDEI_SHEET_SHORT},
+        {m->side, m->dots - 1, m->knit, 1, whole, RULMEDEI_SHEET_UNSOUND},
+        {m->side, m->dots - 1, m->knit, 9, whole, RULMEDEI_SHEET_UNSOUND},
+        {m->side, m->dots, m->knit, 0, whole, RULMEDEI_NAME_UNKNOWN},
+        {m->side, m->dots, m->knit, 9, whole, RULMEDEI_NAME_UNKNOWN},
+        {m->side, m->dots, m->knit, UINT32_MAX, whole, RULMEDEI_NAME_UNKNOWN},
+        {m->side, m->dots, m->knit, 4, whole, RULMEDEI_NAME_UNKNOWN},
+        {m->side, m->dots, m->knit, 2, whole, RULMEDEI_NAME_UNKNOWN},
     };
     keep_map(m);
     keep(value);
     for (size_t at = 0; at < sizeof asked / sizeof asked[0]; at++) {
-        CHECK(restore_map(m, asked[at].side, asked[at].dots, value, asked[at].name, asked[at].less)
-              == asked[at].number);
-        CHECK(first == asked[at].dots && as_kept(value) && map_as_kept(m));
+        struct record r = {asked[at].side, asked[at].dots, asked[at].knit};
+        CHECK(restore_map(m, r, value, asked[at].name, asked[at].less) == asked[at].number);
+        CHECK(first == r.dots && as_kept(value) && map_as_kept(m));
     }
 }
 
-/* Whether the sheet is the one that Load and Advance make of the same greys. */
+/* Whether the sheet is the one that Load and Advance make of the same greys on the same knit. */
 static int is_stage(const struct map *m, uint32_t dots)
 {
-    struct map anew = map_of(m->side);
+    struct map anew = map_of(m->side, m->knit);
     int same;
     memcpy(anew.greys.places, m->greys.places, m->greys.count);
-    CHECK(load_map(&anew, m->side, whole) == RULMEDEI_DONE);
-    CHECK(advance_map(&anew, m->side, 0, dots, whole) == RULMEDEI_MORE && first == dots);
+    CHECK(load_map(&anew, m->side, m->knit, whole) == RULMEDEI_DONE);
+    CHECK(advance_map(&anew, record_of(m, 0), dots, whole) == RULMEDEI_MORE && first == dots);
     same = memcmp(anew.pyramid.places, m->pyramid.places, m->pyramid.count * sizeof(int64_t)) == 0
            && memcmp(anew.serials.places, m->serials.places, m->serials.count * sizeof(uint32_t)) == 0
            && memcmp(anew.order.places, m->order.places, m->order.count * sizeof(uint32_t)) == 0;
@@ -724,20 +796,20 @@ static void test_stages(struct map *m)
     const uint64_t expected[NAMES] = {1, m->dots + 2, (uint64_t)1 << 32, 0, 2, 0, 0, m->dots + 1};
     struct part value = no_names();
     uint64_t *kept = value.places;
-    CHECK(keep_name(m->side, 0, kept, 1) == RULMEDEI_DONE);
-    CHECK(keep_name(m->side, m->dots + 1, kept, 2) == RULMEDEI_DONE);
-    CHECK(keep_name(m->side, UINT32_MAX, kept, 3) == RULMEDEI_DONE);
-    CHECK(keep_name(m->side, 7, kept, 5) == RULMEDEI_DONE);
-    CHECK(keep_name(m->side, 1, kept, 5) == RULMEDEI_DONE);
-    CHECK(keep_name(m->side, m->dots, kept, 8) == RULMEDEI_DONE);
+    CHECK(keep_name(m->side, 0, m->knit, kept, 1) == RULMEDEI_DONE);
+    CHECK(keep_name(m->side, m->dots + 1, 2, kept, 2) == RULMEDEI_DONE);
+    CHECK(keep_name(m->side, UINT32_MAX, UINT32_MAX, kept, 3) == RULMEDEI_DONE);
+    CHECK(keep_name(m->side, 7, m->knit, kept, 5) == RULMEDEI_DONE);
+    CHECK(keep_name(m->side, 1, 1 - m->knit, kept, 5) == RULMEDEI_DONE);
+    CHECK(keep_name(m->side, m->dots, m->knit, kept, 8) == RULMEDEI_DONE);
     CHECK(memcmp(kept, expected, sizeof expected) == 0);
     refused_keeps(m->side, &value);
     refused_restores(m, &value);
-    CHECK(restore_map(m, m->side, m->dots, &value, 1, whole) == RULMEDEI_DONE);
+    CHECK(restore_map(m, record_of(m, m->dots), &value, 1, whole) == RULMEDEI_DONE);
     CHECK(first == 0 && is_stage(m, 0));
-    CHECK(restore_map(m, m->side, 0, &value, 5, whole) == RULMEDEI_DONE);
+    CHECK(restore_map(m, record_of(m, 0), &value, 5, whole) == RULMEDEI_DONE);
     CHECK(first == 1 && is_stage(m, 1));
-    CHECK(restore_map(m, m->side, 1, &value, 8, whole) == RULMEDEI_DONE);
+    CHECK(restore_map(m, record_of(m, 1), &value, 8, whole) == RULMEDEI_DONE);
     CHECK(first == m->dots && map_as_kept(m) && as_kept(&value));
     give_back(&value);
 }
@@ -769,8 +841,8 @@ static void test_renew(struct map *m)
 static void test_white(struct map *m)
 {
     memset(m->greys.places, 255, m->greys.count);
-    CHECK(load_map(m, m->side, whole) == RULMEDEI_DONE);
-    CHECK(advance_map(m, m->side, 0, UINT32_MAX, whole) == RULMEDEI_DONE);
+    CHECK(load_map(m, m->side, m->knit, whole) == RULMEDEI_DONE);
+    CHECK(advance_map(m, record_of(m, 0), UINT32_MAX, whole) == RULMEDEI_DONE);
     CHECK(first == m->greys.count && second == first);
     m->dots = first;
     test_list(m);
@@ -778,7 +850,7 @@ static void test_white(struct map *m)
 
 static void test_side(uint32_t side, uint32_t dots)
 {
-    struct map m = map_of(side);
+    struct map m = map_of(side, RULMEDEI_PLAIN);
     test_sample(&m);
     test_map_text(&m);
     test_load(&m);
@@ -796,6 +868,19 @@ static void test_side(uint32_t side, uint32_t dots)
     give_back_map(&m);
 }
 
+/* The calls that look at the knit, on ribbed cloth; there are as many holes. */
+static void test_ribbed(uint32_t side, uint32_t dots)
+{
+    struct map m = map_of(side, RULMEDEI_RIBBED);
+    CHECK(sample(1, side, m.greys.places, m.greys.count, &first) == RULMEDEI_DONE);
+    test_load(&m);
+    test_advance(&m, dots);
+    test_list(&m);
+    test_stages(&m);
+    test_white(&m);
+    give_back_map(&m);
+}
+
 /* Document 01's map of side 2 with four greys of 128. */
 
 static const char P3_TEXT[] = "2\n128,128\n128,128\n", P3_LIST[] = "2,2\n1,0,0\n2,1,1\n";
@@ -806,9 +891,9 @@ static void test_p3_map(struct map *m)
 {
     CHECK(map_text((const uint8_t *)P3_TEXT, sizeof P3_TEXT - 1, m->greys.places, 4, &first) == RULMEDEI_DONE);
     CHECK(first == 2 && all_are(m->greys.places, 4, 128));
-    CHECK(load_map(m, 2, whole) == RULMEDEI_DONE && first == 2 && second == 0);
-    CHECK(advance_map(m, 2, 0, 1, whole) == RULMEDEI_MORE && first == 1 && second == 1);
-    CHECK(advance_map(m, 2, 1, 1, whole) == RULMEDEI_DONE && first == 2 && second == 1);
+    CHECK(load_map(m, 2, m->knit, whole) == RULMEDEI_DONE && first == 2 && second == 0 && third == m->knit);
+    CHECK(advance_map(m, record_of(m, 0), 1, whole) == RULMEDEI_MORE && first == 1 && second == 1);
+    CHECK(advance_map(m, record_of(m, 1), 1, whole) == RULMEDEI_DONE && first == 2 && second == 1);
     CHECK(tally_map(m, 2, 0, 0, 0, whole) == RULMEDEI_DONE && first == 2);
     CHECK(tally_map(m, 2, 1, 0, 0, whole) == RULMEDEI_DONE && first == 1);
     CHECK(tally_map(m, 2, 1, 0, 1, whole) == RULMEDEI_DONE && first == 0);
@@ -820,7 +905,7 @@ static void test_p3_outputs(struct map *m)
     struct part sums = part_of(LEVELS, sizeof(uint64_t));
     struct part list = part_of(sizeof P3_LIST - 1, 1), page = part_of(sizeof P3_PAGE - 1, 1);
     CHECK(levels_map(m, 2, &sums, whole) == RULMEDEI_DONE && memcmp(sums.places, expected, sizeof expected) == 0);
-    CHECK(list_map(m, 2, 2, &list, list.count, whole) == RULMEDEI_DONE && length == list.count);
+    CHECK(list_map(m, record_of(m, 2), &list, list.count, whole) == RULMEDEI_DONE && length == list.count);
     CHECK(memcmp(list.places, P3_LIST, list.count) == 0);
     CHECK(page_map(m, 2, 1, &page, page.count, whole) == RULMEDEI_DONE && length == page.count);
     CHECK(memcmp(page.places, P3_PAGE, page.count) == 0);
@@ -831,10 +916,65 @@ static void test_p3_outputs(struct map *m)
 
 static void test_p3(void)
 {
-    struct map m = map_of(2);
+    struct map m = map_of(2, RULMEDEI_PLAIN);
     test_p3_map(&m);
     test_p3_outputs(&m);
     give_back_map(&m);
+}
+
+/* The same greys on ribbed cloth: the same holes, and other debts. */
+static void test_ribbed_p3(void)
+{
+    static const int64_t one_hole[5] = {65792, 0, 16512, 16512, 32768}, two_holes[5] = {512, 0, 256, 256, 0};
+    struct map m = map_of(2, RULMEDEI_RIBBED);
+    test_p3_map(&m);
+    test_p3_outputs(&m);
+    CHECK(memcmp(m.pyramid.places, two_holes, sizeof two_holes) == 0);
+    CHECK(load_map(&m, 2, RULMEDEI_RIBBED, whole) == RULMEDEI_DONE);
+    CHECK(advance_map(&m, record_of(&m, 0), 1, whole) == RULMEDEI_MORE && first == 1);
+    CHECK(memcmp(m.pyramid.places, one_hole, sizeof one_hole) == 0);
+    give_back_map(&m);
+}
+
+/* A grey of 128 on ribbed cloth, inside, on a side and in a corner of a map of side 4: the debts of all cells. */
+static void test_ribbed_places(void)
+{
+    static const struct {
+        size_t cell;
+        int64_t debts[16];
+    } asked[] = {
+        {5, {0, -8128, 0, 0, -8128, 0, -8128, 0, 0, -8128, 0, 0, 0, 0, 0, 0}},
+        {1, {-10837, 0, -10837, 0, 0, -10838, 0, 0, 0, 0, 0, 0, 0, 0, 0, 0}},
+        {15, {0, 0, 0, 0, 0, 0, 0, 0, 0, 0, 0, -16256, 0, 0, -16256, 0}},
+    };
+    struct map m = map_of(4, RULMEDEI_RIBBED);
+    for (size_t at = 0; at < sizeof asked / sizeof asked[0]; at++) {
+        memset(m.greys.places, 0, m.greys.count);
+        ((uint8_t *)m.greys.places)[asked[at].cell] = 128;
+        CHECK(load_map(&m, 4, RULMEDEI_RIBBED, whole) == RULMEDEI_DONE);
+        CHECK(advance_map(&m, record_of(&m, 0), UINT32_MAX, whole) == RULMEDEI_DONE && first == 1);
+        CHECK(memcmp((int64_t *)m.pyramid.places + 5, asked[at].debts, sizeof asked[at].debts) == 0);
+    }
+    give_back_map(&m);
+}
+
+/* The record's knit decides: a first hole on plain cloth, a second as on ribbed, then back to the first of ribbed. */
+static void test_other_knit(void)
+{
+    static const int64_t two_holes[5] = {512, 0, 257, 255, 0}, one_hole[5] = {65792, 0, 16512, 16512, 32768};
+    struct map m = map_of(2, RULMEDEI_PLAIN);
+    struct part value = no_names();
+    memset(m.greys.places, 128, 4);
+    CHECK(load_map(&m, 2, RULMEDEI_PLAIN, whole) == RULMEDEI_DONE);
+    CHECK(advance_map(&m, record_of(&m, 0), 1, whole) == RULMEDEI_MORE);
+    CHECK(keep_name(2, 1, RULMEDEI_PLAIN, value.places, 1) == RULMEDEI_DONE);
+    m.knit = RULMEDEI_RIBBED;
+    CHECK(advance_map(&m, record_of(&m, 1), 1, whole) == RULMEDEI_DONE && first == 2);
+    CHECK(memcmp(m.pyramid.places, two_holes, sizeof two_holes) == 0);
+    CHECK(restore_map(&m, record_of(&m, 2), &value, 1, whole) == RULMEDEI_DONE && first == 1);
+    CHECK(memcmp(m.pyramid.places, one_hole, sizeof one_hole) == 0);
+    give_back_map(&m);
+    give_back(&value);
 }
 
 /* Further answers for side 2: the sample of seed 0, texts that are refused, and the renewal of a wrong pyramid. */
@@ -843,7 +983,7 @@ static void test_small_answers(void)
 {
     static const uint8_t greys[4] = {60, 71, 209, 170};
     static const int64_t wrong[5] = {-1, 2, 3, 4, 5}, right[5] = {14, 2, 3, 4, 5};
-    struct map m = map_of(2);
+    struct map m = map_of(2, RULMEDEI_PLAIN);
     CHECK(sample(0, 2, m.greys.places, 4, &first) == RULMEDEI_DONE && first == 2868466484u);
     CHECK(memcmp(m.greys.places, greys, sizeof greys) == 0);
     memcpy(m.pyramid.places, wrong, sizeof wrong);
@@ -896,22 +1036,23 @@ static void test_small_stages(void)
 {
     static const int64_t one_hole[5] = {65792, 0, 19764, 19763, 26265}, no_hole[5] = {0, 0, 0, 0, 0};
     static const uint32_t serials[4] = {1, 0, 0, 0};
-    struct map m = map_of(2);
+    struct map m = map_of(2, RULMEDEI_PLAIN);
     struct part value = no_names();
     uint64_t *kept = value.places;
     memset(m.greys.places, 128, 4);
-    CHECK(load_map(&m, 2, whole) == RULMEDEI_DONE && advance_map(&m, 2, 0, 1, whole) == RULMEDEI_MORE);
-    CHECK(keep_name(2, 1, kept, 6) == RULMEDEI_DONE && kept[5] == 2);
-    CHECK(advance_map(&m, 2, 1, 9, whole) == RULMEDEI_DONE && first == 2);
-    CHECK(restore_map(&m, 2, 2, &value, 6, whole) == RULMEDEI_DONE && first == 1);
+    CHECK(load_map(&m, 2, RULMEDEI_PLAIN, whole) == RULMEDEI_DONE);
+    CHECK(advance_map(&m, record_of(&m, 0), 1, whole) == RULMEDEI_MORE);
+    CHECK(keep_name(2, 1, RULMEDEI_PLAIN, kept, 6) == RULMEDEI_DONE && kept[5] == 2);
+    CHECK(advance_map(&m, record_of(&m, 1), 9, whole) == RULMEDEI_DONE && first == 2);
+    CHECK(restore_map(&m, record_of(&m, 2), &value, 6, whole) == RULMEDEI_DONE && first == 1);
     CHECK(memcmp(m.pyramid.places, one_hole, sizeof one_hole) == 0);
     CHECK(memcmp(m.serials.places, serials, sizeof serials) == 0);
     CHECK(all_are(m.order.places, 4 * sizeof(uint32_t), 0));
     memset(m.greys.places, 0, 4);
-    CHECK(restore_map(&m, 2, 1, &value, 6, whole) == RULMEDEI_NAME_UNKNOWN && first == 1);
+    CHECK(restore_map(&m, record_of(&m, 1), &value, 6, whole) == RULMEDEI_NAME_UNKNOWN && first == 1);
     CHECK(memcmp(m.pyramid.places, one_hole, sizeof one_hole) == 0);
     kept[5] = 1;
-    CHECK(restore_map(&m, 2, 1, &value, 6, whole) == RULMEDEI_DONE && first == 0);
+    CHECK(restore_map(&m, record_of(&m, 1), &value, 6, whole) == RULMEDEI_DONE && first == 0);
     CHECK(memcmp(m.pyramid.places, no_hole, sizeof no_hole) == 0);
     CHECK(all_are(m.serials.places, 4 * sizeof(uint32_t), 0));
     give_back_map(&m);
@@ -931,8 +1072,13 @@ int main(int count, char **words)
     test_small_answers();
     test_small_plates();
     test_small_stages();
+    test_ribbed_p3();
+    test_ribbed_places();
+    test_other_knit();
     for (int at = 0; at < SIDES; at++)
         test_side(sides[at], dots[at]);
+    for (int at = 0; at < SIDES; at++)
+        test_ribbed(sides[at], dots[at]);
     printf("include/test.c: %lu checks, %lu do not hold, %u guard bytes\n", checks, failures, (unsigned)guard);
     return failures == 0 ? 0 : 1;
 }

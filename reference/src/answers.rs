@@ -1,10 +1,12 @@
 //! What the calls answer, and the record that goes from call to call.
 
-/// "The record, passed by value, holds the side and the number of holes made." (A dot is document 01's hole.)
+/// The record: the side, how many dots there are (a dot is document 01's hole), and the knit, `PLAIN` or `RIBBED`
+/// (document 02, request 8).
 #[derive(Debug, Clone, Copy, PartialEq, Eq)]
 pub struct Progress {
     pub side: u32,
     pub dots: u32,
+    pub knit: u32,
 }
 
 /// The table of "When a call says no", one case for each row.
@@ -30,6 +32,8 @@ pub enum Refusal {
     LongInput,
     /// none of document 02's eight names; on a return also one without a count, or with more dots than the map's total
     UnknownName,
+    /// neither of document 02's two knits
+    UnknownKnit,
 }
 
 impl Refusal {
@@ -46,11 +50,12 @@ impl Refusal {
             Refusal::ShortOutput => 8,
             Refusal::LongInput => 9,
             Refusal::UnknownName => 10,
+            Refusal::UnknownKnit => 11,
         }
     }
 }
 
-/// "Load [...] returns the record (N, 0)"; "a refused Load returns the record (0, 0) and the number."
+/// Load answers the side, 0 dots and the knit that it was given; three zeros where it says no, with the refusal.
 #[derive(Debug, Clone, Copy, PartialEq, Eq)]
 pub struct LoadAnswer {
     pub progress: Progress,

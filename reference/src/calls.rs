@@ -2,9 +2,15 @@
 
 use crate::answers::{AdvanceAnswer, Ended, LoadAnswer, Progress, Refusal};
 use crate::diffusion::{descend, dots_due, place};
+use crate::knit::{weights, Weights};
 use crate::pyramid::renew_all;
 use crate::shape::{cell_count, level_start, power, pyramid_length, HALF_DOT};
 use crate::sound::sound;
+
+/// The power of a side and the weights of a knit; refusals 1, then 11.
+fn check_kind(side: u32, knit: u32) -> Result<(u32, &'static Weights), Refusal> {
+    Ok((power(side)?, weights(knit)?))
+}
 
 /// "pyramid shorter than needed" and "serial sheet, or order list where lent, shorter than N²", for one of the
 /// eight sides.
@@ -18,30 +24,38 @@ fn check_lengths(side: u32, pyramid: &[i64], serials: &[u32], order: &[u32]) -> 
     Ok(())
 }
 
-/// "Load fills the pyramid from the greys, sets the N² places of both other buffers to 0 and returns the record
-/// (N, 0)."
-pub fn load(side: u32, greys: &[u8], pyramid: &mut [i64], serials: &mut [u32], order: &mut [u32]) -> LoadAnswer {
-    match check_load(side, greys, pyramid, serials, order) {
-        Err(refusal) => LoadAnswer { progress: Progress { side: 0, dots: 0 }, status: Err(refusal) },
+/// Load: the pyramid summed from the greys, both other buffers cleared over their needed length. The knit given goes
+/// into the record, and changes no buffer.
+pub fn load(
+    side: u32,
+    knit: u32,
+    greys: &[u8],
+    pyramid: &mut [i64],
+    serials: &mut [u32],
+    order: &mut [u32],
+) -> LoadAnswer {
+    match check_load(side, knit, greys, pyramid, serials, order) {
+        Err(refusal) => LoadAnswer { progress: Progress { side: 0, dots: 0, knit: 0 }, status: Err(refusal) },
         Ok(power) => {
             let cells = cell_count(side);
             fill(power, &greys[..cells], pyramid);
             serials[..cells].fill(0);
             order[..cells].fill(0);
-            LoadAnswer { progress: Progress { side, dots: 0 }, status: Ok(()) }
+            LoadAnswer { progress: Progress { side, dots: 0, knit }, status: Ok(()) }
         }
     }
 }
 
-/// The refusals of Load, and the first ones of Restore: 1, 2, 3, 4.
+/// The refusals of Load, and the first ones of Restore: 1, 11, 2, 3, 4.
 pub(crate) fn check_load(
     side: u32,
+    knit: u32,
     greys: &[u8],
     pyramid: &[i64],
     serials: &[u32],
     order: &[u32],
 ) -> Result<u32, Refusal> {
-    let power = power(side)?;
+    let (power, _) = check_kind(side, knit)?;
     if greys.len() < cell_count(side) {
         return Err(Refusal::ShortGreys);
     }
@@ -58,7 +72,7 @@ fn fill(power: u32, greys: &[u8], pyramid: &mut [i64]) {
     renew_all(power, pyramid);
 }
 
-/// "Advance makes exactly the smaller of the budget and the holes due."
+/// Advance: as many dots as are due, and no more than the budget. They are diffused by the record's knit, which stays.
 pub fn advance(
     progress: Progress,
     budget: u32,
@@ -68,27 +82,33 @@ pub fn advance(
 ) -> AdvanceAnswer {
     match check_sheet(progress, pyramid, serials, order) {
         Err(refusal) => AdvanceAnswer { progress, made: 0, status: Err(refusal) },
-        Ok(power) => {
-            let side = progress.side;
+        Ok((power, weights)) => {
+            let mut progress = progress;
             let made = dots_due(pyramid[0]).min(i64::from(budget)) as u32;
-            for dots in progress.dots..progress.dots + made {
-                let cell = descend(power, dots + 1, pyramid);
-                place(side, power, dots, cell, pyramid, serials, order);
+            for _ in 0..made {
+                let cell = descend(power, progress.dots + 1, pyramid);
+                place(progress, power, weights, cell, pyramid, serials, order);
+                progress.dots += 1;
             }
-            let dots = progress.dots + made;
-            AdvanceAnswer { progress: Progress { side, dots }, made, status: Ok(ended(pyramid[0])) }
+            AdvanceAnswer { progress, made, status: Ok(ended(pyramid[0])) }
         }
     }
 }
 
-/// The refusals of Advance, and the first ones of Drill List: 1, 3, 4, 5.
-pub(crate) fn check_sheet(progress: Progress, pyramid: &[i64], serials: &[u32], order: &[u32]) -> Result<u32, Refusal> {
-    let power = power(progress.side)?;
+/// The refusals of Advance, and the first ones of Drill List: 1, 11, 3, 4, 5. Gives the power of the side and the
+/// weights of the knit.
+pub(crate) fn check_sheet(
+    progress: Progress,
+    pyramid: &[i64],
+    serials: &[u32],
+    order: &[u32],
+) -> Result<(u32, &'static Weights), Refusal> {
+    let kind = check_kind(progress.side, progress.knit)?;
     check_lengths(progress.side, pyramid, serials, order)?;
     if !sound(progress, pyramid, serials, order) {
         return Err(Refusal::NotSound);
     }
-    Ok(power)
+    Ok(kind)
 }
 
 /// "'finished' exactly if the top is then below 32,640, else 'more'."

@@ -1,4 +1,7 @@
 //! What the cases of the programs share: numbers parted by commas, and the pair of standard input and output.
+//!
+//! Where a case gives Load a side, the knit follows it. A record is three numbers wherever it is written: the side, the
+//! dots, the knit.
 
 use std::fmt::Display;
 
@@ -86,7 +89,7 @@ fn checksum(numbers: impl Iterator<Item = u32>) -> u32 {
 
 /// A record, each number after a comma.
 pub fn record(progress: Progress) -> String {
-    fields(&[progress.side, progress.dots])
+    fields(&[progress.side, progress.dots, progress.knit])
 }
 
 /// The line for a call of Advance.

@@ -5,7 +5,7 @@ use crate::calls::{advance, check_load, check_sheet, load};
 use crate::shape::{cell_count, power};
 
 /// Writes the dots of a record down under a name, over what was there. No sheet is looked at, so the dots may be any
-/// number. Refusals: 1, then 10 for the name.
+/// number, and so may the knit. Refusals: 1, then 10 for the name.
 pub fn keep(progress: Progress, checkpoints: Checkpoints, name: u32) -> CheckpointAnswer {
     match check_keep(progress.side, name) {
         Err(refusal) => CheckpointAnswer { progress, checkpoints, status: Err(refusal) },
@@ -31,7 +31,8 @@ fn place_of(name: u32) -> Result<usize, Refusal> {
 }
 
 /// Makes the sheet that these greys have after as many dots as the name has: the map is loaded anew, and advanced so
-/// far. Were these greys loaded before, that is the sheet on which the name was kept.
+/// far, on the record's knit. Were these greys loaded before on that knit, that is the sheet on which the name was
+/// kept.
 pub fn restore(
     progress: Progress,
     checkpoints: Checkpoints,
@@ -44,14 +45,14 @@ pub fn restore(
     match check_restore(progress, checkpoints, name, greys, pyramid, serials, order) {
         Err(refusal) => CheckpointAnswer { progress, checkpoints, status: Err(refusal) },
         Ok(dots) => {
-            let loaded = load(progress.side, greys, pyramid, serials, order);
+            let loaded = load(progress.side, progress.knit, greys, pyramid, serials, order);
             let advanced = advance(loaded.progress, dots, pyramid, serials, order);
             CheckpointAnswer { progress: advanced.progress, checkpoints, status: Ok(()) }
         }
     }
 }
 
-/// The refusals of Load, then those of Advance, then 10 for the name: 1, 2, 3, 4, 5, 10. Gives the name's dots.
+/// The refusals of Load, then those of Advance, then 10 for the name: 1, 11, 2, 3, 4, 5, 10. Gives the name's dots.
 fn check_restore(
     progress: Progress,
     checkpoints: Checkpoints,
@@ -61,7 +62,7 @@ fn check_restore(
     serials: &[u32],
     order: &[u32],
 ) -> Result<u32, Refusal> {
-    check_load(progress.side, greys, pyramid, serials, order)?;
+    check_load(progress.side, progress.knit, greys, pyramid, serials, order)?;
     check_sheet(progress, pyramid, serials, order)?;
     let count = checkpoints.kept[place_of(name)?];
     let dots = count.checked_sub(1).ok_or(Refusal::UnknownName)?;

@@ -1,5 +1,7 @@
 //! One dot: the descent to its cell, its placing, and the diffusion of its error.
 
+use crate::answers::Progress;
+use crate::knit::{weights_of, Weights};
 use crate::pyramid::renew_over;
 use crate::shape::{entry, neighbours, DOT, HALF_DOT};
 
@@ -42,12 +44,12 @@ pub fn shares(error: i64, weights: &[i64]) -> Vec<i64> {
     found
 }
 
-/// "let W be the debt of the cell reached and d = 65,280 − W. The cell's debt becomes 0, its serial the next
-/// number", and then the spread: the next dot, number `dots` + 1, is placed at the cell (row, column).
+/// Burn and Spread: the dot after those of the record is placed at the cell (row, column), whose residual becomes 0 and
+/// whose serial is the dot's number; what the dot is worth beyond that residual is diffused by these weights.
 pub fn place(
-    side: u32,
+    Progress { side, dots, .. }: Progress,
     power: u32,
-    dots: u32,
+    weights: &Weights,
     (row, column): (usize, usize),
     pyramid: &mut [i64],
     serials: &mut [u32],
@@ -62,9 +64,8 @@ pub fn place(
     pyramid[at] = 0;
 
     let near = neighbours(side, row, column);
-    let weights: Vec<i64> = near.iter().map(|neighbour| neighbour.weight).collect();
     let mut changed = vec![(row, column)];
-    for (neighbour, share) in near.iter().zip(shares(error, &weights)) {
+    for (neighbour, share) in near.iter().zip(shares(error, &weights_of(weights, &near))) {
         pyramid[entry(power, neighbour.row, neighbour.column)] -= share;
         changed.push((neighbour.row, neighbour.column));
     }

@@ -1,6 +1,7 @@
 //! The program `plate`, as a function from its input to what it prints.
 
 use crate::answers::Refusal;
+use crate::knit::PLAIN;
 use crate::map_text::map_text;
 use crate::run::run;
 
@@ -11,7 +12,7 @@ pub const LONGEST_INPUT: usize = 4_099;
 pub const GREYS_ROOM: usize = 1_024;
 
 /// "The program `plate` reads a map text on standard input, runs to finished and prints the drill list, or the line
-/// 'refused,n' with n the refusal."
+/// 'refused,n' with n the refusal." The cloth is plain.
 pub fn plate(input: &[u8]) -> Vec<u8> {
     match list_of(input) {
         Ok(list) => list,
@@ -26,5 +27,5 @@ fn list_of(input: &[u8]) -> Result<Vec<u8>, Refusal> {
     }
     let mut greys = [0; GREYS_ROOM];
     let side = map_text(input, &mut greys)?;
-    Ok(run(side, &greys)?.list)
+    Ok(run(side, PLAIN, &greys)?.list)
 }

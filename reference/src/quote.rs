@@ -1,6 +1,7 @@
 //! The program `quote`, as a function from its input to what it prints.
 
 use crate::answers::Refusal;
+use crate::knit::PLAIN;
 use crate::map_text::{cut_line, map_text};
 use crate::plate::GREYS_ROOM;
 use crate::quote_page::quote_page;
@@ -9,8 +10,8 @@ use crate::run::run;
 /// Enough for every page of side 32: 1,024 lines of 29 bytes.
 const PAGE_ROOM: usize = 29_696;
 
-/// Reads a line with the level and then a map text, runs the map to finished and prints the quote page of that level,
-/// or the line "refused,n" with n the refusal.
+/// Reads a line with the level and then a map text, runs the map to finished on plain cloth and prints the quote page
+/// of that level; or, where it is refused, the line that `plate` has for that.
 pub fn quote(input: &[u8]) -> Vec<u8> {
     match page_of(input) {
         Ok(page) => page,
@@ -24,7 +25,7 @@ fn page_of(input: &[u8]) -> Result<Vec<u8>, Refusal> {
     let level = level(line).ok_or(Refusal::BadText)?;
     let mut greys = [0; GREYS_ROOM];
     let side = map_text(text, &mut greys)?;
-    let serials = run(side, &greys)?.buffers.serials;
+    let serials = run(side, PLAIN, &greys)?.buffers.serials;
     let mut page = vec![0; PAGE_ROOM];
     let length = quote_page(side, &greys, &serials, level, &mut page)?;
     page.truncate(length);

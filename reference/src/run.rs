@@ -27,8 +27,8 @@ impl Buffers {
     }
 
     /// Load on these buffers.
-    pub fn load(&mut self, side: u32, greys: &[u8]) -> LoadAnswer {
-        load(side, greys, &mut self.pyramid, &mut self.serials, &mut self.order)
+    pub fn load(&mut self, side: u32, knit: u32, greys: &[u8]) -> LoadAnswer {
+        load(side, knit, greys, &mut self.pyramid, &mut self.serials, &mut self.order)
     }
 
     /// Advance on these buffers.
@@ -66,9 +66,9 @@ pub struct Run {
 }
 
 /// "runs to finished and prints the drill list": Load, one Advance with the largest budget, Drill List.
-pub(crate) fn run(side: u32, greys: &[u8]) -> Result<Run, Refusal> {
+pub(crate) fn run(side: u32, knit: u32, greys: &[u8]) -> Result<Run, Refusal> {
     let mut buffers = Buffers::new(side)?;
-    let loaded = buffers.load(side, greys);
+    let loaded = buffers.load(side, knit, greys);
     loaded.status?;
     let advanced = buffers.advance(loaded.progress, u32::MAX);
     advanced.status?;

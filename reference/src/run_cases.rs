@@ -4,13 +4,15 @@ use crate::answers::Refusal;
 use crate::calls::advance;
 use crate::case_text::{self, buffers_before, fields, first_places, line, places, record, refusal};
 use crate::case_text::{InputAndOutput, WHOLE};
+use crate::knit::{PLAIN, RIBBED};
 use crate::maps::generated;
 use crate::shape::{cell_count, pyramid_length, SIDES};
 
-/// One case: a side, its greys (listed, or of the generator from a seed above 0), the places that each buffer has
-/// past its needed length, and the calls of Advance.
+/// One case: a side, a knit, the greys (listed, or of the generator from a seed above 0), the places that each buffer
+/// has past its needed length, and the calls of Advance.
 struct Case {
     side: u32,
+    knit: u32,
     seed: u32,
     greys: Vec<u8>,
     spare: usize,
@@ -36,12 +38,41 @@ fn cases() -> Vec<Case> {
     let mut cases = plates();
     for (place, side) in SIDES.into_iter().enumerate() {
         let seed = place as u32 + 1;
-        cases.push(Case { side, seed, greys: Vec::new(), spare: 0, calls: vec![whole(u32::MAX)] });
-        cases.push(Case { side, seed, greys: Vec::new(), spare: place + 1, calls: many(side) });
+        cases.push(seeded(side, seed, 0, vec![whole(u32::MAX)]));
+        cases.push(seeded(side, seed, place + 1, many(side)));
     }
     for side in [0, 3, 257] {
-        cases.push(Case { side, seed: 1, greys: Vec::new(), spare: 0, calls: vec![whole(1)] });
+        cases.push(seeded(side, 1, 0, vec![whole(1)]));
     }
+    cases.extend(ribbed());
+    cases.extend(no_knits());
+    cases
+}
+
+/// Ribbed cloth: maps that are plates on plain cloth too, then the error's division inside, on a side and in a corner,
+/// and larger maps in one call and in many.
+fn ribbed() -> Vec<Case> {
+    let mut cases = vec![
+        listed(2, &[255; 4], vec![whole(u32::MAX)]),
+        listed(2, &[128; 4], vec![whole(0), whole(1), whole(1), whole(1)]),
+        listed(2, &[128, 0, 0, 0], vec![whole(u32::MAX)]),
+        lacking(4, 5, &[10, 1, 0], 13),
+        lacking(4, 1, &[6, 1, 0], 7),
+        lacking(2, 0, &[1, 0], 5),
+        listed(4, &[200; 16], vec![whole(5), whole(u32::MAX)]),
+    ];
+    for (seed, side) in (1..).zip([4, 8, 16, 32]) {
+        cases.push(seeded(side, seed, 0, vec![whole(u32::MAX)]));
+        cases.push(seeded(side, seed, 1, many(side)));
+    }
+    cases.into_iter().map(|case| Case { knit: RIBBED, ..case }).collect()
+}
+
+/// Numbers that are no knit, for one of the eight sides and for a number that is no side.
+fn no_knits() -> Vec<Case> {
+    let asked = |side, knit| Case { knit, ..listed(side, &[128; 4], vec![whole(1)]) };
+    let mut cases: Vec<Case> = [2, 3, 256, 1 << 31, u32::MAX].map(|knit| asked(2, knit)).into();
+    cases.push(Case { knit: 2, ..seeded(3, 1, 0, vec![whole(1)]) });
     cases
 }
 
@@ -76,7 +107,11 @@ fn plates() -> Vec<Case> {
 }
 
 fn listed(side: u32, greys: &[u8], calls: Vec<Call>) -> Case {
-    Case { side, seed: 0, greys: greys.to_vec(), spare: 2, calls }
+    Case { side, knit: PLAIN, seed: 0, greys: greys.to_vec(), spare: 2, calls }
+}
+
+fn seeded(side: u32, seed: u32, spare: usize, calls: Vec<Call>) -> Case {
+    Case { side, knit: PLAIN, seed, greys: Vec::new(), spare, calls }
 }
 
 fn added(budget: u32, place: usize, amount: i64) -> Call {
@@ -112,10 +147,10 @@ fn many(side: u32) -> Vec<Call> {
     ]
 }
 
-/// A case as the program reads it: a line with the side, the seed and the places to spare; the greys, if the seed is
-/// 0; the count of calls; a line for each call.
+/// A case as the program reads it: a line with the side, the knit, the seed and the places to spare; the greys, if the
+/// seed is 0; the count of calls; a line for each call.
 fn written(case: &Case) -> String {
-    let mut text = line(&[case.side as usize, case.seed as usize, case.spare]);
+    let mut text = line(&[case.side as usize, case.knit as usize, case.seed as usize, case.spare]);
     if case.seed == 0 {
         text.push_str(&line(&case.greys));
     }
@@ -138,7 +173,7 @@ fn answers(case: &Case) -> String {
     let side = case.side.min(256);
     let greys = if case.seed == 0 { case.greys.clone() } else { generated(case.seed, cell_count(side)) };
     let mut buffers = buffers_before(side, case.spare);
-    let loaded = buffers.load(case.side, &greys);
+    let loaded = buffers.load(case.side, case.knit, &greys);
     let mut progress = loaded.progress;
     let mut text = format!("load{}{}\n", record(progress), refusal(loaded.status.err()));
     for call in &case.calls {

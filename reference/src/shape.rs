@@ -11,9 +11,6 @@ pub const HALF_DOT: i64 = 32_640;
 /// "N, its side, is one of 2, 4, 8, 16, 32, 64, 128, 256".
 pub const SIDES: [u32; 8] = [2, 4, 8, 16, 32, 64, 128, 256];
 
-/// "A straight neighbour weighs 2, a diagonal one 1." The middle is the cell itself and no neighbour.
-const WEIGHTS: [[i64; 3]; 3] = [[1, 2, 1], [2, 0, 2], [1, 2, 1]];
-
 /// "r is the power: N = 2^r." Refuses a side that "isn't one of the eight".
 pub fn power(side: u32) -> Result<u32, Refusal> {
     match SIDES.iter().position(|known| *known == side) {
@@ -42,25 +39,26 @@ pub fn entry(level: u32, row: usize, column: usize) -> usize {
     level_start(level) + row * 2usize.pow(level) + column
 }
 
-/// "the neighbours are those of the eight surrounding cells that lie on the map."
+/// A neighbour: one of the up to eight cells around a cell that are on the map, with its place in the three by three,
+/// by row and column.
 #[derive(Debug, Clone, Copy, PartialEq, Eq)]
 pub struct Neighbour {
     pub row: usize,
     pub column: usize,
-    pub weight: i64,
+    pub place: (usize, usize),
 }
 
 /// "Run through the neighbours by row, then column."
 pub fn neighbours(side: u32, row: usize, column: usize) -> Vec<Neighbour> {
     let on_map = |place: usize| place >= 1 && place <= side as usize;
     let mut found = Vec::new();
-    for (down, weights) in WEIGHTS.iter().enumerate() {
-        for (right, weight) in weights.iter().enumerate() {
+    for down in 0..3 {
+        for right in 0..3 {
             // both counted from 1 here, so that the row above row 0 is 0 and not below it
             let (near_row, near_column) = (row + down, column + right);
-            let itself = down == 1 && right == 1;
-            if !itself && on_map(near_row) && on_map(near_column) {
-                found.push(Neighbour { row: near_row - 1, column: near_column - 1, weight: *weight });
+            let place = (down, right);
+            if place != (1, 1) && on_map(near_row) && on_map(near_column) {
+                found.push(Neighbour { row: near_row - 1, column: near_column - 1, place });
             }
         }
     }

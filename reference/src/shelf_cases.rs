@@ -2,6 +2,7 @@
 
 use crate::answers::{Compared, Refusal};
 use crate::case_text::{self, fields, line, refusal, InputAndOutput, BEFORE};
+use crate::knit::PLAIN;
 use crate::maps::{generated, named, NAMES};
 use crate::run::{run, Buffers};
 use crate::shape::cell_count;
@@ -85,7 +86,7 @@ fn pairs() -> Vec<Case> {
 
 /// The serial sheet of a named map that is finished.
 fn finished(side: u32, name: &str) -> Result<Vec<u32>, Refusal> {
-    Ok(run(side, &named(name, side))?.buffers.serials)
+    Ok(run(side, PLAIN, &named(name, side))?.buffers.serials)
 }
 
 /// Plates of named maps, some of them twice: all maps of side 8, once more from the last to the first with places to
@@ -112,7 +113,7 @@ fn finished_plates() -> Result<Vec<Case>, Refusal> {
 /// One map after each of its dots, the finished plate first.
 fn stages() -> Result<Case, Refusal> {
     let mut buffers = Buffers::new(4)?;
-    let mut progress = buffers.load(4, &named("random", 4)).progress;
+    let mut progress = buffers.load(4, PLAIN, &named("random", 4)).progress;
     let mut plates = vec![buffers.serials.clone()];
     loop {
         let answer = buffers.advance(progress, 1);

@@ -5,16 +5,18 @@ use crate::calls::advance;
 use crate::case_text::{self, buffers_before, fields, first_places, line, places, record, refusal};
 use crate::case_text::{InputAndOutput, WHOLE};
 use crate::checkpoints::{keep, restore};
+use crate::knit::{PLAIN, RIBBED};
 use crate::maps::generated;
 use crate::run::Buffers;
 use crate::shape::{cell_count, pyramid_length};
 
 use Action::{Entry, Grey, Keep, Kept, Record};
 
-/// One case: a side, its greys (listed, or of the generator from a seed above 0), the places that each buffer has
-/// past its needed length, and what is done after the load.
+/// One case: a side, a knit, the greys (listed, or of the generator from a seed above 0), the places that each buffer
+/// has past its needed length, and what is done after the load.
 struct Case {
     side: u32,
+    knit: u32,
     seed: u32,
     greys: Vec<u8>,
     spare: usize,
@@ -35,7 +37,7 @@ enum Action {
     /// A grey becomes this.
     Grey(u32, u8),
     /// The record becomes this.
-    Record(u32, u32),
+    Record(u32, u32, u32),
     /// So much is added at a place of the pyramid.
     Entry(u32, i64),
 }
@@ -60,15 +62,18 @@ fn cases() -> Vec<Case> {
     cases.push(damaged_values());
     cases.extend([2, 4, 8].map(short_or_unsound));
     cases.extend([3, 257].map(no_side));
+    cases.extend(ribbed());
+    cases.push(other_knit());
+    cases.extend(no_knits());
     cases
 }
 
 fn listed(side: u32, greys: &[u8], actions: Vec<Action>) -> Case {
-    Case { side, seed: 0, greys: greys.to_vec(), spare: 2, actions }
+    Case { side, knit: PLAIN, seed: 0, greys: greys.to_vec(), spare: 2, actions }
 }
 
 fn seeded(side: u32, seed: u32, spare: usize, actions: Vec<Action>) -> Case {
-    Case { side, seed, greys: Vec::new(), spare, actions }
+    Case { side, knit: PLAIN, seed, greys: Vec::new(), spare, actions }
 }
 
 /// Advance with whole buffers.
@@ -131,9 +136,10 @@ fn names_kept() -> Case {
 fn any_dots() -> Case {
     let records = [(2, u32::MAX), (2, u32::MAX - 1), (4, 65_536), (256, 65_537), (128, 5), (64, 1 << 31)];
     let mut actions: Vec<Action> =
-        records.iter().zip(2..).flat_map(|(record, name)| [Record(record.0, record.1), Keep(name)]).collect();
+        records.iter().zip(2..).flat_map(|(record, name)| [Record(record.0, record.1, PLAIN), Keep(name)]).collect();
     // the number is given back with the record, and is too large for every map
-    actions.extend([Record(2, 0), back(2), back(3), Record(2, u32::MAX), Keep(9), back(2)]);
+    let (none, most) = (Record(2, 0, PLAIN), Record(2, u32::MAX, PLAIN));
+    actions.extend([none, back(2), back(3), most, Keep(9), back(2)]);
     listed(2, &[255; 4], actions)
 }
 
@@ -160,11 +166,12 @@ fn other_greys() -> Vec<Case> {
     let darker = [Grey(0, 255), Grey(5, 255), Grey(6, 200), Grey(15, 90)];
     let lighter = [Grey(0, 0), Grey(1, 0), Grey(2, 200)];
     let kept = [dots(1), Keep(1), dots(2), Keep(2), dots(9), Keep(3)];
+    let smaller = [Record(2, 0, PLAIN), Kept(0, 4), Kept(1, 3), Kept(7, 2)];
     let row = [127, 127, 127, 127, 0, 0, 0, 0, 255, 0, 255, 0, 0, 0, 0, 0];
     vec![
         listed(4, &[0; 16], [&darker[..], &[Kept(3, 4), Kept(4, 5), back(5), back(4)]].concat()),
         listed(2, &[255, 255, 255, 0], [&kept[..], &lighter, &[back(3), back(2), back(1)]].concat()),
-        listed(4, &row, vec![Record(2, 0), Kept(0, 4), Kept(1, 3), Kept(7, 2), back(1), back(2), back(8), dots(1)]),
+        listed(4, &row, [&smaller[..], &[back(1), back(2), back(8), dots(1)]].concat()),
     ]
 }
 
@@ -220,7 +227,7 @@ fn short_or_unsound(side: u32) -> Case {
     let lengths = [[p, n, n], [p - 1, n, n], [p, n - 1, n], [p, n, n - 1], [p - 1, n - 1, n], [0, 0, 0]];
     let mut actions = vec![dots(2), Keep(2), dots(1), Kept(6, 90)];
     for asked in [(side + 1, 2), (2 * side, 3), (side, 2), (side, 3)] {
-        actions.push(Record(asked.0, asked.1));
+        actions.push(Record(asked.0, asked.1, PLAIN));
         for lent in lengths.into_iter().rev() {
             actions.extend([0, 3, 7, 2].map(|name| Action::Restore(name, lent)));
             actions.push(Action::Advance(0, lent));
@@ -232,13 +239,54 @@ fn short_or_unsound(side: u32) -> Case {
 
 /// Load refuses, and so does all else, though a value and a name are given that would do.
 fn no_side(side: u32) -> Case {
-    seeded(side, 1, 0, vec![Keep(1), Keep(9), Kept(0, 1), back(1), back(9), Record(side, 0), Keep(2), back(1), dots(1)])
+    let asked = Record(side, 0, PLAIN);
+    seeded(side, 1, 0, vec![Keep(1), Keep(9), Kept(0, 1), back(1), back(9), asked, Keep(2), back(1), dots(1)])
 }
 
-/// A case as the program reads it: a line with the side, the seed and the places to spare; the greys, if the seed is
-/// 0; the count of actions; a line of five numbers for each of them.
+/// Ribbed cloth: returns on small maps and on a larger one, and on to the end from a stage.
+fn ribbed() -> Vec<Case> {
+    let mut on = kept_and_returned(3, &[7]);
+    on.extend([dots(2), Keep(7), back(2), dots(1), back(7), dots(u32::MAX)]);
+    let cases = [
+        listed(2, &[128; 4], kept_and_returned(0, WAYS[2])),
+        listed(4, &[200; 16], kept_and_returned(5, WAYS[3])),
+        seeded(8, 3, 1, kept_and_returned(9, WAYS[1])),
+        seeded(16, 4, 0, kept_and_returned(40, WAYS[2])),
+        seeded(4, 7, 0, on),
+    ];
+    cases.map(|case| Case { knit: RIBBED, ..case }).into()
+}
+
+/// The record's knit becomes the other one between calls: the sheet stays sound, later dots are diffused by the new
+/// knit, and a return makes the sheet that its greys have on that knit.
+fn other_knit() -> Case {
+    let mut actions = vec![dots(2), Keep(1), dots(1), Record(4, 3, RIBBED), dots(2), Keep(2), back(1), dots(4)];
+    actions.extend([Record(4, 6, PLAIN), dots(1), back(2), Record(4, 5, RIBBED), dots(u32::MAX), back(1)]);
+    seeded(4, 11, 1, actions)
+}
+
+/// Numbers that are no knit, for Load and then in the record. Advance and Restore look at the knit after the side and
+/// before all lengths, the sheet and the name; Keep doesn't look at it, and gives it back.
+fn no_knits() -> Vec<Case> {
+    let mut actions = vec![dots(1), Keep(1), dots(1)];
+    for knit in [2, u32::MAX] {
+        for (side, dots) in [(2, 2), (2, 1), (4, 2), (3, 2)] {
+            actions.push(Record(side, dots, knit));
+            for lent in [WHOLE, [4, 4, 4], [5, 3, 4], [5, 4, 3]] {
+                actions.extend([Action::Advance(1, lent), Action::Restore(1, lent)]);
+            }
+            actions.extend([back(9), back(2), Keep(9), Keep(3), back(1)]);
+        }
+    }
+    actions.extend([Record(2, 2, PLAIN), back(1), dots(1)]);
+    let refused = |knit| Case { knit, ..listed(2, &[200; 4], vec![dots(1), Keep(1), back(1)]) };
+    vec![listed(2, &[200; 4], actions), refused(2), refused(u32::MAX), Case { knit: 2, ..no_side(3) }]
+}
+
+/// A case as the program reads it: a line with the side, the knit, the seed and the places to spare; the greys, if the
+/// seed is 0; the count of actions; a line of five numbers for each of them.
 fn written(case: &Case) -> String {
-    let mut text = line(&[case.side as usize, case.seed as usize, case.spare]);
+    let mut text = line(&[case.side as usize, case.knit as usize, case.seed as usize, case.spare]);
     if case.seed == 0 {
         text.push_str(&line(&case.greys));
     }
@@ -257,7 +305,7 @@ fn numbers(action: Action) -> [u64; 5] {
         Action::Restore(name, [p, s, o]) => [2, name.into(), p as u64, s as u64, o as u64],
         Kept(place, entry) => [3, entry % (1 << 32), place.into(), entry >> 32, 0],
         Grey(cell, grey) => [4, grey.into(), cell.into(), 0, 0],
-        Record(side, dots) => [5, side.into(), dots.into(), 0, 0],
+        Record(side, dots, knit) => [5, side.into(), dots.into(), knit.into(), 0],
         Entry(place, amount) => [6, 0, place.into(), amount.max(0) as u64, (-amount).max(0) as u64],
     }
 }
@@ -275,7 +323,7 @@ fn answers(case: &Case) -> String {
     let side = case.side.min(256);
     let greys = if case.seed == 0 { case.greys.clone() } else { generated(case.seed, cell_count(side)) };
     let mut buffers = buffers_before(side, case.spare);
-    let loaded = buffers.load(case.side, &greys);
+    let loaded = buffers.load(case.side, case.knit, &greys);
     let mut text = format!("load{}{}\n", record(loaded.progress), refusal(loaded.status.err()));
     let mut state = State { greys, buffers, progress: loaded.progress, checkpoints: Checkpoints::default() };
     for action in &case.actions {
@@ -307,7 +355,7 @@ impl State {
             }
             Kept(place, entry) => self.checkpoints.kept[place as usize] = entry,
             Grey(cell, grey) => self.greys[cell as usize] = grey,
-            Record(side, dots) => self.progress = Progress { side, dots },
+            Record(side, dots, knit) => self.progress = Progress { side, dots, knit },
             Entry(place, amount) => self.buffers.pyramid[place as usize] += amount,
         }
         String::new()

@@ -4,6 +4,7 @@ use std::fmt::Display;
 
 use crate::answers::Refusal;
 use crate::case_text::{joined, InputAndOutput};
+use crate::knit::{PLAIN, RIBBED};
 use crate::map_text::write_map_text;
 use crate::maps::{generated, named, NAMES};
 use crate::measures::levels;
@@ -19,10 +20,16 @@ use crate::stage_cases;
 use crate::survey_cases;
 use crate::text_cases;
 
+/// The maps whose runs on ribbed cloth are stored.
+pub const RIBBED_NAMES: [&str; 4] = ["flat-128", "gradient-diagonal", "hot-rim", "random"];
+
 /// "Larger maps are run against a reference in another language and the outputs matched." All stored files, each
 /// with its path from the top of the repository.
 pub fn files() -> Result<Vec<(String, Vec<u8>)>, Refusal> {
-    let mut files = vec![("vectors/runs.csv".to_string(), runs_csv()?.into_bytes())];
+    let mut files = vec![
+        ("vectors/runs.csv".to_string(), runs_csv(PLAIN, &NAMES)?.into_bytes()),
+        ("vectors/ribbed.csv".to_string(), runs_csv(RIBBED, &RIBBED_NAMES)?.into_bytes()),
+    ];
     for side in [2, 4, 8] {
         files.push((format!("vectors/side-{side}.txt"), texts_and_lists(side)?));
     }
@@ -56,15 +63,15 @@ fn sample_files() -> Vec<(String, Vec<u8>)> {
     files
 }
 
-/// One line for each side and map: its figures, and checksums of what the run leaves.
-fn runs_csv() -> Result<String, Refusal> {
+/// One line for each side and map on cloth of one knit: its figures, and checksums of what the run leaves.
+fn runs_csv(knit: u32, names: &[&str]) -> Result<String, Refusal> {
     let mut text = "side,map,grey_sum,dots,top,level0,level1,level2,level3,level4,level5,level6,level7,level8,\
                     pyramid,serials,order,list_length,list\n"
         .to_string();
     for side in SIDES {
-        for name in NAMES {
+        for name in names {
             let greys = named(name, side);
-            let run = run(side, &greys)?;
+            let run = run(side, knit, &greys)?;
             let levels = levels(side, &greys, &run.buffers.serials)?;
             text.push_str(&run_line(name, &greys, &run, &levels));
             text.push('\n');
@@ -91,26 +98,28 @@ pub fn run_line(name: &str, greys: &[u8], run: &Run, levels: &[u64; 9]) -> Strin
     ])
 }
 
-/// For each map of a side: a line with its name, its map text and its drill list.
+/// For each map of a side: a line with its name, its map text and its drill list on plain cloth.
 fn texts_and_lists(side: u32) -> Result<Vec<u8>, Refusal> {
     let mut bytes = Vec::new();
     for name in NAMES {
         let greys = named(name, side);
         bytes.extend(format!("map,{name}\n").into_bytes());
         bytes.extend(write_map_text(side, &greys));
-        bytes.extend(run(side, &greys)?.list);
+        bytes.extend(run(side, PLAIN, &greys)?.list);
     }
     Ok(bytes)
 }
 
-/// The values that a proof in another language compares with: three maps run to their end.
+/// The values that a proof in another language compares with: three maps run to their end on plain cloth, and three on
+/// ribbed.
 fn expected_values() -> Result<String, Refusal> {
     let greys = generated(7, 16);
     let halved: Vec<u8> = generated(8, 64).iter().map(|grey| grey / 2).collect();
     let flat = [240; 16];
     Ok(format!(
         "-- Written by the reference (`cargo run --release -- write` in reference/) and not to be edited:\n\
-         -- three maps run to their end, side 4, side 8 and a flat one of side 4.\n\
+         -- three maps run to their end on plain cloth, side 4, side 8 and a flat one of side 4; then three on ribbed\n\
+         -- cloth, side 2, side 4 and side 8.\n\
          use mathlib.Core.List.{{List, [], _∷_}}\n\
          use Prim.Native.Nat.{{ℕ}}\n\
          use lib.IntN.{{ℤ, pos, negsuc}}\n\
@@ -121,25 +130,42 @@ fn expected_values() -> Result<String, Refusal> {
          -- the map of side 8, likewise\n\
          {}\n\
          -- the flat map of side 4, where quarters and cells are equal, likewise\n\
+         {}\n\
+         -- ribbed: the map of side 2 with four greys of 128, and those of side 4 and side 8 above; of each the order\n\
+         -- list, the serial sheet and the pyramid\n\
+         {}\n\
+         {}\n\
          {}",
         five_values("4", 4, &greys)?,
         five_values("8", 8, &halved)?,
         five_values("Flat4", 4, &flat)?,
+        three_values("Ribbed2", &run(2, RIBBED, &[128; 4])?),
+        three_values("Ribbed4", &run(4, RIBBED, &greys)?),
+        three_values("Ribbed8", &run(8, RIBBED, &halved)?),
     ))
 }
 
-/// The five values of one run, their names ending alike, parted by empty lines.
+/// The five values of one run on plain cloth, their names ending alike, parted by empty lines: the greys, what the run
+/// leaves, the sums of Levels.
 fn five_values(ending: &str, side: u32, greys: &[u8]) -> Result<String, Refusal> {
-    let run = run(side, greys)?;
-    let integers: Vec<String> = run.buffers.pyramid.iter().map(|z| integer(*z)).collect();
+    let run = run(side, PLAIN, greys)?;
     let values = [
         value(&format!("greys{ending}"), "ℕ", greys),
-        value(&format!("order{ending}"), "ℕ", &run.buffers.order),
-        value(&format!("serials{ending}"), "ℕ", &run.buffers.serials),
-        value(&format!("pyramid{ending}"), "ℤ", &integers),
+        three_values(ending, &run),
         value(&format!("levels{ending}"), "ℕ", &levels(side, greys, &run.buffers.serials)?),
     ];
     Ok(values.join("\n"))
+}
+
+/// The three values that a run leaves, likewise.
+fn three_values(ending: &str, run: &Run) -> String {
+    let integers: Vec<String> = run.buffers.pyramid.iter().map(|z| integer(*z)).collect();
+    let values = [
+        value(&format!("order{ending}"), "ℕ", &run.buffers.order),
+        value(&format!("serials{ending}"), "ℕ", &run.buffers.serials),
+        value(&format!("pyramid{ending}"), "ℤ", &integers),
+    ];
+    values.join("\n")
 }
 
 /// One value: the line with its type, and its list in lines of at most six items.

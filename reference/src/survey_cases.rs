@@ -2,16 +2,18 @@
 
 use crate::answers::Refusal;
 use crate::calls::load;
-use crate::case_text::{self, fields, line, refusal, InputAndOutput, BEFORE};
+use crate::case_text::{self, fields, line, record, refusal, InputAndOutput, BEFORE};
+use crate::knit::{PLAIN, RIBBED};
 use crate::maps::named;
 use crate::measures::{levels, tally};
 use crate::run::run;
 use crate::shape::{cell_count, power, pyramid_length};
 
-/// One case: a side, the greys, the lengths lent of the three other buffers, the cells that get a serial after the
-/// load, and the blocks (level, row, column) to tally.
+/// One case: a side, a knit, the greys, the lengths lent of the three other buffers, the cells that get a serial after
+/// the load, and the blocks (level, row, column) to tally.
 struct Case {
     side: u32,
+    knit: u32,
     greys: Vec<u8>,
     pyramid: usize,
     serials: usize,
@@ -39,17 +41,27 @@ fn cases() -> Result<Vec<Case>, Refusal> {
     for short in 1..16 {
         cases.push(lent(4, [short & 1, short >> 1 & 1, short >> 2 & 1, short >> 3]));
     }
+    cases.push(Case { knit: RIBBED, ..lent(4, [0; 4]) });
+    cases.push(Case { knit: RIBBED, ..lent(4, [1, 1, 0, 0]) });
+    for knit in [2, 3, 1 << 31, u32::MAX] {
+        cases.push(Case { knit, ..lent(4, [0; 4]) });
+        cases.push(Case { knit, side: 3, ..lent(4, [0; 4]) });
+    }
+    for short in [[1, 0, 0, 0], [0, 1, 0, 0], [0, 0, 1, 0], [0, 0, 0, 1], [1, 1, 1, 1]] {
+        cases.push(Case { knit: 2, ..lent(4, short) });
+    }
     Ok(cases)
 }
 
 /// A map, and the cells of its dots when it's finished.
 fn finished(side: u32, name: &str, spare: usize) -> Result<Case, Refusal> {
     let greys = named(name, side);
-    let run = run(side, &greys)?;
+    let run = run(side, PLAIN, &greys)?;
     let marks = run.buffers.order[..run.progress.dots as usize].to_vec();
     let cells = cell_count(side) + spare;
     let pyramid = pyramid_length(power(side)?) + spare;
-    Ok(Case { side, greys, pyramid, serials: cells, order: cells, marks, blocks: blocks(power(side)?) })
+    let blocks = blocks(power(side)?);
+    Ok(Case { side, knit: PLAIN, greys, pyramid, serials: cells, order: cells, marks, blocks })
 }
 
 /// The first, the last and a middle block of each level, and blocks that there aren't.
@@ -69,11 +81,12 @@ fn blocks(power: u32) -> Vec<[u32; 3]> {
     blocks
 }
 
-/// A case of a side with buffers that are so many places short: greys, pyramid, serials, order.
+/// A case of a side, plain, with buffers that are so many places short: greys, pyramid, serials, order.
 fn lent(side: u32, short: [usize; 4]) -> Case {
     let cells = cell_count(side);
     Case {
         side,
+        knit: PLAIN,
         greys: named("random", side)[..cells - short[0]].to_vec(),
         pyramid: pyramid_length(side.trailing_zeros()) - short[1],
         serials: cells - short[2],
@@ -83,11 +96,11 @@ fn lent(side: u32, short: [usize; 4]) -> Case {
     }
 }
 
-/// A case as the program reads it, in four lines: the side and the lengths lent; the greys; the count of marks and the
-/// marks; the count of blocks and the blocks.
+/// A case as the program reads it, in four lines: the side, the knit and the lengths lent; the greys; the count of
+/// marks and the marks; the count of blocks and the blocks.
 fn written(case: &Case) -> String {
     [
-        line(&[case.side as usize, case.greys.len(), case.pyramid, case.serials, case.order]),
+        line(&[case.side as usize, case.knit as usize, case.greys.len(), case.pyramid, case.serials, case.order]),
         line(&case.greys),
         format!("{}{}\n", case.marks.len(), fields(&case.marks)),
         format!("{}{}\n", case.blocks.len(), fields(&case.blocks.concat())),
@@ -100,8 +113,8 @@ fn answers(case: &Case) -> String {
     let mut pyramid = vec![BEFORE.0; case.pyramid];
     let mut serials = vec![BEFORE.1; case.serials];
     let mut order = vec![BEFORE.1; case.order];
-    let loaded = load(case.side, &case.greys, &mut pyramid, &mut serials, &mut order);
-    let mut text = format!("load,{},{}{}\n", loaded.progress.side, loaded.progress.dots, refusal(loaded.status.err()));
+    let loaded = load(case.side, case.knit, &case.greys, &mut pyramid, &mut serials, &mut order);
+    let mut text = format!("load{}{}\n", record(loaded.progress), refusal(loaded.status.err()));
     text.push_str(&format!("pyramid{}\n", fields(&pyramid)));
     text.push_str(&format!("serials{}\norder{}\n", fields(&serials), fields(&order)));
     for (place, cell) in case.marks.iter().enumerate() {

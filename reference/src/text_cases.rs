@@ -6,18 +6,21 @@ use std::fmt::Display;
 use crate::answers::{Progress, Refusal};
 use crate::case_text::{self, fields, line, InputAndOutput};
 use crate::drill_list::list_room;
+use crate::knit::{PLAIN, RIBBED};
 use crate::map_text::{map_text, write_map_text};
 use crate::maps::named;
 use crate::run::{run, Buffers};
 use crate::shape::cell_count;
 
-/// One case: the text, the places lent of the greys buffer and of Drill List's output, and the number of what is
-/// damaged before Drill List.
+/// One case: the text, the places lent of the greys buffer and of Drill List's output, the number of what is damaged
+/// before Drill List, the knit that Load is given and the one that Drill List is given in its record.
 struct Case {
     text: Vec<u8>,
     greys: usize,
     output: usize,
     damage: u32,
+    knit: u32,
+    said: u32,
 }
 
 /// What every place of the greys buffer and of the output holds before the calls.
@@ -42,24 +45,27 @@ fn cases() -> Result<Vec<Case>, Refusal> {
     cases.extend(damages());
     cases.extend(greys_lengths());
     let texts = [truncated(), changed(), left_out(), doubled(), first_lines(), odd_greys(), layouts(), long_runs()];
-    cases.extend(texts.concat().into_iter().map(plain));
+    cases.extend(texts.concat().into_iter().map(small_buffers));
+    cases.extend(ribbed()?);
+    cases.extend(no_knits());
     Ok(cases)
 }
 
 /// A text with a greys buffer of 18 places, which is enough for side 4, and an output that is enough for side 2.
-fn plain(text: Vec<u8>) -> Case {
-    Case { text, greys: 18, output: 30, damage: 0 }
+fn small_buffers(text: Vec<u8>) -> Case {
+    Case { text, greys: 18, output: 30, damage: 0, knit: PLAIN, said: PLAIN }
 }
 
 /// A named map with two spare places of greys, and so much room that any list of its side fits.
 fn roomy(side: u32, name: &str) -> Case {
     let text = write_map_text(side, &named(name, side));
-    Case { text, greys: cell_count(side) + 2, output: list_room(side).min(4_000), damage: 0 }
+    let output = list_room(side).min(4_000);
+    Case { text, greys: cell_count(side) + 2, output, damage: 0, knit: PLAIN, said: PLAIN }
 }
 
 /// The length of the list of a named map.
-fn list_length(side: u32, name: &str) -> Result<usize, Refusal> {
-    Ok(run(side, &named(name, side))?.list.len())
+fn list_length(side: u32, knit: u32, name: &str) -> Result<usize, Refusal> {
+    Ok(run(side, knit, &named(name, side))?.list.len())
 }
 
 /// Named maps of four sides, with buffers of just the needed length.
@@ -67,7 +73,7 @@ fn whole_maps() -> Result<Vec<Case>, Refusal> {
     let mut cases = Vec::new();
     for side in [2, 4, 8, 16] {
         for name in ["flat-0", "flat-128", "flat-255", "gradient-diagonal", "random"] {
-            cases.push(Case { greys: cell_count(side), output: list_length(side, name)?, ..roomy(side, name) });
+            cases.push(Case { greys: cell_count(side), output: list_length(side, PLAIN, name)?, ..roomy(side, name) });
         }
     }
     Ok(cases)
@@ -77,7 +83,7 @@ fn whole_maps() -> Result<Vec<Case>, Refusal> {
 fn outputs() -> Result<Vec<Case>, Refusal> {
     let mut cases = Vec::new();
     for (side, name) in [(2, "flat-0"), (2, "random"), (4, "random"), (8, "random"), (16, "flat-255")] {
-        let length = list_length(side, name)?;
+        let length = list_length(side, PLAIN, name)?;
         for output in [0, 1, length - 1, length + 1, length + 100] {
             cases.push(Case { output, ..roomy(side, name) });
         }
@@ -111,8 +117,34 @@ fn greys_lengths() -> Vec<Case> {
     }
     for text in ["3\n", "x\n", "", "0\n0,127\n", "2\n", "2\nx", "2\n0,127\n128,256\n", "256\n", "32\n1,2\n", "02\n"] {
         for greys in [0, 3, 4] {
-            cases.push(Case { greys, ..plain(text.into()) });
+            cases.push(Case { greys, ..small_buffers(text.into()) });
         }
+    }
+    cases
+}
+
+/// Ribbed maps, with all room and with an output that is one byte short; then a list that is asked for as of the other
+/// knit, which is the same list, since the sheet is as sound.
+fn ribbed() -> Result<Vec<Case>, Refusal> {
+    let mut cases = Vec::new();
+    for side in [2, 4, 8, 16] {
+        let case = Case { knit: RIBBED, said: RIBBED, ..roomy(side, "random") };
+        let output = list_length(side, RIBBED, "random")? - 1;
+        cases.extend([Case { text: case.text.clone(), ..case }, Case { output, ..case }]);
+    }
+    cases.push(Case { knit: RIBBED, ..roomy(4, "random") });
+    cases.push(Case { said: RIBBED, ..roomy(4, "random") });
+    Ok(cases)
+}
+
+/// Numbers that are no knit in the record, alone and with every damage, with an output and without.
+fn no_knits() -> Vec<Case> {
+    let mut cases = Vec::new();
+    for said in [2, u32::MAX] {
+        for damage in 0..=DAMAGES {
+            cases.push(Case { damage, said, ..roomy(4, "random") });
+        }
+        cases.push(Case { output: 0, said, ..roomy(4, "random") });
     }
     cases
 }
@@ -323,10 +355,11 @@ fn long_runs() -> Vec<Vec<u8>> {
     ]
 }
 
-/// A case as the program reads it: a line with the text's length, the two lengths lent and the damage, and then the
-/// text itself.
+/// A case as the program reads it: a line with the text's length, the two lengths lent, the damage and the two knits,
+/// and then the text itself.
 fn written(case: &Case) -> Vec<u8> {
-    let mut bytes = line(&[case.text.len(), case.greys, case.output, case.damage as usize]).into_bytes();
+    let numbers = [case.damage, case.knit, case.said].map(|number| number as usize);
+    let mut bytes = line(&[[case.text.len(), case.greys, case.output], numbers].concat()).into_bytes();
     bytes.extend(&case.text);
     bytes
 }
@@ -346,9 +379,10 @@ fn answers(case: &Case) -> Result<Vec<u8>, Refusal> {
 /// What Drill List answers on the finished plate, the list itself, and the count of places of the output that hold
 /// what they held before, from the list's end on.
 fn list_answers(case: &Case, side: u32, greys: &[u8]) -> Result<Vec<u8>, Refusal> {
-    let run = run(side, greys)?;
+    let run = run(side, case.knit, greys)?;
     let mut out = vec![BEFORE.1; case.output];
-    let listed = damaged_list(case.damage, run.progress, run.buffers, &mut out);
+    let record = Progress { knit: case.said, ..run.progress };
+    let listed = damaged_list(case.damage, record, run.buffers, &mut out);
     let length = listed.unwrap_or(0);
     let spare = out[length..].iter().filter(|byte| **byte == BEFORE.1).count();
     let mut bytes = answer("list", listed).into_bytes();

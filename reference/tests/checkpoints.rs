@@ -9,19 +9,23 @@ const NO_NAMES: [u32; 10] = [0, 9, 10, 16, 255, 256, 257, 1 << 31, (1 << 31) + 1
 /// A value that no Keep makes on a sheet: each place another, from the smallest to the largest.
 const DAMAGED: Checkpoints = Checkpoints { kept: [u64::MAX, 0, 1, 1 << 32, 65_537, 1 << 63, 77, (1 << 32) + 2] };
 
-/// A map loaded, and so many dots placed.
+/// A map loaded on plain cloth, and so many dots placed.
 fn advanced(side: u32, greys: &[u8], dots: u32) -> (Buffers, Progress) {
+    advanced_on(PLAIN, side, greys, dots)
+}
+
+fn advanced_on(knit: u32, side: u32, greys: &[u8], dots: u32) -> (Buffers, Progress) {
     let mut buffers = Buffers::new(side).unwrap();
-    let start = buffers.load(side, greys).progress;
+    let start = buffers.load(side, knit, greys).progress;
     let progress = buffers.advance(start, dots).progress;
-    assert_eq!(progress, Progress { side, dots });
+    assert_eq!(progress, Progress { side, dots, knit });
     (buffers, progress)
 }
 
 /// The dots of the finished map.
 fn total(side: u32, greys: &[u8]) -> u32 {
     let mut buffers = Buffers::new(side).unwrap();
-    let start = buffers.load(side, greys).progress;
+    let start = buffers.load(side, PLAIN, greys).progress;
     buffers.advance(start, u32::MAX).progress.dots
 }
 
@@ -40,7 +44,7 @@ fn only(name: u32, entry: u64) -> Checkpoints {
 }
 
 /// The number of a return on these buffers. Where it says no, nothing is another; where it is done, the value isn't,
-/// and the sheet is the one that Load and Advance make of the greys.
+/// and the sheet is the one that Load and Advance make of the greys on the record's knit.
 fn return_number(buffers: &Buffers, progress: Progress, checkpoints: Checkpoints, name: u32, greys: &[u8]) -> u32 {
     let mut after = buffers.clone();
     let answer = after.restore(progress, checkpoints, name, greys);
@@ -48,7 +52,7 @@ fn return_number(buffers: &Buffers, progress: Progress, checkpoints: Checkpoints
     match answer.status {
         Ok(()) => {
             let dots = (checkpoints.kept[name as usize - 1] - 1) as u32;
-            assert_eq!((after, answer.progress), advanced(progress.side, greys, dots));
+            assert_eq!((after, answer.progress), advanced_on(progress.knit, progress.side, greys, dots));
             0
         }
         Err(refusal) => {
@@ -68,14 +72,15 @@ fn all_names_are_empty_at_first() {
     }
 }
 
-/// Place name - 1 gets one more than the dots, any number of them; all other places stay, whatever they hold.
+/// Place name - 1 gets one more than the dots, any number of them, on any knit and on numbers that are none; all other
+/// places stay, whatever they hold.
 #[test]
 fn keep_writes_one_place() {
     for before in [Checkpoints::default(), DAMAGED, Checkpoints { kept: [u64::MAX; 8] }] {
         for side in SIDES {
             for dots in [0, 1, 2, 65_535, 65_536, 65_537, 1 << 31, u32::MAX] {
-                for name in 1..=8 {
-                    let after = kept(Progress { side, dots }, before, name);
+                for (name, knit) in (1..=8).zip([0, 1, 2, 3, 1 << 31, u32::MAX, 0, 1]) {
+                    let after = kept(Progress { side, dots, knit }, before, name);
                     let place = name as usize - 1;
                     assert_eq!(after.kept[place], 1 + u64::from(dots));
                     assert_eq!(after.kept[..place], before.kept[..place]);
@@ -84,14 +89,14 @@ fn keep_writes_one_place() {
             }
         }
     }
-    assert_eq!(kept(Progress { side: 2, dots: u32::MAX }, DAMAGED, 2).kept[1], 1 << 32);
+    assert_eq!(kept(Progress { side: 2, dots: u32::MAX, knit: PLAIN }, DAMAGED, 2).kept[1], 1 << 32);
 }
 
 #[test]
 fn keep_refuses_no_names_and_gives_all_back() {
     for checkpoints in [Checkpoints::default(), DAMAGED] {
         for name in NO_NAMES {
-            let progress = Progress { side: 8, dots: 70_000 };
+            let progress = Progress { side: 8, dots: 70_000, knit: 7 };
             let status = Err(Refusal::UnknownName);
             assert_eq!(keep(progress, checkpoints, name), CheckpointAnswer { progress, checkpoints, status });
         }
@@ -105,7 +110,7 @@ fn a_name_is_kept_again() {
     let (buffers, progress) = advanced(8, &greys, 9);
     let mut checkpoints = Checkpoints::default();
     for dots in [5, 20, 0, 9] {
-        checkpoints = kept(Progress { side: 8, dots }, checkpoints, 6);
+        checkpoints = kept(Progress { dots, ..progress }, checkpoints, 6);
         assert_eq!(checkpoints, only(6, u64::from(dots) + 1));
         assert_eq!(return_number(&buffers, progress, checkpoints, 6, &greys), 0);
     }
@@ -132,14 +137,21 @@ fn no_dots_are_a_stage() {
 /// Each stage of a map from each other, back and forwards, under each name; the return to a name leaves all of them.
 #[test]
 fn from_each_stage_to_each() {
-    for (side, name) in [(2, "flat-255"), (4, "random"), (8, "hot-rim")] {
+    for (knit, side, name) in [
+        (PLAIN, 2, "flat-255"),
+        (PLAIN, 4, "random"),
+        (PLAIN, 8, "hot-rim"),
+        (RIBBED, 2, "flat-128"),
+        (RIBBED, 4, "random"),
+        (RIBBED, 8, "gradient-diagonal"),
+    ] {
         let greys = maps::named(name, side);
         let most = total(side, &greys);
         for from in 0..=most {
-            let (buffers, progress) = advanced(side, &greys, from);
+            let (buffers, progress) = advanced_on(knit, side, &greys, from);
             for to in 0..=most {
                 let kept_as = 1 + (from + to) % 8;
-                let checkpoints = kept(Progress { side, dots: to }, DAMAGED, kept_as);
+                let checkpoints = kept(Progress { dots: to, ..progress }, DAMAGED, kept_as);
                 assert_eq!(return_number(&buffers, progress, checkpoints, kept_as, &greys), 0);
             }
         }
@@ -215,6 +227,19 @@ fn other_greys() {
     }
 }
 
+/// The record's knit need not be the one loaded: the sheet is then that of the greys on the record's.
+#[test]
+fn the_other_knit() {
+    let greys = maps::named("random", 8);
+    let both = [PLAIN, RIBBED].map(|knit| advanced_on(knit, 8, &greys, 20));
+    assert_ne!(both[0].0.serials, both[1].0.serials);
+    for (buffers, progress) in both {
+        for knit in [PLAIN, RIBBED] {
+            assert_eq!(return_number(&buffers, Progress { knit, ..progress }, only(4, 18), 4, &greys), 0);
+        }
+    }
+}
+
 /// A sound sheet will do, however it came about, and a sheet that is not sound is refused though it is made anew.
 #[test]
 fn the_sheet_before() {
@@ -224,10 +249,10 @@ fn the_sheet_before() {
         serials: [&[0; 15][..], &[1]].concat(),
         order: [&[15][..], &[0; 15]].concat(),
     };
-    let progress = Progress { side: 4, dots: 1 };
+    let progress = Progress { side: 4, dots: 1, knit: PLAIN };
     assert_eq!(return_number(&made_up, progress, only(2, 4), 2, &greys), 0);
     for dots in [0, 2, u32::MAX] {
-        assert_eq!(return_number(&made_up, Progress { side: 4, dots }, only(2, 4), 2, &greys), 5);
+        assert_eq!(return_number(&made_up, Progress { dots, ..progress }, only(2, 4), 2, &greys), 5);
     }
     for place in 0..21 {
         let mut wrong = made_up.clone();

@@ -1,5 +1,6 @@
-//! What document 01 promises of every run, tried on small pseudo-random maps; and what document 02 promises of lists of
-//! calls with names, tried on these, and of every page, tried on these and on the named maps.
+//! What document 01 promises of every run, tried on small pseudo-random maps of both knits; and what document 02
+//! promises of lists of calls with names and of finished maps, tried on these, and of every page, tried on these and on
+//! the named maps.
 
 use std::cmp::Ordering;
 
@@ -51,26 +52,37 @@ impl Dice {
 /// How many maps of each side are tried.
 const TRIED: [(u32, u32); 4] = [(2, 2_000), (4, 1_200), (8, 500), (16, 150)];
 
-/// Does something for every map that is tried.
-fn for_every_map(seed: u64, mut check: impl FnMut(&mut Dice, u32, &[u8])) {
+/// Does something for every map that is tried: its side, its knit and its greys. Every other one is ribbed.
+fn for_every_map(seed: u64, mut check: impl FnMut(&mut Dice, u32, u32, &[u8])) {
     let mut dice = Dice(seed);
     for (side, maps) in TRIED {
-        for _ in 0..maps {
+        for map in 0..maps {
             let greys = dice.greys(side);
-            check(&mut dice, side, &greys);
+            check(&mut dice, side, [PLAIN, RIBBED][map as usize % 2], &greys);
         }
     }
 }
 
-fn fresh(side: u32, greys: &[u8]) -> (Buffers, Progress) {
+fn fresh(side: u32, knit: u32, greys: &[u8]) -> (Buffers, Progress) {
     let mut buffers = Buffers::new(side).unwrap();
-    let answer = buffers.load(side, greys);
-    assert_eq!(answer.status, Ok(()));
+    let answer = buffers.load(side, knit, greys);
+    assert_eq!((answer.progress, answer.status), (Progress { side, dots: 0, knit }, Ok(())));
     (buffers, answer.progress)
 }
 
 fn grey_sum(greys: &[u8]) -> i64 {
     greys.iter().map(|grey| i64::from(*grey)).sum()
+}
+
+/// Does something for every block of every level: its level, row and column, its width and its grey sum.
+fn for_every_block(side: u32, greys: &[u8], mut check: impl FnMut([u32; 3], u32, u32)) {
+    for level in 0..=power(side).unwrap() {
+        let blocks = 2u32.pow(level);
+        for (row, column) in (0..blocks).flat_map(|row| (0..blocks).map(move |column| (row, column))) {
+            let wide = side / blocks;
+            check([level, row, column], wide, block_grey(side, greys, wide, row, column));
+        }
+    }
 }
 
 /// What holds after every call: the sheet is sound, no cell has two dots, every dot takes 65,280 off the top, and
@@ -85,14 +97,18 @@ fn check_state(greys: &[u8], progress: Progress, buffers: &Buffers) {
     cells.dedup();
     assert_eq!(cells.len(), dots);
 
-    for level in 0..=power(side).unwrap() {
-        let blocks = 2u32.pow(level);
-        for (row, column) in (0..blocks).flat_map(|row| (0..blocks).map(move |column| (row, column))) {
-            let inside = tally(side, &buffers.serials, level, row, column).unwrap();
-            let grey = block_grey(side, greys, side / blocks, row, column);
-            assert!(765 * inside < 3 * grey + 765 + 1020 * (side / blocks));
-        }
-    }
+    for_every_block(side, greys, |[level, row, column], wide, grey| {
+        let inside = tally(side, &buffers.serials, level, row, column).unwrap();
+        assert!(765 * inside < 3 * grey + 765 + 1020 * wide);
+    });
+}
+
+/// What holds of a finished map: no block has fewer dots than its floor (document 02, request 1).
+fn check_finished(greys: &[u8], side: u32, serials: &[u32]) {
+    for_every_block(side, greys, |[level, row, column], wide, grey| {
+        let inside = tally(side, serials, level, row, column).unwrap();
+        assert!(510 * inside + 255 + 1530 * level + 2040 * (side - wide) > 2 * grey);
+    });
 }
 
 /// The sum of the greys of a block that is `wide` cells wide.
@@ -137,7 +153,7 @@ fn check_call(dice: &mut Dice, greys: &[u8], progress: Progress, asked: &mut u64
     *asked += u64::from(budget);
     let dots = (*asked).min(total as u64) as u32;
     let high = buffers.pyramid[0] >= HALF_DOT;
-    assert_eq!(answer.progress, Progress { side: progress.side, dots });
+    assert_eq!(answer.progress, Progress { dots, ..progress });
     assert_eq!(answer.made, dots - progress.dots);
     assert_eq!(answer.status, Ok(if high { Ended::More } else { Ended::Finished }));
     assert_eq!(high, i64::from(dots) < total);
@@ -146,8 +162,8 @@ fn check_call(dice: &mut Dice, greys: &[u8], progress: Progress, asked: &mut u64
 
 #[test]
 fn lists_of_calls() {
-    for_every_map(1, |dice, side, greys| {
-        let (mut buffers, mut progress) = fresh(side, greys);
+    for_every_map(1, |dice, side, knit, greys| {
+        let (mut buffers, mut progress) = fresh(side, knit, greys);
         let mut asked = 0;
         check_state(greys, progress, &buffers);
         for _ in 0..dice.below(6) {
@@ -159,7 +175,8 @@ fn lists_of_calls() {
         assert_eq!(last.status, Ok(Ended::Finished));
         assert_eq!(i64::from(last.progress.dots), (2 * grey_sum(greys) + 255) / 510);
         check_state(greys, last.progress, &buffers);
-        let (mut whole, start) = fresh(side, greys);
+        check_finished(greys, side, &buffers.serials);
+        let (mut whole, start) = fresh(side, knit, greys);
         assert_eq!(whole.advance(start, u32::MAX).progress, last.progress);
         assert_eq!(whole, buffers);
     });
@@ -240,8 +257,8 @@ impl Named {
 #[test]
 fn lists_of_calls_with_names() {
     let mut returns = Vec::new();
-    for_every_map(6, |dice, side, greys| {
-        let (buffers, progress) = fresh(side, greys);
+    for_every_map(6, |dice, side, knit, greys| {
+        let (buffers, progress) = fresh(side, knit, greys);
         let mut named = Named {
             greys: greys.to_vec(),
             buffers,
@@ -268,8 +285,8 @@ fn lists_of_calls_with_names() {
 fn renewal_over_the_changed_cells_is_whole_renewal() {
     let mut dice = Dice(2);
     for side in [2, 4, 8, 16] {
-        for _ in 0..20 {
-            let (mut buffers, mut progress) = fresh(side, &dice.greys(side));
+        for map in 0..20 {
+            let (mut buffers, mut progress) = fresh(side, map % 2, &dice.greys(side));
             while buffers.pyramid[0] >= HALF_DOT {
                 let answer = buffers.advance(progress, 1);
                 assert_eq!(answer.made, 1);
@@ -286,7 +303,7 @@ fn renewal_over_the_changed_cells_is_whole_renewal() {
 fn any_sound_sheet(dice: &mut Dice, side: u32) -> (Buffers, Progress) {
     let mut buffers = Buffers::new(side).unwrap();
     let cells = side * side;
-    let mut progress = Progress { side, dots: 0 };
+    let mut progress = Progress { side, dots: 0, knit: dice.below(2) };
     for _ in 0..dice.below(cells + 1) {
         let cell = dice.below(cells);
         if buffers.serials[cell as usize] == 0 {
@@ -322,7 +339,7 @@ fn sound_sheets_however_they_came_about() {
             let due = if top < HALF_DOT { 0 } else { (top + HALF_DOT) / DOT };
             let answer = buffers.advance(progress, budget);
             assert_eq!(i64::from(answer.made), due.min(i64::from(budget)));
-            assert_eq!(answer.progress.dots, progress.dots + answer.made);
+            assert_eq!(answer.progress, Progress { dots: progress.dots + answer.made, ..progress });
             assert_eq!(buffers.pyramid[0], top - DOT * i64::from(answer.made));
             let low = buffers.pyramid[0] < HALF_DOT;
             assert_eq!(answer.status, Ok(if low { Ended::Finished } else { Ended::More }));
@@ -338,17 +355,20 @@ fn the_threshold_itself() {
         let mut buffers = Buffers::new(2).unwrap();
         buffers.pyramid[1..].copy_from_slice(&[DOT.min(top), (top - DOT).max(0), 0, 0]);
         renew_all(1, &mut buffers.pyramid);
-        let progress = Progress { side: 2, dots: 0 };
-        let waiting = buffers.advance(progress, 0);
-        assert_eq!(waiting.status, Ok(if due == 0 { Ended::Finished } else { Ended::More }));
-        let answer = buffers.advance(progress, u32::MAX);
-        assert_eq!((answer.made, answer.status), (due, Ok(Ended::Finished)));
+        for knit in [PLAIN, RIBBED] {
+            let mut buffers = buffers.clone();
+            let progress = Progress { side: 2, dots: 0, knit };
+            let waiting = buffers.advance(progress, 0);
+            assert_eq!(waiting.status, Ok(if due == 0 { Ended::Finished } else { Ended::More }));
+            let answer = buffers.advance(progress, u32::MAX);
+            assert_eq!((answer.made, answer.status), (due, Ok(Ended::Finished)));
+        }
     }
 }
 
 #[test]
 fn map_texts_there_and_back() {
-    for_every_map(4, |dice, side, greys| {
+    for_every_map(4, |dice, side, _, greys| {
         let mut text = write_map_text(side, greys);
         let mut read = vec![99; greys.len() + 3];
         assert_eq!(map_text(&text, &mut read), Ok(side));
@@ -408,11 +428,16 @@ fn pages_of_the_named_maps() {
     for side in SIDES {
         for name in maps::NAMES {
             let greys = maps::named(name, side);
-            let (mut buffers, mut progress) = fresh(side, &greys);
-            check_pages(side, &greys, &buffers.serials);
-            for budget in [1, side / 2, side * side / 8, u32::MAX] {
-                progress = buffers.advance(progress, budget).progress;
+            // with the largest maps on both it would take long
+            let knits = if side > 64 { &[PLAIN][..] } else { &[PLAIN, RIBBED] };
+            for knit in knits {
+                let (mut buffers, mut progress) = fresh(side, *knit, &greys);
                 check_pages(side, &greys, &buffers.serials);
+                for budget in [1, side / 2, side * side / 8, u32::MAX] {
+                    progress = buffers.advance(progress, budget).progress;
+                    check_pages(side, &greys, &buffers.serials);
+                }
+                check_finished(&greys, side, &buffers.serials);
             }
         }
     }
@@ -420,8 +445,8 @@ fn pages_of_the_named_maps() {
 
 #[test]
 fn pages_of_random_maps() {
-    for_every_map(5, |dice, side, greys| {
-        let (mut buffers, mut progress) = fresh(side, greys);
+    for_every_map(5, |dice, side, knit, greys| {
+        let (mut buffers, mut progress) = fresh(side, knit, greys);
         for _ in 0..3 {
             progress = buffers.advance(progress, dice.budget(side * side)).progress;
             check_pages(side, greys, &buffers.serials);

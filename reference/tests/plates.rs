@@ -1,5 +1,5 @@
-//! "Plates to check by hand": P1 to P12 of document 01, with its own figures; and stages and quote pages worked by hand
-//! from document 02.
+//! "Plates to check by hand": P1 to P12 of document 01, with its own figures; and stages, quote pages and ribbed plates
+//! worked by hand from document 02. Without a word on it, the cloth is plain.
 
 use reference::*;
 
@@ -7,15 +7,23 @@ const P3_GREYS: [u8; 4] = [128; 4];
 
 /// A fresh sheet: buffers and record after Load.
 fn loaded(side: u32, greys: &[u8]) -> (Buffers, Progress) {
+    loaded_on(PLAIN, side, greys)
+}
+
+fn loaded_on(knit: u32, side: u32, greys: &[u8]) -> (Buffers, Progress) {
     let mut buffers = Buffers::new(side).unwrap();
-    let answer = buffers.load(side, greys);
-    assert_eq!((answer.progress, answer.status), (Progress { side, dots: 0 }, Ok(())));
+    let answer = buffers.load(side, knit, greys);
+    assert_eq!((answer.progress, answer.status), (Progress { side, dots: 0, knit }, Ok(())));
     (buffers, answer.progress)
 }
 
 /// A sheet run to its end.
 fn finished(side: u32, greys: &[u8]) -> (Buffers, Progress) {
-    let (mut buffers, progress) = loaded(side, greys);
+    finished_on(PLAIN, side, greys)
+}
+
+fn finished_on(knit: u32, side: u32, greys: &[u8]) -> (Buffers, Progress) {
+    let (mut buffers, progress) = loaded_on(knit, side, greys);
     let answer = buffers.advance(progress, u32::MAX);
     assert_eq!(answer.status, Ok(Ended::Finished));
     assert_eq!(answer.made, answer.progress.dots);
@@ -23,10 +31,8 @@ fn finished(side: u32, greys: &[u8]) -> (Buffers, Progress) {
 }
 
 /// The shares of an error around a cell.
-fn shares_at(side: u32, row: usize, column: usize, error: i64) -> Vec<i64> {
-    let near = neighbours(side, row, column);
-    let weights: Vec<i64> = near.iter().map(|neighbour| neighbour.weight).collect();
-    shares(error, &weights)
+fn shares_at(knit: u32, side: u32, row: usize, column: usize, error: i64) -> Vec<i64> {
+    shares(error, &weights_of(weights(knit).unwrap(), &neighbours(side, row, column)))
 }
 
 #[test]
@@ -90,7 +96,7 @@ fn p4_budgets() {
         assert_eq!((answer.made, answer.status), (made, Ok(ended)));
         progress = answer.progress;
     }
-    assert_eq!(progress, Progress { side: 2, dots: 2 });
+    assert_eq!(progress, Progress { side: 2, dots: 2, knit: PLAIN });
 }
 
 #[test]
@@ -108,17 +114,17 @@ fn p6_half_a_dot() {
 
 #[test]
 fn p7_shares_inside() {
-    assert_eq!(shares_at(4, 1, 1, 13), [1, 2, 1, 2, 2, 1, 2, 2]);
+    assert_eq!(shares_at(PLAIN, 4, 1, 1, 13), [1, 2, 1, 2, 2, 1, 2, 2]);
 }
 
 #[test]
 fn p8_shares_on_the_top_side() {
-    assert_eq!(shares_at(4, 0, 1, 7), [1, 2, 1, 2, 1]);
+    assert_eq!(shares_at(PLAIN, 4, 0, 1, 7), [1, 2, 1, 2, 1]);
 }
 
 #[test]
 fn p9_shares_in_the_top_left_corner() {
-    assert_eq!(shares_at(2, 0, 0, 4), [1, 2, 1]);
+    assert_eq!(shares_at(PLAIN, 2, 0, 0, 4), [1, 2, 1]);
 }
 
 #[test]
@@ -172,12 +178,81 @@ fn stages_of_p3() {
     for stage in [0, 1, 2, 1, 0, 2, 0, 0] {
         let (name, dots, pyramid, serials, order) = stages[stage];
         let answer = buffers.restore(progress, checkpoints, name, &P3_GREYS);
-        progress = Progress { side: 2, dots };
+        progress = Progress { side: 2, dots, knit: PLAIN };
         assert_eq!(answer, CheckpointAnswer { progress, checkpoints, status: Ok(()) });
         assert_eq!(buffers.pyramid, pyramid);
         assert_eq!(buffers.serials, serials);
         assert_eq!(buffers.order, order);
     }
+}
+
+/// Ribbed shares, by running sums as on plain cloth; D is 4, 3 and 2. Inside, the sums 0, 1, 1, 2, 3, 3, 4, 4 of the
+/// weights give 0, 3, 3, 6, 9, 9, 13, 13 of an error of 13. Below 0 the floor goes down too: a fourth of -1 is -1.
+#[test]
+fn ribbed_shares() {
+    assert_eq!(shares_at(RIBBED, 4, 1, 1, 13), [0, 3, 0, 3, 3, 0, 4, 0]);
+    assert_eq!(shares_at(RIBBED, 4, 0, 1, 7), [2, 2, 0, 3, 0]);
+    assert_eq!(shares_at(RIBBED, 4, 2, 3, 7), [0, 2, 2, 0, 3]);
+    assert_eq!(shares_at(RIBBED, 2, 0, 0, 5), [2, 3, 0]);
+    assert_eq!(shares_at(RIBBED, 2, 1, 1, 5), [0, 2, 3]);
+    assert_eq!(shares_at(RIBBED, 4, 1, 1, -1), [0, -1, 0, 0, 0, 0, 0, 0]);
+}
+
+/// The greys of P3 on ribbed cloth: of the missing 32,512 each straight neighbour bears a half, and the diagonal one,
+/// which then is the largest, nothing.
+#[test]
+fn ribbed_p3() {
+    let (mut buffers, progress) = loaded_on(RIBBED, 2, &P3_GREYS);
+    let first = buffers.advance(progress, 1);
+    assert_eq!(buffers.pyramid, [65_792, 0, 16_512, 16_512, 32_768]);
+    assert_eq!(first.progress, Progress { side: 2, dots: 1, knit: RIBBED });
+    let second = buffers.advance(first.progress, 1);
+    assert_eq!(buffers.pyramid, [512, 0, 256, 256, 0]);
+    assert_eq!((second.made, second.status), (1, Ok(Ended::Finished)));
+    assert_eq!(second.progress, Progress { side: 2, dots: 2, knit: RIBBED });
+    assert_eq!((buffers.order, buffers.serials), (vec![0, 3, 0, 0], vec![1, 0, 0, 2]));
+}
+
+/// The greys of P2, P6 and P10 on ribbed cloth.
+#[test]
+fn ribbed_small_plates() {
+    let (buffers, progress) = finished_on(RIBBED, 2, &[255; 4]);
+    assert_eq!((progress.dots, buffers.order), (4, vec![0, 3, 1, 2]));
+    assert_eq!(buffers.pyramid, [0; 5]);
+    let (buffers, progress) = finished_on(RIBBED, 2, &[128, 0, 0, 0]);
+    assert_eq!((progress.dots, buffers.pyramid), (1, vec![-32_512, 0, -16_256, -16_256, 0]));
+    for (greys, dots) in [([255, 127, 0, 0], 1), ([255, 128, 0, 0], 2)] {
+        assert_eq!(finished_on(RIBBED, 2, &greys).1.dots, dots);
+    }
+}
+
+/// One dark cell inside: the whole error goes to the four straight neighbours, a fourth each; on a side a third each,
+/// in a corner a half each. Of 65,280 - 32,768 = 32,512 these are 8,128; 10,837, 10,837 and 10,838; 16,256.
+#[test]
+fn ribbed_errors_by_place() {
+    let after = |cell: usize| {
+        let mut greys = [0; 16];
+        greys[cell] = 128;
+        finished_on(RIBBED, 4, &greys).0.pyramid[5..].to_vec()
+    };
+    let row = |numbers: [i64; 4]| numbers.to_vec();
+    let inside = [row([0, -8_128, 0, 0]), row([-8_128, 0, -8_128, 0]), row([0, -8_128, 0, 0]), row([0; 4])];
+    assert_eq!(after(5), inside.concat());
+    let side = [row([-10_837, 0, -10_837, 0]), row([0, -10_838, 0, 0]), row([0; 4]), row([0; 4])];
+    assert_eq!(after(1), side.concat());
+    let corner = [row([0; 4]), row([0; 4]), row([0, 0, 0, -16_256]), row([0, 0, -16_256, 0])];
+    assert_eq!(after(15), corner.concat());
+}
+
+/// The knit changed in the record between two calls: P3's first dot plain, its second ribbed. Of the missing 65,280 -
+/// 26,265 = 39,015 the cells above and to the left bear 19,507 and 19,508.
+#[test]
+fn p3_plain_then_ribbed() {
+    let (mut buffers, progress) = loaded(2, &P3_GREYS);
+    let first = buffers.advance(progress, 1).progress;
+    let second = buffers.advance(Progress { knit: RIBBED, ..first }, 1);
+    assert_eq!(buffers.pyramid, [512, 0, 257, 255, 0]);
+    assert_eq!(second.progress, Progress { side: 2, dots: 2, knit: RIBBED });
 }
 
 #[test]

@@ -1,9 +1,13 @@
-//! "When a call says no": every number of the table for every call that gives it, at the exact boundary.
+//! "When a call says no": every number of the table for every call that gives it, at the exact boundary. Without a word
+//! on it, the cloth is plain.
 
 use reference::*;
 
 /// Numbers that are no side.
 const NO_SIDES: [u32; 12] = [0, 1, 3, 5, 6, 12, 255, 257, 512, 65_536, 1 << 31, u32::MAX];
+
+/// Numbers that are no knit.
+const NO_KNITS: [u32; 8] = [2, 3, 4, 255, 256, 1 << 16, 1 << 31, u32::MAX];
 
 /// Odd numbers that no call writes, so that every write shows.
 fn odd_buffers(pyramid: usize, serials: usize, order: usize) -> Buffers {
@@ -22,27 +26,39 @@ fn needed(side: u32) -> (usize, usize) {
 /// A sheet of side 4 with three dots, and more due.
 fn three_dots() -> (Buffers, Progress) {
     let mut buffers = Buffers::new(4).unwrap();
-    let progress = buffers.load(4, &maps::generated(7, 16)).progress;
+    let progress = buffers.load(4, PLAIN, &maps::generated(7, 16)).progress;
     let answer = buffers.advance(progress, 3);
     assert_eq!((answer.made, answer.status), (3, Ok(Ended::More)));
     (buffers, answer.progress)
 }
 
-fn load_number(side: u32, greys: usize, pyramid: usize, serials: usize, order: usize) -> u32 {
+/// The number of Load for buffers of these lengths: greys, pyramid, serials, order. A refusal changes nothing.
+fn load_number_on(knit: u32, side: u32, [greys, pyramid, serials, order]: [usize; 4]) -> u32 {
     let mut buffers = odd_buffers(pyramid, serials, order);
     let before = buffers.clone();
-    let answer = buffers.load(side, &vec![77; greys]);
+    let answer = buffers.load(side, knit, &vec![77; greys]);
     match answer.status {
         Ok(()) => {
-            assert_eq!(answer.progress, Progress { side, dots: 0 });
+            assert_eq!(answer.progress, Progress { side, dots: 0, knit });
             0
         }
         Err(refusal) => {
-            assert_eq!(answer.progress, Progress { side: 0, dots: 0 });
+            assert_eq!(answer.progress, Progress { side: 0, dots: 0, knit: 0 });
             assert_eq!(buffers, before);
             refusal.number()
         }
     }
+}
+
+/// The number of Load, which has to be the same for either knit. For one that is none it is 11, wherever it isn't 1.
+fn load_number(side: u32, greys: usize, pyramid: usize, serials: usize, order: usize) -> u32 {
+    let lengths = [greys, pyramid, serials, order];
+    let number = load_number_on(PLAIN, side, lengths);
+    assert_eq!(load_number_on(RIBBED, side, lengths), number);
+    for knit in NO_KNITS {
+        assert_eq!(load_number_on(knit, side, lengths), if number == 1 { 1 } else { 11 });
+    }
+    number
 }
 
 #[test]
@@ -66,8 +82,19 @@ fn load_refuses() {
 }
 
 /// The numbers of Advance and of Drill List for buffers of which only these parts are lent; both have to be the
-/// same. On a refusal nothing has changed and the record is given back, for every budget.
+/// same, and the same for either knit. For one that is none they are 11, wherever they aren't 1.
 fn sheet_number(progress: Progress, buffers: &Buffers, lent: (usize, usize, usize)) -> u32 {
+    let on = |knit| sheet_number_on(Progress { knit, ..progress }, buffers, lent);
+    let number = on(PLAIN);
+    assert_eq!(on(RIBBED), number);
+    for knit in [2, u32::MAX] {
+        assert_eq!(on(knit), if number == 1 { 1 } else { 11 });
+    }
+    number
+}
+
+/// The same for the record's knit. On a refusal nothing has changed and the record is given back, for every budget.
+fn sheet_number_on(progress: Progress, buffers: &Buffers, lent: (usize, usize, usize)) -> u32 {
     let mut after = buffers.clone();
     let pyramid = &mut after.pyramid[..lent.0];
     let serials = &mut after.serials[..lent.1];
@@ -96,9 +123,12 @@ fn advance_and_drill_list_refuse_sides_and_lengths() {
     for side in SIDES {
         let (n, p) = needed(side);
         let mut buffers = Buffers::new(side).unwrap();
-        let progress = buffers.load(side, &vec![1; n]).progress;
+        let progress = buffers.load(side, PLAIN, &vec![1; n]).progress;
         assert_eq!(sheet_number(progress, &buffers, (p, n, n)), 0);
-        // the same numbers on a sheet that isn't sound, since 5 is higher
+        for knit in NO_KNITS {
+            assert_eq!(sheet_number_on(Progress { knit, ..progress }, &buffers, (p, n, n)), 11);
+        }
+        // the same numbers on a sheet that isn't sound, since 5 comes later
         let not_sound = odd_buffers(p, n, n);
         assert_eq!(sheet_number(progress, &not_sound, (p, n, n)), 5);
         for buffers in [&buffers, &not_sound] {
@@ -108,7 +138,7 @@ fn advance_and_drill_list_refuse_sides_and_lengths() {
             assert_eq!(sheet_number(progress, buffers, (p - 1, n - 1, n - 1)), 3);
             assert_eq!(sheet_number(progress, buffers, (0, 0, 0)), 3);
             for wrong in NO_SIDES {
-                let progress = Progress { side: wrong, dots: 0 };
+                let progress = Progress { side: wrong, dots: 0, knit: PLAIN };
                 assert_eq!(sheet_number(progress, buffers, (0, 0, 0)), 1);
                 assert_eq!(sheet_number(progress, buffers, (p, n, n)), 1);
             }
@@ -152,9 +182,9 @@ fn condition_1_too_many_dots() {
     full.serials = (1..=16).collect();
     full.order = (0..16).collect();
     let lent = (21, 16, 16);
-    assert_eq!(sheet_number(Progress { side: 4, dots: 16 }, &full, lent), 0);
+    assert_eq!(sheet_number(Progress { side: 4, dots: 16, knit: PLAIN }, &full, lent), 0);
     for dots in [17, u32::MAX] {
-        assert_eq!(sheet_number(Progress { side: 4, dots }, &full, lent), 5);
+        assert_eq!(sheet_number(Progress { side: 4, dots, knit: PLAIN }, &full, lent), 5);
     }
 }
 
@@ -188,8 +218,8 @@ fn condition_3_other_serials() {
     let mut buffers = Buffers::new(4).unwrap();
     buffers.serials[0] = 1;
     let lent = (21, 16, 16);
-    assert_eq!(sheet_number(Progress { side: 4, dots: 0 }, &buffers, lent), 5);
-    assert_eq!(sheet_number(Progress { side: 4, dots: 1 }, &buffers, lent), 0);
+    assert_eq!(sheet_number(Progress { side: 4, dots: 0, knit: PLAIN }, &buffers, lent), 5);
+    assert_eq!(sheet_number(Progress { side: 4, dots: 1, knit: PLAIN }, &buffers, lent), 0);
 }
 
 #[test]
@@ -268,8 +298,11 @@ fn drill_list_refuses_a_short_output() {
     assert_eq!(list(progress, expected.len()), (Ok(22), expected.to_vec()));
     let with_tail = [&expected[..], b"###"].concat();
     assert_eq!(list(progress, expected.len() + 3), (Ok(22), with_tail));
-    // 5 is lower
-    assert_eq!(list(Progress { side: 4, dots: 2 }, 0).0, Err(5));
+    // 5 comes before, and 11 too
+    assert_eq!(list(Progress { dots: 2, ..progress }, 0).0, Err(5));
+    assert_eq!(list(Progress { knit: RIBBED, ..progress }, 0).0, Err(8));
+    assert_eq!(list(Progress { knit: 2, ..progress }, 0).0, Err(11));
+    assert_eq!(list(Progress { knit: 2, dots: 2, ..progress }, 0).0, Err(11));
 }
 
 #[test]
@@ -523,13 +556,17 @@ fn shelf_refuses_more_plates_than_there_can_be() {
     assert_eq!(shelf_number(256, 65_536, 0, 65_536), 4);
 }
 
-/// The number of Keep. It gives the record back, and a refusal the value too.
+/// The number of Keep. It gives the record back, and a refusal the value too. The knit makes no difference, not even
+/// one that is none.
 fn keep_number(side: u32, dots: u32, name: u32) -> u32 {
-    let (progress, checkpoints) = (Progress { side, dots }, Checkpoints { kept: [9, 0, 7, 1, u64::MAX, 5, 4, 3] });
-    let answer = keep(progress, checkpoints, name);
-    assert_eq!(answer.progress, progress);
-    assert_eq!(answer.checkpoints == checkpoints, answer.status.is_err());
-    answer.status.map_or_else(Refusal::number, |()| 0)
+    let checkpoints = Checkpoints { kept: [9, 0, 7, 1, u64::MAX, 5, 4, 3] };
+    let plain = keep(Progress { side, dots, knit: PLAIN }, checkpoints, name);
+    assert_eq!(plain.checkpoints == checkpoints, plain.status.is_err());
+    for knit in [PLAIN, RIBBED, 2, u32::MAX] {
+        let progress = Progress { side, dots, knit };
+        assert_eq!(keep(progress, checkpoints, name), CheckpointAnswer { progress, ..plain });
+    }
+    plain.status.map_or_else(Refusal::number, |()| 0)
 }
 
 #[test]
@@ -567,7 +604,7 @@ impl Return {
     fn new(side: u32) -> Return {
         let (n, p) = needed(side);
         let mut buffers = odd_buffers(p + 7, n + 7, n + 7);
-        let progress = buffers.load(side, &vec![128; n]).progress;
+        let progress = buffers.load(side, PLAIN, &vec![128; n]).progress;
         let progress = buffers.advance(progress, 1).progress;
         Return { progress, name: 5, greys: vec![128; n + 7], buffers, lent: [p + 7, n + 7, n + 7] }
     }
@@ -581,7 +618,7 @@ impl Return {
         assert_eq!(answer.checkpoints, checkpoints);
         match answer.status {
             Ok(()) => {
-                assert_eq!(answer.progress, Progress { side: self.progress.side, dots: 2 });
+                assert_eq!(answer.progress, Progress { dots: 2, ..self.progress });
                 0
             }
             Err(refusal) => {
@@ -597,10 +634,12 @@ impl Return {
 type Failure = fn(&mut Return);
 
 /// The ways in which each check of Restore fails, by one where it can, with the number that is then told.
-const FAILURES: [(u32, Failure); 17] = [
+const FAILURES: [(u32, Failure); 19] = [
     (1, |asked| asked.progress.side += 1),
     (1, |asked| asked.progress.side = 0),
     (1, |asked| asked.progress.side = 512),
+    (11, |asked| asked.progress.knit = 2),
+    (11, |asked| asked.progress.knit = u32::MAX),
     (2, |asked| asked.greys.truncate(cell_count(asked.progress.side) - 1)),
     (2, |asked| asked.greys.clear()),
     (3, |asked| asked.lent[0] = needed(asked.progress.side).1 - 1),
@@ -624,6 +663,12 @@ fn restore_refuses() {
         assert_eq!(asked.number(), 0);
         let (n, p) = needed(side);
         assert_eq!(Return { greys: vec![128; n], lent: [p, n, n], ..asked.clone() }.number(), 0);
+        let ribbed = Progress { knit: RIBBED, ..asked.progress };
+        assert_eq!(Return { progress: ribbed, ..asked.clone() }.number(), 0);
+        for knit in NO_KNITS {
+            let progress = Progress { knit, ..asked.progress };
+            assert_eq!(Return { progress, ..asked.clone() }.number(), 11);
+        }
         for (number, fail) in FAILURES {
             let mut asked = asked.clone();
             fail(&mut asked);
@@ -644,8 +689,8 @@ fn restore_refuses() {
     }
 }
 
-/// Checks 1, 2, 3, 4, 5 and 10: of any two that fail, in whichever way, the first is told; and of all that fail from
-/// one on.
+/// Checks 1, 11, 2, 3, 4, 5 and 10: of any two that fail, in whichever way, the first is told; and of all that fail
+/// from one on.
 #[test]
 fn restore_refuses_in_order() {
     for side in SIDES {
@@ -777,8 +822,8 @@ fn longer_buffers_keep_their_tail() {
         let mut just = Buffers::new(side).unwrap();
         let mut long = odd_buffers(p + 9, n + 9, n + 9);
         let tails = long.clone();
-        let mut progress = just.load(side, &greys).progress;
-        assert_eq!(long.load(side, &long_greys), just.load(side, &greys));
+        let mut progress = just.load(side, RIBBED, &greys).progress;
+        assert_eq!(long.load(side, RIBBED, &long_greys), just.load(side, RIBBED, &greys));
         for budget in [0, 1, u32::MAX] {
             let answer = just.advance(progress, budget);
             assert_eq!(long.advance(progress, budget), answer);
@@ -816,7 +861,7 @@ fn any_lengths_and_any_content() {
             order: (0..lengths[4 + pick(4)]).map(|_| numbers[pick(13)]).collect(),
         };
         let before = buffers.clone();
-        let progress = Progress { side: numbers[pick(13)], dots: numbers[pick(13)] };
+        let progress = Progress { side: numbers[pick(13)], dots: numbers[pick(13)], knit: [0, 0, 1, 1, 2][pick(5)] };
         let answer = buffers.advance(progress, numbers[pick(13)]);
         assert!(answer.status.is_ok() || (buffers == before && answer.progress == progress));
         let listed = before.drill_list(progress, &mut [0; 2_000]);

@@ -266,7 +266,7 @@ fn plates_of_the_largest_side() {
     let mut plates = Vec::new();
     for name in names {
         let mut buffers = Buffers::new(256).unwrap();
-        let progress = buffers.load(256, &maps::named(name, 256)).progress;
+        let progress = buffers.load(256, PLAIN, &maps::named(name, 256)).progress;
         buffers.advance(progress, 200);
         plates.extend(buffers.serials);
     }

@@ -12,7 +12,7 @@ use mir.Syntax.{w32}
 use mir.Val.{Fits}
 use Rattle.definition.specs.Answers.{advanceSays, numberOf}
 use Rattle.definition.specs.Pyramid.{needed, cellCount}
-use Rattle.definition.specs.Diffusion.{plain}
+use Rattle.definition.specs.Diffusion.{kernelOf}
 use Rattle.definition.specs.Refusals.{powerOf}
 use Rattle.definition.specs.Model.{Halftone, topOf, steps}
 use Rattle.definition.specs.Sound.{isSound}
@@ -24,7 +24,7 @@ use Rattle.definition.specs.declared.AdvanceStatus.{AdvanceStatus}
 use Rattle.definition.specs.declared.AdvanceStatus.the-variants.{Refused}
 use Rattle.integers.specs.Tests.{T-true}
 use Rattle.quadtree.specs.Levels.{start-suc, cells-few}
-use Rattle.shares.specs.Kernels.{plain-fit}
+use Rattle.shares.specs.Kernels.{knit-fit}
 use Rattle.refusals.specs.Powers.{power-small}
 use Rattle.refusals.specs.Numbers.{number-positive}
 use Rattle.dots.specs.Steps.{Sheet, steps-sheet}
@@ -68,12 +68,14 @@ module _ {r dots : ℕ} (p : List ℤ) (s o : List ℕ) (h : SheetAsked r dots p
             };
       }
 
-  module _ (budget : ℕ) {made : ℕ} {p′ : List ℤ} {s′ o′ : List ℕ} (ran : Ran r lent budget made (record { pyramid = p′; serials = s′; order = o′; dots = dots + made })) where
+  module _ (knit budget : ℕ) {made : ℕ} {p′ : List ℤ} {s′ o′ : List ℕ}
+      (ran : Ran knit r lent budget made
+      (record { pyramid = p′; serials = s′; order = o′; dots = dots + made })) where
     big : 2 ≤ 2 ^ r
     big = pow-mono {i = 1} {j = r} (h .lent .power)
 
     sheet′ : Sheet r (record { pyramid = p′; serials = s′; order = o′; dots = dots + made })
-    sheet′ = rw (ran .after-is) (steps-sheet plain plain-fit r big made lent (run-asked .sheet))
+    sheet′ = rw (ran .after-is) (steps-sheet (kernelOf knit) (knit-fit knit) r big made lent (run-asked .sheet))
 
     top-in : 0 < length p′
     top-in = omega (arith, sheet′ .sized .pyramid, start-suc r, mul-le-mul big big)
@@ -87,24 +89,61 @@ module _ {r dots : ℕ} (p : List ℤ) (s o : List ℕ) (h : SheetAsked r dots p
     made-in : min budget (dotsDue (topOf (sheetIn r dots p s o .pyramid))) ≡ made
     made-in = rw (← lent-is) (sym (ran .made-is))
 
-    after-in : steps plain r made (sheetIn r dots p s o) ≡ record { pyramid = p′; serials = s′; order = o′; dots = dots + made }
+    after-in : steps (kernelOf knit) r made (sheetIn r dots p s o)
+        ≡ record { pyramid = p′; serials = s′; order = o′; dots = dots + made }
     after-in = rw (← lent-is) (sym (ran .after-is))
 
-    pub advanced-is : (progress : Progress) {a : AdvanceAnswer} {status : AdvanceStatus} (top : ℤ) → dots ≡ progress .dots → top ≡ getD (p′ ++ drop n p) 0 (pos 0) → advanceSays status ≡ saidAt top
-        → a ≡ record { progress = record { side = progress .side; dots = dots + made }; made = made; status = status }
-        → record { reply = record { progress = a .progress; made = a .made; said = advanceSays (a .status) }; pyramid = p′ ++ drop n p; serials = s′ ++ drop c s; order = o′ ++ drop c o }
-        ≡ advanced plain r progress budget p s o
+    pub advanced-is : (progress : Progress) {a : AdvanceAnswer} {status : AdvanceStatus} (top : ℤ)
+        → dots ≡ progress .dots → knit ≡ progress .knit
+        → top ≡ getD (p′ ++ drop n p) 0 (pos 0) → advanceSays status ≡ saidAt top
+        → a
+        ≡ record {
+          progress = record { side = progress .side; dots = dots + made; knit = knit };
+          made = made;
+          status = status;
+        }
+        → record {
+          reply = record { progress = a .progress; made = a .made; said = advanceSays (a .status) };
+          pyramid = p′ ++ drop n p;
+          serials = s′ ++ drop c s;
+          order = o′ ++ drop c o;
+        }
+        ≡ advanced r progress budget p s o
     unfolding advanced topOf
-    advanced-is progress {a} {status} top ed et says ea = rw (← ed, ea, says, et, List·getD-append p′ (drop n p) (pos 0) 0 top-in, made-in, after-in, en, ec)
+    advanced-is progress {a} {status} top ed ek et says ea =
+        rw (
+          ← ed,
+          ← ek,
+          ea,
+          says,
+          et,
+          List·getD-append p′ (drop n p) (pos 0) 0 top-in,
+          made-in,
+          after-in,
+          en,
+          ec,
+        )
 
 -- ---- the call
 module _ (progress : Progress) (p : List ℤ) (s o : List ℕ) {r : ℕ} (er : r ≡ powerOf (progress .side)) (check : Check)
-    (e : checked check ≡ advanceRefusal r (length p) (length s) (length o) (isSound r (sheetIn r (progress .dots) p s o))) where
+    (e : checked check
+    ≡ advanceRefusal r (progress .knit) (length p) (length s) (length o)
+    (isSound r (sheetIn r (progress .dots) p s o))) where
   abbrev refusalOf : ℕ
-  refusalOf = advanceRefusal (powerOf (progress .side)) (length p) (length s) (length o) (isSound (powerOf (progress .side)) (sheetIn (powerOf (progress .side)) (progress .dots) p s o))
+  refusalOf =
+      let k = powerOf (progress .side) in
+      advanceRefusal k (progress .knit) (length p) (length s) (length o)
+      (isSound k (sheetIn k (progress .dots) p s o))
 
-  pub refused-is : (budget : ℕ) {why : Refusal} {a : AdvanceAnswer} → check ≡ Failed why → a ≡ record { progress = progress; made = 0; status = Refused why }
-      → record { reply = record { progress = a .progress; made = a .made; said = advanceSays (a .status) }; pyramid = p; serials = s; order = o } ≡ advanceOf plain progress budget p s o
+  pub refused-is : (budget : ℕ) {why : Refusal} {a : AdvanceAnswer}
+      → check ≡ Failed why → a ≡ record { progress = progress; made = 0; status = Refused why }
+      → record {
+        reply = record { progress = a .progress; made = a .made; said = advanceSays (a .status) };
+        pyramid = p;
+        serials = s;
+        order = o;
+      }
+      ≡ advanceOf progress budget p s o
   unfolding advanceOf advanceSays
   refused-is budget {why} failed ea =
       let n : refusalOf ≡ suc (numberOf why - 1) = rw (← er) (failed-number check e why failed) in
@@ -112,9 +151,12 @@ module _ (progress : Progress) (p : List ℤ) (s o : List ℕ) {r : ℕ} (er : r
 
   module _ (passed : check ≡ Passed) where
     pub advance-asked : SheetAsked r (progress .dots) p s o
-    advance-asked = sheet-asked (power-small (progress .side) er) (progress .dots) p s o check e passed
+    advance-asked =
+        sheet-asked (progress .knit) (power-small (progress .side) er) (progress .dots) p s o check e passed
 
-    pub passed-is : (budget : ℕ) {out : AdvanceOutcome} → out ≡ advanced plain r progress budget p s o → out ≡ advanceOf plain progress budget p s o
+    pub passed-is : (budget : ℕ) {out : AdvanceOutcome}
+        → out ≡ advanced r progress budget p s o
+        → out ≡ advanceOf progress budget p s o
     unfolding advanceOf
     passed-is budget q =
         let z : refusalOf ≡ 0 = rw (← er) (passed-none check e passed) in

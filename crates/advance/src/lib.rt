@@ -1,4 +1,4 @@
-// Advance: "makes exactly the smaller of the budget and the holes due".
+// Advance: as many dots as are due, and at most the budget, spread by the knit of the record.
 use checks::Check;
 use definition::AdvanceAnswer;
 use definition::AdvanceStatus;
@@ -6,7 +6,6 @@ use definition::Progress;
 use definition::Refusal;
 ghost use mathlib.Core.Path.{_≡_};
 ghost use Rattle.definition.specs.Answers.{advanceSays};
-ghost use Rattle.definition.specs.Diffusion.{plain};
 ghost use Rattle.definition.specs.Advance.{saidAt, advanced, advanceOf};
 ghost use Rattle.sheet.specs.Sheets.{SheetAsked};
 
@@ -33,11 +32,13 @@ fn refused(progress: Progress, why: Refusal) -> AdvanceAnswer
     }
 }
 
-fn answer(side: u32, dots: u32, made: u32, status: AdvanceStatus) -> AdvanceAnswer
-    ensures { λ a. ⌜ a ≡ record { progress = record { side = side; dots = dots }; made = made; status = status } ⌝ }
+fn answer(side: u32, dots: u32, knit: u32, made: u32, status: AdvanceStatus) -> AdvanceAnswer
+    ensures { λ a. ⌜
+        a ≡ record { progress = record { side = side; dots = dots; knit = knit }; made = made; status = status }
+        ⌝ }
 {
     AdvanceAnswer {
-        progress: Progress { side, dots },
+        progress: Progress { side, dots, knit },
         made,
         status,
     }
@@ -53,21 +54,32 @@ fn advance_sheet(
     order: &mut [u32],
 ) -> AdvanceAnswer
     requires { ⌜ SheetAsked r (progress .dots) (now pyramid) (now serials) (now order) ⌝ }
-    ensures { λ a. ⌜ record { reply = record { progress = a .progress; made = a .made; said = advanceSays (a .status) }; pyramid = now (pyramid .exit); serials = now (serials .exit); order = now (order .exit) } ≡ advanced plain r progress budget (now (pyramid .entry)) (now (serials .entry)) (now (order .entry)) ⌝ }
+    ensures { λ a. ⌜
+        record {
+          reply = record { progress = a .progress; made = a .made; said = advanceSays (a .status) };
+          pyramid = now (pyramid .exit);
+          serials = now (serials .exit);
+          order = now (order .exit);
+        }
+        ≡ advanced r progress budget
+        (now (pyramid .entry)) (now (serials .entry)) (now (order .entry))
+        ⌝ }
 {
     let dots = progress.dots;
+    let knit = progress.knit;
     let needed = sizes::needed(r);
     let cells = sizes::cell_count(r);
     let made = dot_run::run(
         &mut pyramid[..needed],
         &mut serials[..cells],
         &mut order[..cells],
+        knit,
         r,
         dots,
         budget,
     );
     let status = ended(pyramid[0]);
-    answer(progress.side, dots + made, made, status)
+    answer(progress.side, dots + made, knit, made, status)
 }
 
 pub fn advance(
@@ -77,11 +89,19 @@ pub fn advance(
     serials: &mut [u32],
     order: &mut [u32],
 ) -> AdvanceAnswer
-    ensures { λ a. ⌜ record { reply = record { progress = a .progress; made = a .made; said = advanceSays (a .status) }; pyramid = now (pyramid .exit); serials = now (serials .exit); order = now (order .exit) } ≡ advanceOf plain progress budget (now (pyramid .entry)) (now (serials .entry)) (now (order .entry)) ⌝ }
+    ensures { λ a. ⌜
+        record {
+          reply = record { progress = a .progress; made = a .made; said = advanceSays (a .status) };
+          pyramid = now (pyramid .exit);
+          serials = now (serials .exit);
+          order = now (order .exit);
+        }
+        ≡ advanceOf progress budget (now (pyramid .entry)) (now (serials .entry)) (now (order .entry))
+        ⌝ }
 {
     let dots = progress.dots;
     let r = sizes::power_of(progress.side);
-    match sheet::check_sheet(r, dots, pyramid, serials, order) {
+    match sheet::check_sheet(r, dots, progress.knit, pyramid, serials, order) {
         Check::Failed(why) => refused(progress, why),
         Check::Passed => advance_sheet(progress, r, budget, pyramid, serials, order),
     }

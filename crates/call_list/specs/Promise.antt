@@ -12,7 +12,6 @@ use lib.IntN.{ℤ}
 use Rattle.definition.specs.Lists.{tabulateFrom, tabulate}
 use Rattle.definition.specs.Answers.{Said}
 use Rattle.definition.specs.Blocks.{greyTotal}
-use Rattle.definition.specs.Diffusion.{plain}
 use Rattle.definition.specs.Model.{modelStart}
 use Rattle.definition.specs.Refusals.{powerOf}
 use Rattle.definition.specs.Load.{loadOf}
@@ -31,16 +30,19 @@ abbrev pub callsIn : List ℕ → List ℕ → List ℕ → List ℕ → List Ca
 callsIn budgets pyramids sheets orders = tabulate (length budgets) (callAt budgets pyramids sheets orders)
 
 -- What the caller holds after Load and a list of calls; and, if Load accepts, demand 3 of it.
-pub record Kept (side : ℕ) (g : List ℕ) (p : List ℤ) (s o : List ℕ) (calls : List Call) (held : Held) : Type 0 where
-  pub held-is : held ≡ heldAfterCalls plain (heldAfterLoad side g p s o) calls
-  pub demand : Accepted side g p s o
-      → Holds plain (powerOf side) (greyTotal (powerOf side) g) g p s o calls held (outcomesOf plain (heldAfterLoad side g p s o) calls)
-      (repliesOf plain (heldAfterLoad side g p s o) calls) (modelAfterCalls plain (powerOf side) (modelStart (powerOf side) g) calls)
-      (modelReplies plain (powerOf side) (modelStart (powerOf side) g) calls)
+pub record Kept (side knit : ℕ) (g : List ℕ) (p : List ℤ) (s o : List ℕ) (calls : List Call) (held : Held) :
+    Type 0 where
+  pub held-is : held ≡ heldAfterCalls (heldAfterLoad side knit g p s o) calls
+  pub demand : Accepted side knit g p s o
+      → Holds knit (powerOf side) (greyTotal (powerOf side) g) g p s o calls held
+      (outcomesOf (heldAfterLoad side knit g p s o) calls) (repliesOf (heldAfterLoad side knit g p s o) calls)
+      (modelAfterCalls knit (powerOf side) (modelStart (powerOf side) g) calls)
+      (modelReplies knit (powerOf side) (modelStart (powerOf side) g) calls)
 
-pub kept : (side : ℕ) (g : List ℕ) (p : List ℤ) (s o : List ℕ) (calls : List Call) (held : Held) → held ≡ heldAfterCalls plain (heldAfterLoad side g p s o) calls
-    → Kept side g p s o calls held
-kept side g p s o calls held e = record { held-is = e; demand = λ accepted. rw e (demand-3 side g p s o accepted calls) }
+pub kept : (side knit : ℕ) (g : List ℕ) (p : List ℤ) (s o : List ℕ) (calls : List Call) (held : Held)
+    → held ≡ heldAfterCalls (heldAfterLoad side knit g p s o) calls → Kept side knit g p s o calls held
+kept side knit g p s o calls held e =
+    record { held-is = e; demand = λ accepted. rw e (demand-3 side knit g p s o accepted calls) }
 
 -- ---- one call more
 pub tabulate-more : {A : Type 0} (i n : ℕ) (f : ℕ → A)
@@ -49,17 +51,19 @@ unfolding tabulateFrom
 tabulate-more i zero f = rw (add-zero i)
 tabulate-more i (suc n) f = let z : suc i + n ≡ i + suc n = omega arith in ap (λ l. f i ∷ l) (rw z at (tabulate-more (suc i) n f))
 
-held-more : (held : Held) (calls : List Call) (c : Call) → heldAfterCalls plain held (calls ++ (c ∷ [])) ≡ heldAfter (callOf plain (heldAfterCalls plain held calls) c)
+held-more : (held : Held) (calls : List Call) (c : Call)
+    → heldAfterCalls held (calls ++ (c ∷ [])) ≡ heldAfter (callOf (heldAfterCalls held calls) c)
 unfolding heldAfterCalls
 held-more held [] c = refl
-held-more held (call ∷ calls) c = held-more (heldAfter (callOf plain held call)) calls c
+held-more held (call ∷ calls) c = held-more (heldAfter (callOf held call)) calls c
 
 module _ (fresh : Held) (f : ℕ → Call) where
-  pub before-calls : fresh ≡ heldAfterCalls plain fresh (tabulate 0 f)
+  pub before-calls : fresh ≡ heldAfterCalls fresh (tabulate 0 f)
   unfolding tabulateFrom heldAfterCalls
   before-calls = refl
 
-  pub after-call : (i : ℕ) {held held′ : Held} → held ≡ heldAfterCalls plain fresh (tabulate i f) → held′ ≡ heldAfter (callOf plain held (f i)) → held′ ≡ heldAfterCalls plain fresh (tabulate (i + 1) f)
+  pub after-call : (i : ℕ) {held held′ : Held} → held ≡ heldAfterCalls fresh (tabulate i f)
+      → held′ ≡ heldAfter (callOf held (f i)) → held′ ≡ heldAfterCalls fresh (tabulate (i + 1) f)
   after-call i e q = q ∙ rw (e, add-one i, tabulate-more 0 i f, zero-add i) (sym (held-more fresh (tabulate i f) (f i)))
 
 -- ---- a part lent: all of a buffer, if it is shorter than asked
@@ -84,18 +88,23 @@ module _ {A : Type 0} (asked : ℕ) (l : List A) {n : ℕ} (e : n ≡ min asked 
   lent-drop = lent-same .1
 
 module _ (progress : Progress) (budget a b c : ℕ) (p : List ℤ) (s o : List ℕ) {np ns no : ℕ} (ep : np ≡ min a (length p)) (es : ns ≡ min b (length s)) (eo : no ≡ min c (length o)) where
-  pub call-made : {progress′ : Progress} {reply : Reply} {p′ : List ℤ} {s′ o′ : List ℕ} → record { reply = reply; pyramid = p′; serials = s′; order = o′ } ≡ advanceOf plain progress budget (take np p) (take ns s) (take no o)
+  pub call-made : {progress′ : Progress} {reply : Reply} {p′ : List ℤ} {s′ o′ : List ℕ}
+      → record { reply = reply; pyramid = p′; serials = s′; order = o′ }
+      ≡ advanceOf progress budget (take np p) (take ns s) (take no o)
       → progress′ ≡ reply .progress
       → record { progress = progress′; pyramid = p′ ++ drop np p; serials = s′ ++ drop ns s; order = o′ ++ drop no o }
-      ≡ heldAfter (callOf plain (record { progress = progress; pyramid = p; serials = s; order = o }) (record { budget = budget; pyramidLent = a; serialsLent = b; orderLent = c }))
+      ≡ heldAfter (callOf (record { progress = progress; pyramid = p; serials = s; order = o })
+      (record { budget = budget; pyramidLent = a; serialsLent = b; orderLent = c }))
   unfolding heldAfter callOf
   call-made q e = rw (e, lent-drop a p ep, lent-drop b s es, lent-drop c o eo, ← lent-take a p ep, ← lent-take b s es, ← lent-take c o eo, ← q)
 
-pub loaded-held : (side : ℕ) (g : List ℕ) (p : List ℤ) (s o : List ℕ) {progress : Progress} {said : Said} {p′ : List ℤ} {s′ o′ : List ℕ}
-    → record { progress = progress; said = said; pyramid = p′; serials = s′; order = o′ } ≡ loadOf side g p s o
-    → record { progress = progress; pyramid = p′; serials = s′; order = o′ } ≡ heldAfterLoad side g p s o
+pub loaded-held : (side knit : ℕ) (g : List ℕ) (p : List ℤ) (s o : List ℕ) {progress : Progress} {said : Said}
+    {p′ : List ℤ} {s′ o′ : List ℕ}
+    → record { progress = progress; said = said; pyramid = p′; serials = s′; order = o′ }
+    ≡ loadOf side knit g p s o
+    → record { progress = progress; pyramid = p′; serials = s′; order = o′ } ≡ heldAfterLoad side knit g p s o
 unfolding heldAfterLoad
-loaded-held side g p s o e = rw (← e)
+loaded-held side knit g p s o e = rw (← e)
 
 -- ---- the loop: after i calls the caller holds p, s and o, who held p₀, s₀ and o₀
 pub record Called (progress₀ : Progress) (p₀ : List ℤ) (s₀ o₀ : List ℕ) (budgets pyramids sheets orders : List ℕ) (progress : Progress) (p : List ℤ) (s o : List ℕ) (i : ℕ) : Type 0 where
@@ -104,7 +113,8 @@ pub record Called (progress₀ : Progress) (p₀ : List ℤ) (s₀ o₀ : List �
   pub same-serials : length s ≡ length s₀
   pub same-order : length o ≡ length o₀
   pub is : record { progress = progress; pyramid = p; serials = s; order = o }
-      ≡ heldAfterCalls plain (record { progress = progress₀; pyramid = p₀; serials = s₀; order = o₀ }) (tabulate i (callAt budgets pyramids sheets orders))
+      ≡ heldAfterCalls (record { progress = progress₀; pyramid = p₀; serials = s₀; order = o₀ })
+      (tabulate i (callAt budgets pyramids sheets orders))
 
 module _ (progress₀ : Progress) (p₀ : List ℤ) (s₀ o₀ : List ℕ) (budgets pyramids sheets orders : List ℕ) where
   abbrev first : Held
@@ -117,7 +127,8 @@ module _ (progress₀ : Progress) (p₀ : List ℤ) (s₀ o₀ : List ℕ) (budg
     pub goes-on : {a b c : ℕ} → i < length budgets → a ≡ getD pyramids i 0 → b ≡ getD sheets i 0 → c ≡ getD orders i 0
         → (progress′ : Progress) (p′ : List ℤ) (s′ o′ : List ℕ) → length p′ ≡ length p → length s′ ≡ length s → length o′ ≡ length o
         → record { progress = progress′; pyramid = p′; serials = s′; order = o′ }
-        ≡ heldAfter (callOf plain (record { progress = progress; pyramid = p; serials = s; order = o }) (record { budget = getD budgets i 0; pyramidLent = a; serialsLent = b; orderLent = c }))
+        ≡ heldAfter (callOf (record { progress = progress; pyramid = p; serials = s; order = o })
+        (record { budget = getD budgets i 0; pyramidLent = a; serialsLent = b; orderLent = c }))
         → Called progress₀ p₀ s₀ o₀ budgets pyramids sheets orders progress′ p′ s′ o′ (i + 1)
     goes-on lt ea eb ec progress′ p′ s′ o′ lp ls lo q =
         record {
@@ -128,17 +139,23 @@ module _ (progress₀ : Progress) (p₀ : List ℤ) (s₀ o₀ : List ℕ) (budg
           is = after-call first (callAt budgets pyramids sheets orders) i (h .is) (q ∙ rw (ea, eb, ec));
         }
 
-    pub all-called : length budgets ≤ i → record { progress = progress; pyramid = p; serials = s; order = o } ≡ heldAfterCalls plain first (callsIn budgets pyramids sheets orders)
+    pub all-called : length budgets ≤ i
+        → record { progress = progress; pyramid = p; serials = s; order = o }
+        ≡ heldAfterCalls first (callsIn budgets pyramids sheets orders)
     all-called le = let z : i ≡ length budgets = omega (arith, h .within) in rw z at (h .is)
 
 -- ---- Load, then the calls
-pub promised : (side : ℕ) (g : List ℕ) (p : List ℤ) (s o : List ℕ) {progress : Progress} (said : Said) {p′ : List ℤ} {s′ o′ : List ℕ} (calls : List Call) (held : Held)
-    → record { progress = progress; said = said; pyramid = p′; serials = s′; order = o′ } ≡ loadOf side g p s o
-    → held ≡ heldAfterCalls plain (record { progress = progress; pyramid = p′; serials = s′; order = o′ }) calls
-    → Kept side g p s o calls held
-promised side g p s o said calls held e q = kept side g p s o calls held (q ∙ ap (λ (f : Held). heldAfterCalls plain f calls) (loaded-held side g p s o e))
+pub promised : (side knit : ℕ) (g : List ℕ) (p : List ℤ) (s o : List ℕ)
+    {progress : Progress} (said : Said) {p′ : List ℤ} {s′ o′ : List ℕ} (calls : List Call) (held : Held)
+    → record { progress = progress; said = said; pyramid = p′; serials = s′; order = o′ }
+    ≡ loadOf side knit g p s o
+    → held ≡ heldAfterCalls (record { progress = progress; pyramid = p′; serials = s′; order = o′ }) calls
+    → Kept side knit g p s o calls held
+promised side knit g p s o said calls held e q =
+    kept side knit g p s o calls held
+    (q ∙ ap (λ (f : Held). heldAfterCalls f calls) (loaded-held side knit g p s o e))
 
 -- ---- what `run_calls` promises, by its fields: demand 3, of the very list of calls that was made
-pub demand-of-code : {side : ℕ} {g : List ℕ} {p : List ℤ} {s o : List ℕ} {calls : List Call} {held : Held}
-    → Kept side g p s o calls held → Accepted side g p s o → Demand3 plain side g p s o calls
+pub demand-of-code : {side knit : ℕ} {g : List ℕ} {p : List ℤ} {s o : List ℕ} {calls : List Call} {held : Held}
+    → Kept side knit g p s o calls held → Accepted side knit g p s o → Demand3 side knit g p s o calls
 demand-of-code k accepted = rw (k .held-is) at (k .demand accepted)

@@ -1,9 +1,9 @@
-// The promise in code: a map is loaded, and a list of Advance calls is made on it, each lent parts of the buffers. What is promised is demand 3.
+// The promise in code: a map is loaded for a knit, and a list of Advance calls is made on it, each lent parts of the
+// buffers. What is promised is demand 3.
 use definition::Progress;
 ghost use mathlib.Core.Path.{_≡_};
 ghost use Prim.Native.Nat.{min};
 ghost use lib.ListN.{length, getD};
-ghost use Rattle.definition.specs.Diffusion.{plain};
 ghost use Rattle.definition.specs.Calls.{callOf, heldAfter, heldAfterCalls};
 ghost use Rattle.call_list.specs.Promise.{callsIn, Kept};
 
@@ -38,7 +38,23 @@ pub fn one_call(
     serials: &mut [u32],
     order: &mut [u32],
 ) -> Progress
-    ensures { λ r. ⌜ record { progress = r; pyramid = now (pyramid .exit); serials = now (serials .exit); order = now (order .exit) } ≡ heldAfter (callOf plain (record { progress = progress; pyramid = now (pyramid .entry); serials = now (serials .entry); order = now (order .entry) }) (record { budget = budget; pyramidLent = a; serialsLent = b; orderLent = c })) ⌝ }
+    ensures { λ r. ⌜
+        record {
+          progress = r;
+          pyramid = now (pyramid .exit);
+          serials = now (serials .exit);
+          order = now (order .exit);
+        }
+        ≡ heldAfter
+        (callOf
+        (record {
+          progress = progress;
+          pyramid = now (pyramid .entry);
+          serials = now (serials .entry);
+          order = now (order .entry);
+        })
+        (record { budget = budget; pyramidLent = a; serialsLent = b; orderLent = c }))
+        ⌝ }
 {
     let p = lent(a, pyramid.len());
     let s = lent(b, serials.len());
@@ -64,7 +80,22 @@ fn make_calls(
     sheets: &[usize],
     orders: &[usize],
 ) -> Progress
-    ensures { λ r. ⌜ record { progress = r; pyramid = now (pyramid .exit); serials = now (serials .exit); order = now (order .exit) } ≡ heldAfterCalls plain (record { progress = first; pyramid = now (pyramid .entry); serials = now (serials .entry); order = now (order .entry) }) (callsIn (now (budgets .entry)) (now (pyramids .entry)) (now (sheets .entry)) (now (orders .entry))) ⌝ }
+    ensures { λ r. ⌜
+        record {
+          progress = r;
+          pyramid = now (pyramid .exit);
+          serials = now (serials .exit);
+          order = now (order .exit);
+        }
+        ≡ heldAfterCalls
+        (record {
+          progress = first;
+          pyramid = now (pyramid .entry);
+          serials = now (serials .entry);
+          order = now (order .entry);
+        })
+        (callsIn (now (budgets .entry)) (now (pyramids .entry)) (now (sheets .entry)) (now (orders .entry)))
+        ⌝ }
 {
     let mut progress = first;
     let mut i = 0;
@@ -81,6 +112,7 @@ fn make_calls(
 // Load, then these calls.
 pub fn run_calls(
     side: u32,
+    knit: u32,
     greys: &[u8],
     pyramid: &mut [i64],
     serials: &mut [u32],
@@ -90,9 +122,19 @@ pub fn run_calls(
     sheets: &[usize],
     orders: &[usize],
 ) -> Progress
-    ensures { λ r. ⌜ Kept side (now (greys .entry)) (now (pyramid .entry)) (now (serials .entry)) (now (order .entry)) (callsIn (now (budgets .entry)) (now (pyramids .entry)) (now (sheets .entry)) (now (orders .entry))) (record { progress = r; pyramid = now (pyramid .exit); serials = now (serials .exit); order = now (order .exit) }) ⌝ }
+    ensures { λ r. ⌜
+        Kept side knit
+        (now (greys .entry)) (now (pyramid .entry)) (now (serials .entry)) (now (order .entry))
+        (callsIn (now (budgets .entry)) (now (pyramids .entry)) (now (sheets .entry)) (now (orders .entry)))
+        (record {
+          progress = r;
+          pyramid = now (pyramid .exit);
+          serials = now (serials .exit);
+          order = now (order .exit);
+        })
+        ⌝ }
 {
-    let loaded = load::load(side, greys, pyramid, serials, order);
+    let loaded = load::load(side, knit, greys, pyramid, serials, order);
     let first = loaded.progress;
     make_calls(
         first,

@@ -164,12 +164,18 @@ pub fn print_case(number: u32) {
     end_line();
 }
 
+// Writes a field for each number of a record: the side, the dots, the knit.
+pub fn print_record(progress: Progress) {
+    field_u32(progress.side);
+    field_u32(progress.dots);
+    field_u32(progress.knit);
+}
+
 // Writes what Load answers.
 pub fn print_load(answer: LoadAnswer) {
     let progress = answer.progress;
     io::write_all(1, b"load");
-    field_u32(progress.side);
-    field_u32(progress.dots);
+    print_record(progress);
     let status = answer.status;
     match status {
         LoadStatus::Loaded => end_line(),
@@ -324,8 +330,7 @@ pub fn print_call(budget: u32, answer: AdvanceAnswer) {
     let progress = answer.progress;
     io::write_all(1, b"call");
     field_u32(budget);
-    field_u32(progress.side);
-    field_u32(progress.dots);
+    print_record(progress);
     field_u32(answer.made);
     let status = answer.status;
     match status {

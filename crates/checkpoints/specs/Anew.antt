@@ -9,12 +9,12 @@ use lib.Seq.{take-at, drop-at}
 use lib.IntN.{ℤ}
 use Rattle.definition.specs.Pyramid.{needed, cellCount}
 use Rattle.definition.specs.Blocks.{greySum, greyTotal, totalOf}
-use Rattle.definition.specs.Diffusion.{plain}
+use Rattle.definition.specs.Diffusion.{kernelOf}
 use Rattle.definition.specs.Model.{Halftone, topOf, modelStart, steps}
 use Rattle.definition.specs.Advance.{dotsDue}
 use Rattle.pyramid.specs.Asked.{freshPyramid}
 use Rattle.blocks.specs.Blocks.{BlockAsked}
-use Rattle.shares.specs.Kernels.{plain-fit}
+use Rattle.shares.specs.Kernels.{knit-fit}
 use Rattle.dots.specs.Steps.{Sheet, steps-min}
 use Rattle.guarantee.specs.Start.{each-of, start-sheet}
 use Rattle.fresh_sheet.specs.Filling.{Filled}
@@ -49,7 +49,7 @@ module _ {r : ℕ} {g : List ℕ} (p : List ℤ) (s o : List ℕ) (h : AnewAsked
   sheet = start-sheet r g (each-of (λ grey. grey ≤ 255) g 0 (λ i l. h .bytes i))
 
   big : 2 ≤ 2 ^ r
-  big = pow-mono {i = 1} {j = r} (h .lent .lent .power)
+  big = pow-mono {i = 1} {j = r} (h .lent .power)
 
   pyramid-is : p₁ ≡ modelStart r g .pyramid ++ drop (needed r) p
   unfolding modelStart freshPyramid
@@ -91,19 +91,19 @@ module _ {r : ℕ} {g : List ℕ} (p : List ℤ) (s o : List ℕ) (h : AnewAsked
       no-dots = unfold modelStart in refl
 
   pub run-asked : RunAsked r lent
-  run-asked = record { power = h .lent .lent .power; small = h .lent .small; sheet = rw lent-is sheet }
+  run-asked = record { power = h .lent .power; small = h .lent .small; sheet = rw lent-is sheet }
 
-  module _ (dots : ℕ) {made : ℕ} {p′ : List ℤ} {s′ o′ : List ℕ}
-      (ran : Ran r lent dots made (record { pyramid = p′; serials = s′; order = o′; dots = 0 + made })) where
+  module _ (knit dots : ℕ) {made : ℕ} {p′ : List ℤ} {s′ o′ : List ℕ}
+      (ran : Ran knit r lent dots made (record { pyramid = p′; serials = s′; order = o′; dots = 0 + made })) where
     after-is : record { pyramid = p′; serials = s′; order = o′; dots = 0 + made }
-        ≡ steps plain r dots (modelStart r g)
+        ≡ steps (kernelOf knit) r dots (modelStart r g)
     after-is =
         ran .after-is
-        ∙ ap (λ (k : ℕ). steps plain r k lent) (ran .made-is)
-        ∙ ap (λ (t : Halftone). steps plain r (min dots (dotsDue (topOf (t .pyramid)))) t) lent-is
-        ∙ steps-min plain plain-fit r big dots (modelStart r g) sheet
+        ∙ ap (λ (k : ℕ). steps (kernelOf knit) r k lent) (ran .made-is)
+        ∙ ap (λ (t : Halftone). steps (kernelOf knit) r (min dots (dotsDue (topOf (t .pyramid)))) t) lent-is
+        ∙ steps-min (kernelOf knit) (knit-fit knit) r big dots (modelStart r g) sheet
 
-    pub made-anew : Restored r dots g p s o (p′ ++ drop n p₁) (s′ ++ drop c s₁) (o′ ++ drop c o₁)
+    pub made-anew : Restored knit r dots g p s o (p′ ++ drop n p₁) (s′ ++ drop c s₁) (o′ ++ drop c o₁)
     made-anew =
         record {
           pyramid =

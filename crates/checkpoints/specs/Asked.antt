@@ -6,7 +6,7 @@ use Prim.Native.Nat.{ℕ, _*_, _-_, _^_, _≤_}
 use lib.ListN.{length, getD, drop}
 use lib.IntN.{ℤ}
 use Rattle.definition.specs.Pyramid.{needed, cellCount}
-use Rattle.definition.specs.Diffusion.{plain}
+use Rattle.definition.specs.Diffusion.{kernelOf}
 use Rattle.definition.specs.Model.{modelStart, steps}
 use Rattle.definition.specs.Checkpoints.{isName, keptAt}
 use Rattle.definition.specs.declared.Checkpoints.{Checkpoints}
@@ -30,8 +30,8 @@ pub record AnewAsked (r : ℕ) (greys : List ℕ) (pyramid serials order : ℕ) 
   pub bytes : (i : ℕ) → getD greys i 0 ≤ 255
 
 -- the buffers with the model's sheet of so many dots over their needed lengths
-pub record Restored (r dots : ℕ) (g : List ℕ) (p : List ℤ) (s o : List ℕ)
+pub record Restored (knit r dots : ℕ) (g : List ℕ) (p : List ℤ) (s o : List ℕ)
     (p′ : List ℤ) (s′ o′ : List ℕ) : Type 0 where
-  pub pyramid : p′ ≡ steps plain r dots (modelStart r g) .pyramid ++ drop (needed r) p
-  pub serials : s′ ≡ steps plain r dots (modelStart r g) .serials ++ drop (cellCount r) s
-  pub order : o′ ≡ steps plain r dots (modelStart r g) .order ++ drop (cellCount r) o
+  pub pyramid : p′ ≡ steps (kernelOf knit) r dots (modelStart r g) .pyramid ++ drop (needed r) p
+  pub serials : s′ ≡ steps (kernelOf knit) r dots (modelStart r g) .serials ++ drop (cellCount r) s
+  pub order : o′ ≡ steps (kernelOf knit) r dots (modelStart r g) .order ++ drop (cellCount r) o

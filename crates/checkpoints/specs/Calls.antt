@@ -10,7 +10,6 @@ use lib.ListN.{length, getD, set}
 use lib.IntN.{ℤ}
 use Rattle.definition.specs.Answers.{checkpointSays, numberOf}
 use Rattle.definition.specs.Blocks.{greyTotal, totalOf}
-use Rattle.definition.specs.Diffusion.{plain}
 use Rattle.definition.specs.QuotePage.{figures}
 use Rattle.definition.specs.Sound.{isSound}
 use Rattle.definition.specs.Refusals.{powerOf, sheetUnsound, lowest}
@@ -30,6 +29,7 @@ use Rattle.checks.specs.declared.Check.{Check}
 use Rattle.checks.specs.declared.Check.the-variants.{Passed, Failed}
 use Rattle.guarantee.specs.Quote.{figures-fit}
 use Rattle.sheet.specs.Sheets.{SheetLent}
+use Rattle.fresh_sheet.specs.Filling.{fill-lent}
 use Rattle.checkpoints.specs.Asked.{MapLent, CountAsked, AnewAsked, Restored}
 use Rattle.names.specs.Names.{kept-within}
 use Rattle.checkpoints.specs.Rows.{load-first, then-last, restore-none}
@@ -43,8 +43,8 @@ module _ (progress : Progress) (checkpoints : Checkpoints) (name : ℕ) {r : ℕ
       ≡ keepOf progress checkpoints name
   unfolding keepOf checkpointSays
   keep-refused {why} failed ea =
-      let n : keepRefusal (powerOf (progress .side)) name ≡ suc (numberOf why - 1)
-      = rw (← er) (failed-number check e why failed) in
+      let n : keepRefusal (powerOf (progress .side)) name ≡ suc (numberOf why - 1) =
+      rw (← er) (failed-number check e why failed) in
       rw (ea, n, keepOf, ← number-positive why)
 
   module _ (passed : check ≡ Passed) where
@@ -65,12 +65,12 @@ module _ (progress : Progress) (checkpoints : Checkpoints) (name : ℕ) {r : ℕ
         rw (ea, ew, z, keepOf)
 
 -- ---- Restore's check: Load's rows, then the last two
-module _ {r : ℕ} (small : r ≤ 8) (dots : ℕ) (checkpoints : Checkpoints) (name : ℕ)
+module _ {r : ℕ} (small : r ≤ 8) (dots knit : ℕ) (checkpoints : Checkpoints) (name : ℕ)
     (g : List ℕ) (p : List ℤ) (s o : List ℕ)
-    (first : Check) (e : checked first ≡ loadRefusal r (length g) (length p) (length s) (length o)) where
+    (first : Check) (e : checked first ≡ loadRefusal r knit (length g) (length p) (length s) (length o)) where
   abbrev refusal : ℕ
   refusal =
-      restoreRefusal r (length g) (length p) (length s) (length o) (isSound r (sheetIn r dots p s o))
+      restoreRefusal r knit (length g) (length p) (length s) (length o) (isSound r (sheetIn r dots p s o))
       (canRestore checkpoints name (totalOf (greyTotal r g)))
 
   pub first-failed : {why : Refusal} → first ≡ Failed why → checked (Failed why) ≡ refusal
@@ -78,12 +78,12 @@ module _ {r : ℕ} (small : r ≤ 8) (dots : ℕ) (checkpoints : Checkpoints) (n
   first-failed {why} failed =
       number-positive why
       ∙ sym
-      (load-first r (length g) (length p) (length s) (length o) _ _ (numberOf why - 1)
+      (load-first r knit (length g) (length p) (length s) (length o) _ _ (numberOf why - 1)
       (failed-number first e why failed))
 
   module _ (passed : first ≡ Passed) where
-    none-lent : LoadLent r (length g) (length p) (length s) (length o)
-    none-lent = load-none r (length g) (length p) (length s) (length o) .0 (passed-none first e passed)
+    none-lent : LoadLent r knit (length g) (length p) (length s) (length o)
+    none-lent = load-none r knit (length g) (length p) (length s) (length o) .0 (passed-none first e passed)
 
     pub map-lent : MapLent r (length g)
     map-lent = record { power = none-lent .power; powers = small; room = none-lent .greys-long }
@@ -104,23 +104,23 @@ module _ {r : ℕ} (small : r ≤ 8) (dots : ℕ) (checkpoints : Checkpoints) (n
         → checked last ≡ refusal
     last-checked es et ek last q =
         rw (es, ek, et) at q
-        ∙ sym (then-last r (length g) (length p) (length s) (length o) _ _ (passed-none first e passed))
+        ∙ sym (then-last r knit (length g) (length p) (length s) (length o) _ _ (passed-none first e passed))
 
 -- ---- what a Restore that isn't refused was given
-module _ (checkpoints : Checkpoints) (name : ℕ) (g : List ℕ) (p : List ℤ) (s o : List ℕ)
+module _ (knit : ℕ) (checkpoints : Checkpoints) (name : ℕ) (g : List ℕ) (p : List ℤ) (s o : List ℕ)
     {r : ℕ} (small : r ≤ 8) (check : Check) (sound : Bool)
     (e : checked check
-    ≡ restoreRefusal r (length g) (length p) (length s) (length o) sound
+    ≡ restoreRefusal r knit (length g) (length p) (length s) (length o) sound
     (canRestore checkpoints name (totalOf (greyTotal r g))))
     (passed : check ≡ Passed) (bytes : (i : ℕ) → getD g i 0 ≤ 255) where
-  none : (loadRefusal r (length g) (length p) (length s) (length o) ≡ 0)
+  none : (loadRefusal r knit (length g) (length p) (length s) (length o) ≡ 0)
       × (canRestore checkpoints name (totalOf (greyTotal r g)) ≡ true)
-  none = restore-none r (length g) (length p) (length s) (length o) _ _ (passed-none check e passed)
+  none = restore-none r knit (length g) (length p) (length s) (length o) _ _ (passed-none check e passed)
 
   pub anew-asked : AnewAsked r g (length p) (length s) (length o)
   anew-asked =
-      let lent = load-none r (length g) (length p) (length s) (length o) .0 (none .0) in
-      record { lent = record { small = small; lent = lent }; bytes = bytes }
+      let lent = load-none r knit (length g) (length p) (length s) (length o) .0 (none .0) in
+      record { lent = fill-lent small lent; bytes = bytes }
 
   -- the sum of all greys has at most the eight digits of its column on the quote page, so the total is small
   greys-few : greyTotal r g < 10 ^ 8
@@ -136,14 +136,15 @@ module _ (checkpoints : Checkpoints) (name : ℕ) (g : List ℕ) (p : List ℤ) 
 module _ (progress : Progress) (checkpoints : Checkpoints) (name : ℕ) (g : List ℕ) (p : List ℤ) (s o : List ℕ)
     {r : ℕ} (er : r ≡ powerOf (progress .side)) (check : Check)
     (e : checked check
-    ≡ restoreRefusal r (length g) (length p) (length s) (length o) (isSound r (sheetIn r (progress .dots) p s o))
+    ≡ restoreRefusal r (progress .knit) (length g) (length p) (length s) (length o)
+    (isSound r (sheetIn r (progress .dots) p s o))
     (canRestore checkpoints name (totalOf (greyTotal r g)))) where
   abbrev side-power : ℕ
   side-power = powerOf (progress .side)
 
   abbrev refusalOf : ℕ
   refusalOf =
-      restoreRefusal side-power (length g) (length p) (length s) (length o)
+      restoreRefusal side-power (progress .knit) (length g) (length p) (length s) (length o)
       (isSound side-power (sheetIn side-power (progress .dots) p s o))
       (canRestore checkpoints name (totalOf (greyTotal side-power g)))
 
@@ -157,16 +158,17 @@ module _ (progress : Progress) (checkpoints : Checkpoints) (name : ℕ) (g : Lis
         serials = s;
         order = o;
       }
-      ≡ restoreOf plain progress checkpoints name g p s o
+      ≡ restoreOf progress checkpoints name g p s o
   unfolding restoreOf checkpointSays
   restore-refused {why} failed ea =
       let n : refusalOf ≡ suc (numberOf why - 1) = rw (← er) (failed-number check e why failed) in
       rw (ea, n, restoreOf, ← number-positive why)
 
   pub restore-done : check ≡ Passed → {dots : ℕ} → dots ≡ keptAt checkpoints name - 1
-      → {p′ : List ℤ} {s′ o′ : List ℕ} → Restored r dots g p s o p′ s′ o′ → {a : CheckpointAnswer}
+      → {p′ : List ℤ} {s′ o′ : List ℕ} → Restored (progress .knit) r dots g p s o p′ s′ o′
+      → {a : CheckpointAnswer}
       → a ≡ record {
-        progress = record { side = progress .side; dots = dots };
+        progress = record { side = progress .side; dots = dots; knit = progress .knit };
         checkpoints = checkpoints;
         status = Done;
       }
@@ -178,7 +180,7 @@ module _ (progress : Progress) (checkpoints : Checkpoints) (name : ℕ) (g : Lis
         serials = s′;
         order = o′;
       }
-      ≡ restoreOf plain progress checkpoints name g p s o
+      ≡ restoreOf progress checkpoints name g p s o
   unfolding restoreOf restored checkpointSays
   restore-done passed ed f ea =
       let z : refusalOf ≡ 0 = rw (← er) (passed-none check e passed) in

@@ -11,7 +11,6 @@ ghost use Prim.Native.Nat.{_-_, _≤_};
 ghost use lib.ListN.{length};
 ghost use Rattle.definition.specs.Answers.{checkpointSays};
 ghost use Rattle.definition.specs.Blocks.{greyTotal, totalOf};
-ghost use Rattle.definition.specs.Diffusion.{plain};
 ghost use Rattle.definition.specs.Sound.{isSound};
 ghost use Rattle.definition.specs.Refusals.{sheetUnsound, lowest};
 ghost use Rattle.definition.specs.Advance.{sheetIn};
@@ -101,6 +100,7 @@ fn check_last(sound: bool, known: bool) -> Check
 fn check_restore(
     r: usize,
     dots: u32,
+    knit: u32,
     checkpoints: Checkpoints,
     name: u32,
     greys: &[u8],
@@ -111,14 +111,21 @@ fn check_restore(
     requires { ⌜ r ≤ 8 ⌝ }
     ensures { λ c. ⌜
         checked c
-        ≡ restoreRefusal r
+        ≡ restoreRefusal r knit
         (length (now (greys .entry))) (length (now (pyramid .entry)))
         (length (now (serials .entry))) (length (now (order .entry)))
         (isSound r (sheetIn r dots (now (pyramid .entry)) (now (serials .entry)) (now (order .entry))))
         (canRestore checkpoints name (totalOf (greyTotal r (now (greys .entry)))))
         ⌝ }
 {
-    match fresh_sheet::check_load(r, greys.len(), pyramid.len(), serials.len(), order.len()) {
+    match fresh_sheet::check_load(
+        r,
+        knit,
+        greys.len(),
+        pyramid.len(),
+        serials.len(),
+        order.len(),
+    ) {
         Check::Failed(why) => Check::Failed(why),
         Check::Passed => {
             let sound = sheet::sound_lent(r, dots, pyramid, serials, order);
@@ -138,6 +145,7 @@ fn kept_dots(checkpoints: Checkpoints, name: u32) -> u32
 
 // Makes the sheet anew from the greys, with so many dots.
 fn restore_sheet(
+    knit: u32,
     r: usize,
     dots: u32,
     greys: &[u8],
@@ -147,7 +155,8 @@ fn restore_sheet(
 )
     requires { ⌜ AnewAsked r (now greys) (length (now pyramid)) (length (now serials)) (length (now order)) ⌝ }
     ensures { λ _. ⌜
-        Restored r dots (now (greys .entry)) (now (pyramid .entry)) (now (serials .entry)) (now (order .entry))
+        Restored knit r dots
+        (now (greys .entry)) (now (pyramid .entry)) (now (serials .entry)) (now (order .entry))
         (now (pyramid .exit)) (now (serials .exit)) (now (order .exit))
         ⌝ }
 {
@@ -158,6 +167,7 @@ fn restore_sheet(
         &mut pyramid[..needed],
         &mut serials[..cells],
         &mut order[..cells],
+        knit,
         r,
         0,
         dots,
@@ -183,7 +193,7 @@ pub fn restore(
           serials = now (serials .exit);
           order = now (order .exit);
         }
-        ≡ restoreOf plain progress checkpoints name
+        ≡ restoreOf progress checkpoints name
         (now (greys .entry)) (now (pyramid .entry)) (now (serials .entry)) (now (order .entry))
         ⌝ }
 {
@@ -191,6 +201,7 @@ pub fn restore(
     match check_restore(
         r,
         progress.dots,
+        progress.knit,
         checkpoints,
         name,
         greys,
@@ -201,9 +212,10 @@ pub fn restore(
         Check::Failed(why) => refused(progress, checkpoints, why),
         Check::Passed => {
             let dots = kept_dots(checkpoints, name);
-            restore_sheet(r, dots, greys, pyramid, serials, order);
+            let knit = progress.knit;
+            restore_sheet(knit, r, dots, greys, pyramid, serials, order);
             let side = progress.side;
-            done(Progress { side, dots }, checkpoints)
+            done(Progress { side, dots, knit }, checkpoints)
         }
     }
 }

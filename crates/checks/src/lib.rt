@@ -1,4 +1,4 @@
-// What a call's check finds before anything is read or written: nothing, or the first row of document 01's table that applies.
+// What a call's check finds before anything is read or written: nothing, or the first of its refusals that applies.
 use definition::Refusal;
 ghost use mathlib.Core.Path.{_≡_};
 ghost use Prim.Native.Nat.{_≤_};
@@ -11,7 +11,7 @@ pub enum Check {
     Failed(Refusal),
 }
 
-// Document 01's number of a refusal.
+// The number of a refusal.
 pub fn number_of(why: Refusal) -> u32
     ensures { λ n. ⌜ n ≡ numberOf why ⌝ }
 {
@@ -26,6 +26,7 @@ pub fn number_of(why: Refusal) -> u32
         Refusal::OutputShort => 8,
         Refusal::InputLong => 9,
         Refusal::NameUnknown => 10,
+        Refusal::KnitUnknown => 11,
     }
 }
 

@@ -7,10 +7,18 @@ use lib.IntN.{ℤ, pos, natAbs}
 use lib.Signed.{ltZ}
 use Rattle.definition.specs.Answers.{Said, finished, more, refused}
 use Rattle.definition.specs.Pyramid.{oneDot, halfDot, needed, cellCount}
-use Rattle.definition.specs.Diffusion.{Kernel}
+use Rattle.definition.specs.Diffusion.{kernelOf}
 use Rattle.definition.specs.Model.{Halftone, topOf, steps}
 use Rattle.definition.specs.Sound.{isSound}
-use Rattle.definition.specs.Refusals.{powerOf, sideUnknown, pyramidShort, sheetShort, sheetUnsound, lowest}
+use Rattle.definition.specs.Refusals.{
+  powerOf,
+  sideUnknown,
+  knitUnknown,
+  pyramidShort,
+  sheetShort,
+  sheetUnsound,
+  lowest,
+}
 use Rattle.definition.specs.declared.Progress.{Progress}
 
 -- "the new record, the holes made in this call, and finished .. else more", or the number in place of these
@@ -39,31 +47,40 @@ unfoldable pub sheetIn : ℕ → ℕ → List ℤ → List ℕ → List ℕ → 
 sheetIn r dots pyramid serials order =
     record { pyramid = take (needed r) pyramid; serials = take (cellCount r) serials; order = take (cellCount r) order; dots = dots }
 
--- "Given by" Advance: 1, 3, 4, 5; from the side's power, the lengths lent, and whether the sheet is sound
-unfoldable pub advanceRefusal : ℕ → ℕ → ℕ → ℕ → Bool → ℕ
-advanceRefusal r pyramid serials order sound =
-    lowest (sideUnknown r ∷ pyramidShort r pyramid ∷ sheetShort r serials ∷ sheetShort r order ∷ sheetUnsound sound ∷ [])
+-- The checks of Advance, 1, 11, 3, 4, 5: from the side's power, the knit, the lengths lent, and whether the sheet is
+-- sound
+unfoldable pub advanceRefusal : ℕ → ℕ → ℕ → ℕ → ℕ → Bool → ℕ
+advanceRefusal r knit pyramid serials order sound =
+    lowest
+    (sideUnknown r ∷ knitUnknown knit ∷ pyramidShort r pyramid ∷ sheetShort r serials ∷ sheetShort r order
+    ∷ sheetUnsound sound ∷ [])
 
--- "Advance takes a budget, any 32-bit unsigned number. .. Advance makes exactly the smaller of the budget and the holes due." "Where a
--- buffer is longer than needed, the part past the needed length is neither read nor written."
-unfoldable pub advanced : Kernel → ℕ → Progress → ℕ → List ℤ → List ℕ → List ℕ → AdvanceOutcome
-advanced kernel r progress budget pyramid serials order =
+-- The budget is any number. Advance makes as many dots as are due, but no more than the budget, spread by the record's
+-- knit (document 01, Advance; document 02, request 8), and what lies past the needed lengths stays.
+unfoldable pub advanced : ℕ → Progress → ℕ → List ℤ → List ℕ → List ℕ → AdvanceOutcome
+advanced r progress budget pyramid serials order =
     let before = sheetIn r (progress .dots) pyramid serials order in
     let made = min budget (dotsDue (topOf (before .pyramid))) in
-    let after = steps kernel r made before in
+    let after = steps (kernelOf (progress .knit)) r made before in
     record {
-      reply = record { progress = record { side = progress .side; dots = after .dots }; made = made; said = saidAt (topOf (after .pyramid)) };
+      reply =
+          record {
+            progress = record { side = progress .side; dots = after .dots; knit = progress .knit };
+            made = made;
+            said = saidAt (topOf (after .pyramid));
+          };
       pyramid = after .pyramid ++ drop (needed r) pyramid;
       serials = after .serials ++ drop (cellCount r) serials;
       order = after .order ++ drop (cellCount r) order;
     }
 
--- "A refusal leaves every buffer unchanged. A refused Advance returns the record it was given, 0 holes made, and the number"
-unfoldable pub advanceOf : Kernel → Progress → ℕ → List ℤ → List ℕ → List ℕ → AdvanceOutcome
-advanceOf kernel progress budget pyramid serials order =
+-- A refused Advance leaves every buffer unchanged and returns the record that it was given, 0 dots made, and the
+-- number.
+unfoldable pub advanceOf : Progress → ℕ → List ℤ → List ℕ → List ℕ → AdvanceOutcome
+advanceOf progress budget pyramid serials order =
     let r = powerOf (progress .side) in
     let sound = isSound r (sheetIn r (progress .dots) pyramid serials order) in
-    elim (advanceRefusal r (length pyramid) (length serials) (length order) sound) [
-      | zero ↦ advanced kernel r progress budget pyramid serials order
+    elim (advanceRefusal r (progress .knit) (length pyramid) (length serials) (length order) sound) [
+      | zero ↦ advanced r progress budget pyramid serials order
       | suc n ↦ record { reply = record { progress = progress; made = 0; said = refused (suc n) }; pyramid = pyramid; serials = serials; order = order }
     ]

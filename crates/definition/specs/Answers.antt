@@ -14,6 +14,7 @@ use Rattle.definition.specs.declared.Refusal.the-variants.{
   OutputShort,
   InputLong,
   NameUnknown,
+  KnitUnknown,
 }
 use Rattle.definition.specs.declared.LoadStatus.{LoadStatus}
 use Rattle.definition.specs.declared.LoadStatus.the-variants as Load
@@ -71,6 +72,7 @@ numberOf TextMalformed = 7
 numberOf OutputShort = 8
 numberOf InputLong = 9
 numberOf NameUnknown = 10
+numberOf KnitUnknown = 11
 
 -- Load returns its record and, beside it, nothing or a number
 unfoldable pub loadSays : LoadStatus → Said

@@ -7,7 +7,7 @@ use Prim.Native.Nat.{ℕ, zero, suc, _+_, _-_, _^_}
 use lib.ListN.{take, drop}
 use lib.IntN.{ℤ}
 use Rattle.definition.specs.Answers.{Said, returned, finished, more, comparison, refused}
-use Rattle.definition.specs.Diffusion.{Kernel}
+use Rattle.definition.specs.Diffusion.{kernelOf}
 use Rattle.definition.specs.Model.{Halftone, topOf, steps}
 use Rattle.definition.specs.Refusals.{pyramidShort, sheetShort, lowest}
 use Rattle.definition.specs.Load.{loadOf}
@@ -29,16 +29,16 @@ pub record Held : Type 0 where
   pub order : List ℕ
 
 -- after Load
-unfoldable pub heldAfterLoad : ℕ → List ℕ → List ℤ → List ℕ → List ℕ → Held
-heldAfterLoad side greys pyramid serials order =
-    let out = loadOf side greys pyramid serials order in
+unfoldable pub heldAfterLoad : ℕ → ℕ → List ℕ → List ℤ → List ℕ → List ℕ → Held
+heldAfterLoad side knit greys pyramid serials order =
+    let out = loadOf side knit greys pyramid serials order in
     record { progress = out .progress; pyramid = out .pyramid; serials = out .serials; order = out .order }
 
 -- "Each Advance is lent the same buffers from their first place on, whole or a shorter part, and given the record that the call before it
 -- returned": what was lent comes back in front of what wasn't
-unfoldable pub callOf : Kernel → Held → Call → AdvanceOutcome
-callOf kernel held call =
-    let out = advanceOf kernel (held .progress) (call .budget)
+unfoldable pub callOf : Held → Call → AdvanceOutcome
+callOf held call =
+    let out = advanceOf (held .progress) (call .budget)
     (take (call .pyramidLent) (held .pyramid)) (take (call .serialsLent) (held .serials)) (take (call .orderLent) (held .order)) in
     record {
       reply = out .reply;
@@ -51,42 +51,45 @@ unfoldable pub heldAfter : AdvanceOutcome → Held
 heldAfter out = record { progress = out .reply .progress; pyramid = out .pyramid; serials = out .serials; order = out .order }
 
 -- a list of calls: the outcome of each, what the caller holds after all of them, and what they answered
-unfoldable pub outcomesOf : Kernel → Held → List Call → List AdvanceOutcome
-outcomesOf kernel held [] = []
-outcomesOf kernel held (call ∷ calls) = let out = callOf kernel held call in out ∷ outcomesOf kernel (heldAfter out) calls
+unfoldable pub outcomesOf : Held → List Call → List AdvanceOutcome
+outcomesOf held [] = []
+outcomesOf held (call ∷ calls) = let out = callOf held call in out ∷ outcomesOf (heldAfter out) calls
 
-unfoldable pub heldAfterCalls : Kernel → Held → List Call → Held
-heldAfterCalls kernel held [] = held
-heldAfterCalls kernel held (call ∷ calls) = heldAfterCalls kernel (heldAfter (callOf kernel held call)) calls
+unfoldable pub heldAfterCalls : Held → List Call → Held
+heldAfterCalls held [] = held
+heldAfterCalls held (call ∷ calls) = heldAfterCalls (heldAfter (callOf held call)) calls
 
-unfoldable pub repliesOf : Kernel → Held → List Call → List Reply
-repliesOf kernel held calls = map (λ out. out .reply) (outcomesOf kernel held calls)
+unfoldable pub repliesOf : Held → List Call → List Reply
+repliesOf held calls = map (λ out. out .reply) (outcomesOf held calls)
 
 -- The model: "A call with a buffer lent too short makes no step and answers 0 holes made and the number, 3 or 4, that the table below gives."
 unfoldable pub modelRefusal : ℕ → Call → ℕ
 modelRefusal r call = lowest (pyramidShort r (call .pyramidLent) ∷ sheetShort r (call .serialsLent) ∷ sheetShort r (call .orderLent) ∷ [])
 
--- "Every other call makes as many steps as its budget"
-unfoldable pub modelCall : Kernel → ℕ → Halftone → Call → Halftone
-modelCall kernel r s call = elim (modelRefusal r call) [ zero ↦ steps kernel r (call .budget) s | suc n ↦ s ]
+-- A call that is lent enough makes a step for each unit of its budget, with the weights of the knit that the map was
+-- loaded for (document 01, the model; document 02, request 8).
+unfoldable pub modelCall : ℕ → ℕ → Halftone → Call → Halftone
+modelCall knit r s call = elim (modelRefusal r call) [ zero ↦ steps (kernelOf knit) r (call .budget) s | suc n ↦ s ]
 
--- "and answers how far h rose, and finished if the top is then below 32,640, else more". The record is (N, h).
-unfoldable pub modelReply : Kernel → ℕ → Halftone → Call → Reply
-modelReply kernel r s call =
-    let after = modelCall kernel r s call in
+-- It answers by how much the dots have risen, and what is said with the top that it leaves; the record has the side,
+-- the dots and the knit.
+unfoldable pub modelReply : ℕ → ℕ → Halftone → Call → Reply
+modelReply knit r s call =
+    let after = modelCall knit r s call in
     record {
-      progress = record { side = 2 ^ r; dots = after .dots };
+      progress = record { side = 2 ^ r; dots = after .dots; knit = knit };
       made = after .dots - s .dots;
       said = elim (modelRefusal r call) [ zero ↦ saidAt (topOf (after .pyramid)) | suc n ↦ refused (suc n) ];
     }
 
-unfoldable pub modelAfterCalls : Kernel → ℕ → Halftone → List Call → Halftone
-modelAfterCalls kernel r s [] = s
-modelAfterCalls kernel r s (call ∷ calls) = modelAfterCalls kernel r (modelCall kernel r s call) calls
+unfoldable pub modelAfterCalls : ℕ → ℕ → Halftone → List Call → Halftone
+modelAfterCalls knit r s [] = s
+modelAfterCalls knit r s (call ∷ calls) = modelAfterCalls knit r (modelCall knit r s call) calls
 
-unfoldable pub modelReplies : Kernel → ℕ → Halftone → List Call → List Reply
-modelReplies kernel r s [] = []
-modelReplies kernel r s (call ∷ calls) = modelReply kernel r s call ∷ modelReplies kernel r (modelCall kernel r s call) calls
+unfoldable pub modelReplies : ℕ → ℕ → Halftone → List Call → List Reply
+modelReplies knit r s [] = []
+modelReplies knit r s (call ∷ calls) = modelReply knit r s call
+    ∷ modelReplies knit r (modelCall knit r s call) calls
 
 -- whether a call was refused, by what it said
 unfoldable pub isRefusal : Said → Bool

@@ -10,13 +10,14 @@ use lib.IntN.{ℤ}
 use Rattle.definition.specs.Answers.{Said, returned, refused}
 use Rattle.definition.specs.Pyramid.{needed, cellCount}
 use Rattle.definition.specs.Blocks.{greyTotal, totalOf}
-use Rattle.definition.specs.Diffusion.{Kernel}
+use Rattle.definition.specs.Diffusion.{kernelOf}
 use Rattle.definition.specs.Model.{modelStart, steps}
 use Rattle.definition.specs.Sound.{isSound}
 use Rattle.definition.specs.Refusals.{
   Row,
   powerOf,
   sideUnknown,
+  knitUnknown,
   greysShort,
   pyramidShort,
   sheetShort,
@@ -67,13 +68,13 @@ unfoldable pub canRestore : Checkpoints → ℕ → ℕ → Bool
 canRestore checkpoints name total =
     isName name && elim (keptAt checkpoints name) [ zero ↦ false | suc dots ↦ leb dots total ]
 
--- The checks of Load and Advance, 1, 2, 3, 4, 5, then 10: from the side's power, the lengths lent, whether the sheet is
--- sound, and whether the name will do
-unfoldable pub restoreRefusal : ℕ → ℕ → ℕ → ℕ → ℕ → Bool → Bool → ℕ
-restoreRefusal r greys pyramid serials order sound known =
+-- The checks of Load and Advance, 1, 11, 2, 3, 4, 5, then 10: from the side's power, the knit, the lengths lent,
+-- whether the sheet is sound, and whether the name will do
+unfoldable pub restoreRefusal : ℕ → ℕ → ℕ → ℕ → ℕ → ℕ → Bool → Bool → ℕ
+restoreRefusal r knit greys pyramid serials order sound known =
     lowest
-    (sideUnknown r ∷ greysShort r greys ∷ pyramidShort r pyramid ∷ sheetShort r serials ∷ sheetShort r order
-    ∷ sheetUnsound sound ∷ nameUnknown known ∷ [])
+    (sideUnknown r ∷ knitUnknown knit ∷ greysShort r greys ∷ pyramidShort r pyramid
+    ∷ sheetShort r serials ∷ sheetShort r order ∷ sheetUnsound sound ∷ nameUnknown known ∷ [])
 
 pub record RestoreOutcome : Type 0 where
   pub progress : Progress
@@ -83,15 +84,15 @@ pub record RestoreOutcome : Type 0 where
   pub serials : List ℕ
   pub order : List ℕ
 
--- the sheet that the model of these greys has with so many dots, over the needed lengths of the buffers; the value
--- stays
+-- the sheet that the model of these greys has with so many dots, over the needed lengths of the buffers; the record
+-- keeps its side and knit, and the value stays
 unfoldable pub restored :
-    Kernel → ℕ → ℕ → ℕ → Checkpoints
+    Progress → ℕ → ℕ → Checkpoints
     → List ℕ → List ℤ → List ℕ → List ℕ → RestoreOutcome
-restored kernel side r dots checkpoints greys pyramid serials order =
-    let sheet = steps kernel r dots (modelStart r greys) in
+restored progress r dots checkpoints greys pyramid serials order =
+    let sheet = steps (kernelOf (progress .knit)) r dots (modelStart r greys) in
     record {
-      progress = record { side = side; dots = dots };
+      progress = record { side = progress .side; dots = dots; knit = progress .knit };
       checkpoints = checkpoints;
       said = returned [];
       pyramid = sheet .pyramid ++ drop (needed r) pyramid;
@@ -101,14 +102,15 @@ restored kernel side r dots checkpoints greys pyramid serials order =
 
 -- A refusal gives back record and value, and leaves every buffer unchanged.
 unfoldable pub restoreOf :
-    Kernel → Progress → Checkpoints → ℕ → List ℕ → List ℤ → List ℕ → List ℕ → RestoreOutcome
-restoreOf kernel progress checkpoints name greys pyramid serials order =
-    let side = progress .side in
-    let r = powerOf side in
+    Progress → Checkpoints → ℕ → List ℕ → List ℤ → List ℕ → List ℕ → RestoreOutcome
+restoreOf progress checkpoints name greys pyramid serials order =
+    let r = powerOf (progress .side) in
     let sound = isSound r (sheetIn r (progress .dots) pyramid serials order) in
     let known = canRestore checkpoints name (totalOf (greyTotal r greys)) in
-    elim (restoreRefusal r (length greys) (length pyramid) (length serials) (length order) sound known) [
-      | zero ↦ restored kernel side r (keptAt checkpoints name - 1) checkpoints greys pyramid serials order
+    let refusal = restoreRefusal r (progress .knit) (length greys) (length pyramid) (length serials) (length order)
+    sound known in
+    elim refusal [
+      | zero ↦ restored progress r (keptAt checkpoints name - 1) checkpoints greys pyramid serials order
       | suc n ↦
           record {
             progress = progress;

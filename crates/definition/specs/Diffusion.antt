@@ -13,9 +13,22 @@ pub record Kernel : Type 0 where
   pub weight : ℕ → ℕ
   pub turn : ℕ → ℕ
 
--- "A straight neighbour weighs 2, a diagonal one 1." "Run through the neighbours by row, then column."
-unfoldable pub plain : Kernel
-plain = record { weight = λ p. getD (1 ∷ 2 ∷ 1 ∷ 2 ∷ 0 ∷ 2 ∷ 1 ∷ 2 ∷ 1 ∷ []) p 0; turn = λ n. n }
+-- the knits of cloth, by number (document 02, request 8)
+abbrev pub plain : ℕ
+plain = 0
+
+abbrev pub ribbed : ℕ
+ribbed = 1
+
+-- The weights for a knit: on plain cloth a straight neighbour weighs 2 and a diagonal one 1 (document 01, Spread); on
+-- ribbed cloth they weigh 1 and 0 (document 02, request 8). Calls refuse a knit that is neither.
+unfoldable pub weightsOf : ℕ → List ℕ
+weightsOf zero = 1 ∷ 2 ∷ 1 ∷ 2 ∷ 0 ∷ 2 ∷ 1 ∷ 2 ∷ 1 ∷ []
+weightsOf (suc n) = 0 ∷ 1 ∷ 0 ∷ 1 ∷ 0 ∷ 1 ∷ 0 ∷ 1 ∷ 0 ∷ []
+
+-- On either cloth the spread runs through the places by row, then column (document 01, Spread).
+unfoldable pub kernelOf : ℕ → Kernel
+kernelOf knit = record { weight = λ p. getD (weightsOf knit) p 0; turn = λ n. n }
 
 -- Place p of the nine around cell (row, column) has these, counted from one before the map, so that no number is negative.
 abbrev pub rowNear : ℕ → ℕ → ℕ
@@ -36,8 +49,9 @@ onMap r row column p = within r (rowNear row p) && within r (columnNear column p
 unfoldable pub weightAt : Kernel → ℕ → ℕ → ℕ → ℕ → ℕ
 weightAt kernel r row column n = let p = kernel .turn n in cond (onMap r row column p) (kernel .weight p) 0
 
--- "With c the sum of weights up to and including this neighbour and c' the sum before it, the debt falls by its share
--- floor(d × c / D) − floor(d × c' / D)"; "D is the sum of those weights: 12 inside, 8 on a side, 5 in a corner", here of m
+-- With c the sum of the weights up to and with the neighbour in turn n, and c' the sum before it, its share of d is
+-- the whole part of d × c / D less that of d × c' / D (document 01, Spread). D is the sum of the first m weights; all
+-- nine come inside the map, on a side and in a corner to 12, 8 and 5 on plain cloth, and to 4, 3 and 2 on ribbed.
 unfoldable pub share : ℕ → (ℕ → ℕ) → ℕ → ℕ → ℕ
 share m weight d n = d * sumTo (suc n) weight / sumTo m weight - d * sumTo n weight / sumTo m weight
 

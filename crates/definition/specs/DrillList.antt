@@ -6,7 +6,16 @@ use lib.ListN.{length, take}
 use lib.IntN.{ℤ}
 use Rattle.definition.specs.Model.{Halftone}
 use Rattle.definition.specs.Sound.{isSound}
-use Rattle.definition.specs.Refusals.{powerOf, sideUnknown, pyramidShort, sheetShort, sheetUnsound, outputShort, lowest}
+use Rattle.definition.specs.Refusals.{
+  powerOf,
+  sideUnknown,
+  knitUnknown,
+  pyramidShort,
+  sheetShort,
+  sheetUnsound,
+  outputShort,
+  lowest,
+}
 use Rattle.definition.specs.Advance.{sheetIn}
 use Rattle.definition.specs.Text.{line, TextOutcome, textInto}
 use Rattle.definition.specs.declared.Progress.{Progress}
@@ -20,10 +29,13 @@ dotLines r j (cell ∷ cells) = line (j ∷ cell / 2 ^ r ∷ cell % 2 ^ r ∷ []
 unfoldable pub drillText : ℕ → Halftone → List ℕ
 drillText r s = line (s .dots ∷ 2 ^ r ∷ []) ++ dotLines r 1 (take (s .dots) (s .order))
 
--- "Given by" Drill List: 1, 3, 4, 5, 8; from the side's power, the lengths lent, soundness and the list's length
-unfoldable pub drillListRefusal : ℕ → ℕ → ℕ → ℕ → Bool → ℕ → ℕ → ℕ
-drillListRefusal r pyramid serials order sound list output =
-    lowest (sideUnknown r ∷ pyramidShort r pyramid ∷ sheetShort r serials ∷ sheetShort r order ∷ sheetUnsound sound ∷ outputShort list output ∷ [])
+-- The checks of Drill List, 1, 11, 3, 4, 5, 8: from the side's power, the knit, the lengths lent, soundness and the
+-- list's length
+unfoldable pub drillListRefusal : ℕ → ℕ → ℕ → ℕ → ℕ → Bool → ℕ → ℕ → ℕ
+drillListRefusal r knit pyramid serials order sound list output =
+    lowest
+    (sideUnknown r ∷ knitUnknown knit ∷ pyramidShort r pyramid ∷ sheetShort r serials ∷ sheetShort r order
+    ∷ sheetUnsound sound ∷ outputShort list output ∷ [])
 
 -- "It returns its length; bytes past it stay."
 unfoldable pub drillListOf : Progress → List ℤ → List ℕ → List ℕ → List ℕ → TextOutcome
@@ -31,4 +43,6 @@ drillListOf progress pyramid serials order output =
     let r = powerOf (progress .side) in
     let sheet = sheetIn r (progress .dots) pyramid serials order in
     let list = drillText r sheet in
-    textInto (drillListRefusal r (length pyramid) (length serials) (length order) (isSound r sheet) (length list) (length output)) list output
+    let refusal = drillListRefusal r (progress .knit) (length pyramid) (length serials) (length order)
+    (isSound r sheet) (length list) (length output) in
+    textInto refusal list output

@@ -1,5 +1,6 @@
 -- Written by the reference (`cargo run --release -- write` in reference/) and not to be edited:
--- three maps run to their end, side 4, side 8 and a flat one of side 4.
+-- three maps run to their end on plain cloth, side 4, side 8 and a flat one of side 4; then three on ribbed
+-- cloth, side 2, side 4 and side 8.
 use mathlib.Core.List.{List, [], _∷_}
 use Prim.Native.Nat.{ℕ}
 use lib.IntN.{ℤ, pos, negsuc}
@@ -146,4 +147,92 @@ unfoldable pub levelsFlat4 : List ℕ
 levelsFlat4 =
     225 ∷ 48825 ∷ 60975 ∷ 0 ∷ 0 ∷ 0
     ∷ 0 ∷ 0 ∷ 0
+    ∷ []
+
+-- ribbed: the map of side 2 with four greys of 128, and those of side 4 and side 8 above; of each the order
+-- list, the serial sheet and the pyramid
+unfoldable pub orderRibbed2 : List ℕ
+orderRibbed2 =
+    0 ∷ 3 ∷ 0 ∷ 0
+    ∷ []
+
+unfoldable pub serialsRibbed2 : List ℕ
+serialsRibbed2 =
+    1 ∷ 0 ∷ 0 ∷ 2
+    ∷ []
+
+unfoldable pub pyramidRibbed2 : List ℤ
+pyramidRibbed2 =
+    pos 512 ∷ pos 0 ∷ pos 256 ∷ pos 256 ∷ pos 0
+    ∷ []
+
+unfoldable pub orderRibbed4 : List ℕ
+orderRibbed4 =
+    10 ∷ 1 ∷ 9 ∷ 3 ∷ 15 ∷ 5
+    ∷ 13 ∷ 2 ∷ 11 ∷ 0 ∷ 0 ∷ 0
+    ∷ 0 ∷ 0 ∷ 0 ∷ 0
+    ∷ []
+
+unfoldable pub serialsRibbed4 : List ℕ
+serialsRibbed4 =
+    0 ∷ 2 ∷ 8 ∷ 4 ∷ 0 ∷ 6
+    ∷ 0 ∷ 0 ∷ 0 ∷ 3 ∷ 1 ∷ 9
+    ∷ 0 ∷ 7 ∷ 0 ∷ 5
+    ∷ []
+
+unfoldable pub pyramidRibbed4 : List ℤ
+pyramidRibbed4 =
+    negsuc 2815 ∷ pos 1247 ∷ negsuc 11024 ∷ pos 10717 ∷ negsuc 3754 ∷ pos 13739
+    ∷ negsuc 12701 ∷ pos 0 ∷ negsuc 9841 ∷ pos 210 ∷ pos 0 ∷ pos 10465
+    ∷ negsuc 11647 ∷ pos 4000 ∷ negsuc 12791 ∷ negsuc 13023 ∷ pos 0 ∷ pos 19509
+    ∷ pos 0 ∷ pos 21941 ∷ negsuc 12671
+    ∷ []
+
+unfoldable pub orderRibbed8 : List ℕ
+orderRibbed8 =
+    24 ∷ 7 ∷ 44 ∷ 26 ∷ 4 ∷ 55
+    ∷ 19 ∷ 23 ∷ 57 ∷ 53 ∷ 16 ∷ 28
+    ∷ 50 ∷ 39 ∷ 3 ∷ 0 ∷ 0 ∷ 0
+    ∷ 0 ∷ 0 ∷ 0 ∷ 0 ∷ 0 ∷ 0
+    ∷ 0 ∷ 0 ∷ 0 ∷ 0 ∷ 0 ∷ 0
+    ∷ 0 ∷ 0 ∷ 0 ∷ 0 ∷ 0 ∷ 0
+    ∷ 0 ∷ 0 ∷ 0 ∷ 0 ∷ 0 ∷ 0
+    ∷ 0 ∷ 0 ∷ 0 ∷ 0 ∷ 0 ∷ 0
+    ∷ 0 ∷ 0 ∷ 0 ∷ 0 ∷ 0 ∷ 0
+    ∷ 0 ∷ 0 ∷ 0 ∷ 0 ∷ 0 ∷ 0
+    ∷ 0 ∷ 0 ∷ 0 ∷ 0
+    ∷ []
+
+unfoldable pub serialsRibbed8 : List ℕ
+serialsRibbed8 =
+    0 ∷ 0 ∷ 0 ∷ 15 ∷ 5 ∷ 0
+    ∷ 0 ∷ 2 ∷ 0 ∷ 0 ∷ 0 ∷ 0
+    ∷ 0 ∷ 0 ∷ 0 ∷ 0 ∷ 11 ∷ 0
+    ∷ 0 ∷ 7 ∷ 0 ∷ 0 ∷ 0 ∷ 8
+    ∷ 1 ∷ 0 ∷ 4 ∷ 0 ∷ 12 ∷ 0
+    ∷ 0 ∷ 0 ∷ 0 ∷ 0 ∷ 0 ∷ 0
+    ∷ 0 ∷ 0 ∷ 0 ∷ 14 ∷ 0 ∷ 0
+    ∷ 0 ∷ 0 ∷ 3 ∷ 0 ∷ 0 ∷ 0
+    ∷ 0 ∷ 0 ∷ 13 ∷ 0 ∷ 0 ∷ 10
+    ∷ 0 ∷ 6 ∷ 0 ∷ 9 ∷ 0 ∷ 0
+    ∷ 0 ∷ 0 ∷ 0 ∷ 0
+    ∷ []
+
+unfoldable pub pyramidRibbed8 : List ℤ
+pyramidRibbed8 =
+    negsuc 14335 ∷ negsuc 11397 ∷ negsuc 7032 ∷ pos 3989 ∷ pos 106 ∷ pos 12232
+    ∷ negsuc 11696 ∷ pos 5745 ∷ pos 14592 ∷ negsuc 12060 ∷ pos 128 ∷ negsuc 22591
+    ∷ negsuc 4777 ∷ pos 7253 ∷ negsuc 13311 ∷ pos 7424 ∷ negsuc 13311 ∷ pos 4971
+    ∷ pos 5077 ∷ pos 832 ∷ pos 5162 ∷ pos 7680 ∷ pos 0 ∷ negsuc 6199
+    ∷ pos 0 ∷ negsuc 15928 ∷ pos 5717 ∷ pos 9088 ∷ pos 0 ∷ pos 3272
+    ∷ pos 1280 ∷ pos 13824 ∷ negsuc 19320 ∷ negsuc 170 ∷ pos 16128 ∷ pos 27136
+    ∷ negsuc 21631 ∷ pos 0 ∷ negsuc 1336 ∷ pos 4800 ∷ pos 0 ∷ negsuc 17471
+    ∷ pos 1280 ∷ pos 12032 ∷ pos 0 ∷ negsuc 15416 ∷ pos 4693 ∷ pos 0
+    ∷ negsuc 4671 ∷ pos 0 ∷ negsuc 6399 ∷ pos 1280 ∷ negsuc 18089 ∷ negsuc 9130
+    ∷ pos 7424 ∷ negsuc 4607 ∷ pos 0 ∷ negsuc 2495 ∷ pos 24320 ∷ negsuc 8362
+    ∷ pos 0 ∷ pos 2560 ∷ pos 6400 ∷ negsuc 8511 ∷ negsuc 191 ∷ pos 0
+    ∷ negsuc 14399 ∷ pos 8704 ∷ negsuc 13652 ∷ pos 22016 ∷ negsuc 10473 ∷ pos 0
+    ∷ negsuc 9791 ∷ negsuc 9791 ∷ pos 0 ∷ negsuc 10282 ∷ pos 0 ∷ negsuc 6570
+    ∷ pos 0 ∷ negsuc 6122 ∷ pos 20992 ∷ pos 11008 ∷ negsuc 383 ∷ pos 4608
+    ∷ pos 10837
     ∷ []

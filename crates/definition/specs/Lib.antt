@@ -25,4 +25,5 @@ pub mod Stages
 pub mod Expected
 pub mod PlateTools
 pub mod StagePlates
+pub mod KnitPlates
 pub mod Plates

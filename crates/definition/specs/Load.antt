@@ -7,7 +7,15 @@ use lib.IntN.{ℤ}
 use Rattle.definition.specs.Answers.{Said, returned, refused}
 use Rattle.definition.specs.Pyramid.{needed, cellCount}
 use Rattle.definition.specs.Model.{modelStart}
-use Rattle.definition.specs.Refusals.{powerOf, sideUnknown, greysShort, pyramidShort, sheetShort, lowest}
+use Rattle.definition.specs.Refusals.{
+  powerOf,
+  sideUnknown,
+  knitUnknown,
+  greysShort,
+  pyramidShort,
+  sheetShort,
+  lowest,
+}
 use Rattle.definition.specs.declared.Progress.{Progress}
 
 pub record LoadOutcome : Type 0 where
@@ -17,29 +25,38 @@ pub record LoadOutcome : Type 0 where
   pub serials : List ℕ
   pub order : List ℕ
 
--- "Given by" Load: 1, 2, 3, 4; from the side's power and the lengths lent
-unfoldable pub loadRefusal : ℕ → ℕ → ℕ → ℕ → ℕ → ℕ
-loadRefusal r greys pyramid serials order =
-    lowest (sideUnknown r ∷ greysShort r greys ∷ pyramidShort r pyramid ∷ sheetShort r serials ∷ sheetShort r order ∷ [])
+-- The checks of Load, 1, 11, 2, 3, 4: from the side's power, the knit and the lengths lent
+unfoldable pub loadRefusal : ℕ → ℕ → ℕ → ℕ → ℕ → ℕ → ℕ
+loadRefusal r knit greys pyramid serials order =
+    lowest
+    (sideUnknown r ∷ knitUnknown knit ∷ greysShort r greys ∷ pyramidShort r pyramid
+    ∷ sheetShort r serials ∷ sheetShort r order ∷ [])
 
--- "Load fills the pyramid from the greys, sets the N² places of both other buffers to 0 and returns the record (N, 0). Where a buffer
--- is longer than needed, the part past the needed length is neither read nor written."
-unfoldable pub loaded : ℕ → ℕ → List ℕ → List ℤ → List ℕ → List ℕ → LoadOutcome
-loaded side r greys pyramid serials order =
+-- Load fills the pyramid from the greys and the places of both other buffers with 0, each over its needed length, and
+-- what lies past that stays (document 01, Load). The record is (side, 0, knit).
+unfoldable pub loaded : ℕ → ℕ → ℕ → List ℕ → List ℤ → List ℕ → List ℕ → LoadOutcome
+loaded side knit r greys pyramid serials order =
     let fresh = modelStart r greys in
     record {
-      progress = record { side = side; dots = 0 };
+      progress = record { side = side; dots = 0; knit = knit };
       said = returned [];
       pyramid = fresh .pyramid ++ drop (needed r) pyramid;
       serials = fresh .serials ++ drop (cellCount r) serials;
       order = fresh .order ++ drop (cellCount r) order;
     }
 
--- "A refusal leaves every buffer unchanged." "a refused Load returns the record (0, 0) and the number"
-unfoldable pub loadOf : ℕ → List ℕ → List ℤ → List ℕ → List ℕ → LoadOutcome
-loadOf side greys pyramid serials order =
+-- A refused Load leaves every buffer unchanged and returns the record (0, 0, 0) and the number.
+unfoldable pub loadOf : ℕ → ℕ → List ℕ → List ℤ → List ℕ → List ℕ → LoadOutcome
+loadOf side knit greys pyramid serials order =
     let r = powerOf side in
-    elim (loadRefusal r (length greys) (length pyramid) (length serials) (length order)) [
-      | zero ↦ loaded side r greys pyramid serials order
-      | suc n ↦ record { progress = record { side = 0; dots = 0 }; said = refused (suc n); pyramid = pyramid; serials = serials; order = order }
+    elim (loadRefusal r knit (length greys) (length pyramid) (length serials) (length order)) [
+      | zero ↦ loaded side knit r greys pyramid serials order
+      | suc n ↦
+          record {
+            progress = record { side = 0; dots = 0; knit = 0 };
+            said = refused (suc n);
+            pyramid = pyramid;
+            serials = serials;
+            order = order;
+          }
     ]

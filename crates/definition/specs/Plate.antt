@@ -4,7 +4,7 @@ use mathlib.Core.List.{List, [], _∷_}
 use Prim.Native.Nat.{ℕ}
 use lib.Dec.{ltb}
 use lib.ListN.{length}
-use Rattle.definition.specs.Diffusion.{Kernel, plain}
+use Rattle.definition.specs.Diffusion.{plain, kernelOf}
 use Rattle.definition.specs.Model.{Halftone, topOf, modelStart, steps}
 use Rattle.definition.specs.Refusals.{powerOf}
 use Rattle.definition.specs.Advance.{dotsDue}
@@ -16,9 +16,11 @@ use Rattle.definition.specs.DrillList.{drillText}
 unfoldable pub refusedText : ℕ → List ℕ
 refusedText n = 114 ∷ 101 ∷ 102 ∷ 117 ∷ 115 ∷ 101 ∷ 100 ∷ 44 ∷ line (n ∷ [])
 
--- "runs to finished": all holes that are due
-unfoldable pub finishedOf : Kernel → ℕ → List ℕ → Halftone
-finishedOf kernel r greys = let fresh = modelStart r greys in steps kernel r (dotsDue (topOf (fresh .pyramid))) fresh
+-- a map run to its end on cloth of a knit: all dots that are due
+unfoldable pub finishedOf : ℕ → ℕ → List ℕ → Halftone
+finishedOf knit r greys =
+    let fresh = modelStart r greys in
+    steps (kernelOf knit) r (dotsDue (topOf (fresh .pyramid))) fresh
 
 -- "input longer than 4,099 bytes: program only, before all else". "reads a map text on standard input, runs to finished and prints the
 -- drill list"; "The program's greys buffer has 1,024 places".

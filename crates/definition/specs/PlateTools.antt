@@ -1,7 +1,7 @@
 -- What the plates are told in: equal lists, what was said, and a map loaded and run.
-use mathlib.Core.Bool.{Bool, true, false, _&&_}
-use mathlib.Core.List.{List, [], _∷_, map}
-use Prim.Native.Nat.{ℕ, suc, _^_}
+use mathlib.Core.Bool.{Bool, true, false, cond, _&&_}
+use mathlib.Core.List.{List, [], _∷_, _++_, map}
+use Prim.Native.Nat.{ℕ, zero, suc, _^_}
 use lib.Dec.{eqb}
 use lib.ListN.{take, replicate}
 use lib.IntN.{ℤ, pos, negℤ}
@@ -9,9 +9,19 @@ use Rattle.definition.specs.Lists.{eqZ}
 use Rattle.definition.specs.Answers.{Said, returned, finished, more, comparison, refused, Compared}
 use Rattle.definition.specs.Answers as Answers
 use Rattle.definition.specs.Pyramid.{needed, cellCount}
-use Rattle.definition.specs.Diffusion.{plain}
+use Rattle.definition.specs.Diffusion.{Kernel, plain, kernelOf, weightAt, share}
 use Rattle.definition.specs.Model.{Halftone, modelStart}
-use Rattle.definition.specs.Calls.{Call, Held, heldAfterLoad, heldAfterCalls, modelAfterCalls}
+use Rattle.definition.specs.Advance.{Reply}
+use Rattle.definition.specs.Calls.{
+  Call,
+  Held,
+  heldAfterLoad,
+  heldAfterCalls,
+  repliesOf,
+  modelAfterCalls,
+  modelReplies,
+}
+use Rattle.definition.specs.declared.Progress.{Progress}
 
 -- ---- equal lists; what was said, as a list
 unfoldable pub same : List ℕ → List ℕ → Bool
@@ -47,23 +57,78 @@ refuses said n = same (saidAs said) (3 ∷ n ∷ [])
 abbrev pub minus : ℕ → ℤ
 minus n = negℤ (pos n)
 
--- ---- a run: a map loaded into buffers one place longer than needed, with 9s in them, then calls with these budgets,
--- all lent whole
-unfoldable pub loadedMap : ℕ → List ℕ → Held
-loadedMap r greys =
+-- ---- a run: a map loaded for cloth of a knit, into buffers one place longer than needed, with 9s in them, then calls
+-- with these budgets, all lent whole
+unfoldable pub loadedOn : ℕ → ℕ → List ℕ → Held
+loadedOn knit r greys =
     let nines : List ℕ = replicate (suc (cellCount r)) 9 in
-    heldAfterLoad (2 ^ r) greys (replicate (suc (needed r)) (pos 9)) nines nines
+    heldAfterLoad (2 ^ r) knit greys (replicate (suc (needed r)) (pos 9)) nines nines
 
 unfoldable pub callsOf : ℕ → List ℕ → List Call
 callsOf r budgets =
     let cells = suc (cellCount r) in
     map (λ n. record { budget = n; pyramidLent = suc (needed r); serialsLent = cells; orderLent = cells }) budgets
 
-unfoldable pub after : ℕ → List ℕ → List ℕ → Held
-after r greys budgets = heldAfterCalls plain (loadedMap r greys) (callsOf r budgets)
+unfoldable pub afterOn : ℕ → ℕ → List ℕ → List ℕ → Held
+afterOn knit r greys budgets = heldAfterCalls (loadedOn knit r greys) (callsOf r budgets)
 
-unfoldable pub modelAfter : ℕ → List ℕ → List ℕ → Halftone
-modelAfter r greys budgets = modelAfterCalls plain r (modelStart r greys) (callsOf r budgets)
+unfoldable pub modelAfterOn : ℕ → ℕ → List ℕ → List ℕ → Halftone
+modelAfterOn knit r greys budgets = modelAfterCalls knit r (modelStart r greys) (callsOf r budgets)
+
+-- the calls make and say this, each in turn, and so does the model
+unfoldable pub replied : List (ℕ × Said) → List Reply → Bool
+replied [] [] = true
+replied [] (reply ∷ replies) = false
+replied (e ∷ es) [] = false
+replied (e ∷ es) (reply ∷ replies) =
+    eqb (e .0) (reply .made) && same (saidAs (e .1)) (saidAs (reply .said)) && replied es replies
+
+unfoldable pub answersOn : ℕ → ℕ → List ℕ → List ℕ → List (ℕ × Said) → Bool
+answersOn knit r greys budgets expected =
+    replied expected (repliesOf (loadedOn knit r greys) (callsOf r budgets))
+    && replied expected (modelReplies knit r (modelStart r greys) (callsOf r budgets))
+
+-- they leave this pyramid, these serials, this order, with the 9s behind them, and so does the model; and the record
+-- keeps its side and knit
+unfoldable pub leavesOn : ℕ → ℕ → List ℕ → List ℕ → List ℤ → List ℕ → List ℕ → Bool
+leavesOn knit r greys budgets pyramid serials order =
+    let held = afterOn knit r greys budgets in
+    let model = modelAfterOn knit r greys budgets in
+    sameZ (held .pyramid) (pyramid ++ pos 9 ∷ []) && sameZ (model .pyramid) pyramid
+    && same (held .serials) (serials ++ 9 ∷ []) && same (model .serials) serials
+    && same (held .order) (order ++ 9 ∷ []) && same (model .order) order
+    && eqb (held .progress .side) (2 ^ r) && eqb (held .progress .knit) knit
+
+-- the shares of d around a cell, in their order, without the places of weight 0
+unfoldable pub sharesFrom : Kernel → ℕ → ℕ → ℕ → ℕ → ℕ → ℕ → List ℕ
+sharesFrom kernel r row column d n zero = []
+sharesFrom kernel r row column d n (suc left) =
+    let rest = sharesFrom kernel r row column d (suc n) left in
+    let weight = weightAt kernel r row column in
+    cond (eqb (weight n) 0) rest (share 9 weight d n ∷ rest)
+
+unfoldable pub sharesOn : ℕ → ℕ → ℕ → ℕ → ℕ → List ℕ
+sharesOn knit r row column d = sharesFrom (kernelOf knit) r row column d 0 9
+
+-- the same on plain cloth
+abbrev pub loadedMap : ℕ → List ℕ → Held
+loadedMap r greys = loadedOn plain r greys
+
+abbrev pub after : ℕ → List ℕ → List ℕ → Held
+after r greys budgets = afterOn plain r greys budgets
+
+abbrev pub answers : ℕ → List ℕ → List ℕ → List (ℕ × Said) → Bool
+answers r greys budgets expected = answersOn plain r greys budgets expected
+
+abbrev pub leaves : ℕ → List ℕ → List ℕ → List ℤ → List ℕ → List ℕ → Bool
+leaves r greys budgets pyramid serials order = leavesOn plain r greys budgets pyramid serials order
+
+abbrev pub shares : ℕ → ℕ → ℕ → ℕ → List ℕ
+shares r row column d = sharesOn plain r row column d
+
+-- a record on plain cloth
+abbrev pub onPlain : ℕ → ℕ → Progress
+onPlain side dots = record { side = side; dots = dots; knit = plain }
 
 -- ---- the maps of the plates, side 2
 unfoldable pub p1 : List ℕ

@@ -1,5 +1,5 @@
 -- Document 01's plates: P1 to P12 as one table; further plates, whose figures the reference wrote, as another; as a
--- third a row for each sentence that these leave open; and those of `StagePlates`.
+-- third a row for each sentence that these leave open; and those of `StagePlates` and `KnitPlates`.
 -- One proof computes all of it on the definitions. Rows that make holes ask the calls and the model.
 use mathlib.Core.Path.{_≡_, refl}
 use mathlib.Core.Bool.{Bool, true, false, cond, not, _&&_}
@@ -23,7 +23,17 @@ use Rattle.definition.specs.Descent.{
   largest,
   descend,
 }
-use Rattle.definition.specs.Diffusion.{plain, within, onMap, weightAt, share, diffuse}
+use Rattle.definition.specs.Diffusion.{
+  plain,
+  ribbed,
+  weightsOf,
+  kernelOf,
+  within,
+  onMap,
+  weightAt,
+  share,
+  diffuse,
+}
 use Rattle.definition.specs.Model.{topOf, modelStart, missing, placeDot, step, steps}
 use Rattle.definition.specs.Sound.{burntNear, everyEntry, fewDots, numbered, counted, unused, summed, bounded, owing, isSound}
 use Rattle.definition.specs.Refusals.{Row, powerUpTo, powerOf, lowest, greysRefusal}
@@ -98,10 +108,21 @@ use Rattle.definition.specs.PlateTools.{
   saidAs,
   refuses,
   minus,
-  loadedMap,
+  loadedOn,
   callsOf,
+  afterOn,
+  modelAfterOn,
+  replied,
+  answersOn,
+  leavesOn,
+  sharesFrom,
+  sharesOn,
+  loadedMap,
   after,
-  modelAfter,
+  answers,
+  leaves,
+  shares,
+  onPlain,
   p1,
   p2,
   p3,
@@ -114,14 +135,15 @@ use Rattle.definition.specs.StagePlates.{
   keepRefuses,
   restoresP3,
   isAfter,
-  goesBack,
-  staysThere,
+  goesBackOn,
+  staysThereOn,
   restores,
   twoKept,
-  leavesStage,
+  leavesStageOn,
   keptThree,
   stagePlates,
 }
+use Rattle.definition.specs.KnitPlates.{keepsKnit, otherCell, knitPlates}
 use Rattle.definition.specs.declared.Progress.{Progress}
 use Rattle.definition.specs.declared.Refusal.the-variants as Refusal
 use Rattle.definition.specs.Expected.{
@@ -140,38 +162,16 @@ use Rattle.definition.specs.Expected.{
   serialsFlat4,
   pyramidFlat4,
   levelsFlat4,
+  orderRibbed2,
+  serialsRibbed2,
+  pyramidRibbed2,
+  orderRibbed4,
+  serialsRibbed4,
+  pyramidRibbed4,
+  orderRibbed8,
+  serialsRibbed8,
+  pyramidRibbed8,
 }
-
--- the calls make and say this, each in turn, and so does the model
-unfoldable pub replied : List (ℕ × Said) → List Reply → Bool
-replied [] [] = true
-replied [] (reply ∷ replies) = false
-replied (e ∷ es) [] = false
-replied (e ∷ es) (reply ∷ replies) = eqb (e .0) (reply .made) && same (saidAs (e .1)) (saidAs (reply .said)) && replied es replies
-
-unfoldable pub answers : ℕ → List ℕ → List ℕ → List (ℕ × Said) → Bool
-answers r greys budgets expected =
-    replied expected (repliesOf plain (loadedMap r greys) (callsOf r budgets))
-    && replied expected (modelReplies plain r (modelStart r greys) (callsOf r budgets))
-
--- they leave this pyramid, these serials, this order, with the 9s behind them, and so does the model
-unfoldable pub leaves : ℕ → List ℕ → List ℕ → List ℤ → List ℕ → List ℕ → Bool
-leaves r greys budgets pyramid serials order =
-    let held = after r greys budgets in
-    let model = modelAfter r greys budgets in
-    sameZ (held .pyramid) (pyramid ++ pos 9 ∷ []) && sameZ (model .pyramid) pyramid
-    && same (held .serials) (serials ++ 9 ∷ []) && same (model .serials) serials
-    && same (held .order) (order ++ 9 ∷ []) && same (model .order) order
-
--- the shares of d around a cell, in their order, without the places of weight 0
-unfoldable pub sharesFrom : ℕ → ℕ → ℕ → ℕ → ℕ → ℕ → List ℕ
-sharesFrom r row column d n zero = []
-sharesFrom r row column d n (suc left) =
-    let rest = sharesFrom r row column d (suc n) left in
-    cond (eqb (weightAt plain r row column n) 0) rest (share 9 (weightAt plain r row column) d n ∷ rest)
-
-unfoldable pub shares : ℕ → ℕ → ℕ → ℕ → List ℕ
-shares r row column d = sharesFrom r row column d 0 9
 
 -- a map of side 2 with the sum of greys G comes to n holes, and so does the price list's floor((2G + 255) / 510)
 unfoldable pub total : List ℕ → ℕ → ℕ → Bool
@@ -206,7 +206,12 @@ plates =
     -- P11: Levels of P3 finished: 4, 65,026
     ∷ (11, same (levelsOf 2 p3 (after 1 p3 (9 ∷ []) .serials) .sums) (4 ∷ 65026 ∷ 0 ∷ 0 ∷ 0 ∷ 0 ∷ 0 ∷ 0 ∷ 0 ∷ []))
     -- P12: P3's fresh sheet with 1 added to the top: 5
-    ∷ (12, refuses (advanceOf plain (record { side = 2; dots = 0 }) 9 (set (loadedMap 1 p3 .pyramid) 0 (pos 131073)) (loadedMap 1 p3 .serials) (loadedMap 1 p3 .order) .reply .said) 5)
+    ∷ (
+      12,
+      refuses
+          (advanceOf (onPlain 2 0) 9 (set (loadedMap 1 p3 .pyramid) 0 (pos 131073)) (loadedMap 1 p3 .serials)
+          (loadedMap 1 p3 .order) .reply .said) 5,
+    )
     ∷ []
 
 -- "2", "128,128", "128,128", and "2,2", "1,0,0", "2,1,1", each line with its end
@@ -233,7 +238,7 @@ quoted level n = quotePageOf 2 p3 (after 1 p3 (9 ∷ []) .serials) level (replic
 unfoldable pub owedWith : ℕ → ℕ → Reply
 owedWith budget w =
     let pyramid = pos w ∷ pos w ∷ replicate 3 (pos 0) in
-    advanceOf plain (record { side = 2; dots = 0 }) budget pyramid p1 p1 .reply
+    advanceOf (onPlain 2 0) budget pyramid p1 p1 .reply
 
 abbrev pub owed : ℕ → Reply
 owed w = owedWith 9 w
@@ -241,7 +246,8 @@ owed w = owedWith 9 w
 -- Advance on a sheet of side 2 with one hole made: these serials and this order; the first two cells owe y and z, the others −1 each; the top is `off` too much
 unfoldable pub altered : ℕ → List ℕ → List ℕ → ℤ → ℤ → Reply
 altered off serials order y z =
-    advanceOf plain (record { side = 2; dots = 1 }) 9 ((y +ℤ z +ℤ minus 2 +ℤ pos off) ∷ y ∷ z ∷ minus 1 ∷ minus 1 ∷ []) serials order .reply
+    advanceOf (onPlain 2 1) 9
+    ((y +ℤ z +ℤ minus 2 +ℤ pos off) ∷ y ∷ z ∷ minus 1 ∷ minus 1 ∷ []) serials order .reply
 
 -- a pyramid one place longer than needed: these entries above level r, whose cells are `cells`, and a 7 behind them
 abbrev pub withCells : List ℤ → List ℤ → List ℤ
@@ -284,8 +290,16 @@ furtherPlates =
     ∷ (17, same (plateOf textP3) listP3 && same (mapText 2 p3) textP3)
     ∷ (18, same (saidAs (listed 17 .said)) (0 ∷ 16 ∷ []) && same (listed 17 .output) (listP3 ++ 7 ∷ []))
     -- refusals, the lowest number first: Load, Tally (a hole counted before), Levels, Drill List, Map Text, the program
-    ∷ (19, refuses (loadOf 3 [] [] [] [] .said) 1 && refuses (loadOf 2 (0 ∷ []) [] [] [] .said) 2 && refuses (loadOf 2 p1 [] [] [] .said) 3)
-    ∷ (20, refuses (loadOf 2 p1 (replicate 5 (pos 0)) p1 [] .said) 4 && refuses (loadOf 512 p1 [] [] [] .said) 1)
+    ∷ (
+      19,
+      refuses (loadOf 3 plain [] [] [] [] .said) 1 && refuses (loadOf 2 plain (0 ∷ []) [] [] [] .said) 2
+          && refuses (loadOf 2 plain p1 [] [] [] .said) 3,
+    )
+    ∷ (
+      20,
+      refuses (loadOf 2 plain p1 (replicate 5 (pos 0)) p1 [] .said) 4
+          && refuses (loadOf 512 plain p1 [] [] [] .said) 1,
+    )
     ∷ (21, same (saidAs (tallyOf 2 (0 ∷ 7 ∷ 0 ∷ 0 ∷ []) 1 0 1)) (0 ∷ 1 ∷ []) && same (saidAs (tallyOf 2 (0 ∷ 7 ∷ 0 ∷ 0 ∷ []) 1 1 0)) (0 ∷ 0 ∷ []))
     ∷ (22, refuses (tallyOf 0 [] 0 0 0) 1 && refuses (tallyOf 2 (0 ∷ []) 2 0 0) 4 && refuses (tallyOf 2 p1 2 0 0) 6 && refuses (tallyOf 2 p1 0 0 1) 6)
     ∷ (23, refuses (levelsOf 2 (0 ∷ []) [] .said) 2 && refuses (levelsOf 2 p1 [] .said) 4 && refuses (listed 15 .said) 8)
@@ -330,22 +344,22 @@ numbers =
     map numberOf
     (Refusal.SideUnknown ∷ Refusal.GreysShort ∷ Refusal.PyramidShort ∷ Refusal.SheetShort ∷ Refusal.SheetUnsound
     ∷ Refusal.BlockUnknown ∷ Refusal.TextMalformed ∷ Refusal.OutputShort ∷ Refusal.InputLong
-    ∷ Refusal.NameUnknown ∷ [])
+    ∷ Refusal.NameUnknown ∷ Refusal.KnitUnknown ∷ [])
 
--- Load of a side, lent buffers of these lengths: greys, pyramid, serials, order
-unfoldable pub loads : ℕ → ℕ → ℕ → ℕ → ℕ → Said
-loads side g p s o = loadOf side (replicate g 0) (replicate p (pos 0)) (replicate s 0) (replicate o 0) .said
+-- Load of a side and a knit, lent buffers of these lengths: greys, pyramid, serials, order
+unfoldable pub loads : ℕ → ℕ → ℕ → ℕ → ℕ → ℕ → Said
+loads side knit g p s o = loadOf side knit (replicate g 0) (replicate p (pos 0)) (replicate s 0) (replicate o 0) .said
 
--- Advance with the record (side, 0) on such a pyramid and unburnt serials and order of these lengths
-unfoldable pub advances : ℕ → ℕ → ℕ → ℕ → ℕ → Said
-advances side p s o top =
-    let record₀ : Progress = record { side = side; dots = 0 } in
-    advanceOf plain record₀ 9 (topOnly p top) (replicate s 0) (replicate o 0) .reply .said
+-- Advance with the record (side, 0, knit) on such a pyramid and unburnt serials and order of these lengths
+unfoldable pub advances : ℕ → ℕ → ℕ → ℕ → ℕ → ℕ → Said
+advances side knit p s o top =
+    let record₀ : Progress = record { side = side; dots = 0; knit = knit } in
+    advanceOf record₀ 9 (topOnly p top) (replicate s 0) (replicate o 0) .reply .said
 
 -- Drill List likewise, into an output of n places
-unfoldable pub lists : ℕ → ℕ → ℕ → ℕ → ℕ → ℕ → Said
-lists side p s o top n =
-    let record₀ : Progress = record { side = side; dots = 0 } in
+unfoldable pub lists : ℕ → ℕ → ℕ → ℕ → ℕ → ℕ → ℕ → Said
+lists side knit p s o top n =
+    let record₀ : Progress = record { side = side; dots = 0; knit = knit } in
     drillListOf record₀ (topOnly p top) (replicate s 0) (replicate o 0) (replicate n 7) .said
 
 -- three zeros: one place less than a map of side 2 has cells
@@ -359,22 +373,25 @@ reads text room = mapTextOf text (replicate room 0) .said
 unfoldable pub textOfGrey : List ℕ → List ℕ
 textOfGrey grey = 50 ∷ 10 ∷ grey ++ 44 ∷ 48 ∷ 10 ∷ 48 ∷ 44 ∷ 48 ∷ 10 ∷ []
 
--- Advance on a sheet of side 4 with one hole, where cell `low` owes −1 and the others nothing: 1 if it accepts that
-unfoldable pub acceptsLow : ℕ → ℕ → ℕ
-acceptsLow hole low =
+-- Advance on a sheet of side 4 and a knit with one hole, where cell `low` owes −1 and the others nothing: 1 if it
+-- accepts that
+unfoldable pub acceptsLow : ℕ → ℕ → ℕ → ℕ
+acceptsLow knit hole low =
     let pyramid = pyramidOver 2 (set (replicate 16 (pos 0)) low (minus 1)) in
     let serials : List ℕ = set (replicate 16 0) hole 1 in
-    let reply = advanceOf plain (record { side = 4; dots = 1 }) 0 pyramid serials (hole ∷ replicate 15 0) .reply in
+    let record₀ : Progress = record { side = 4; dots = 1; knit = knit } in
+    let reply = advanceOf record₀ 0 pyramid serials (hole ∷ replicate 15 0) .reply in
     cond (refuses (reply .said) 5) 0 1
 
-unfoldable pub lowBeside : ℕ → List ℕ
-lowBeside hole = tabulateFrom 0 16 (acceptsLow hole)
+unfoldable pub lowBeside : ℕ → ℕ → List ℕ
+lowBeside knit hole = tabulateFrom 0 16 (acceptsLow knit hole)
 
 -- Advance without buffers gives back the record that it was given, with no hole made
-unfoldable pub givesBack : ℕ → ℕ → Bool
-givesBack side dots =
-    let reply = advanceOf plain (record { side = side; dots = dots }) 9 [] [] [] .reply in
-    eqb (reply .progress .side) side && eqb (reply .progress .dots) dots && eqb (reply .made) 0
+unfoldable pub givesBack : ℕ → ℕ → ℕ → Bool
+givesBack side dots knit =
+    let reply = advanceOf (record { side = side; dots = dots; knit = knit }) 9 [] [] [] .reply in
+    eqb (reply .progress .side) side && eqb (reply .progress .dots) dots && eqb (reply .progress .knit) knit
+    && eqb (reply .made) 0
 
 -- the holes of a map of side 4 that is 255 at these cells and 0 elsewhere, in their order
 unfoldable pub darkAt : List ℕ → List ℕ
@@ -457,19 +474,21 @@ shelfRefuses side n plates lent number =
 unfoldable pub singlePlates : List Row
 singlePlates =
     -- the numbers of the table; the powers of 1, 2, 4 .. 512 as sides, and of other numbers; some needed lengths
-    (50, same numbers (1 ∷ 2 ∷ 3 ∷ 4 ∷ 5 ∷ 6 ∷ 7 ∷ 8 ∷ 9 ∷ 10 ∷ []))
+    (50, same numbers (1 ∷ 2 ∷ 3 ∷ 4 ∷ 5 ∷ 6 ∷ 7 ∷ 8 ∷ 9 ∷ 10 ∷ 11 ∷ []))
     ∷ (51, same (tabulateFrom 0 10 (λ r. powerOf (2 ^ r))) (tabulateFrom 0 9 (λ r. r) ++ 0 ∷ []))
     ∷ (51, same (map powerOf (0 ∷ 3 ∷ 5 ∷ 31 ∷ 33 ∷ 255 ∷ 257 ∷ [])) (replicate 7 0))
     ∷ (52, eqb (needed 1) 5 && eqb (cellCount 1) 4 && eqb (needed 8) 87381 && eqb (cellCount 8) 65536)
     -- the numbers of Load, Advance and Drill List in turn: each buffer one place short, and all behind it bad too
-    ∷ (53, refuses (loads 3 3 4 3 3) 1 && refuses (loads 2 3 4 3 3) 2 && refuses (loads 2 4 4 3 3) 3)
-    ∷ (53, refuses (loads 2 4 5 3 3) 4 && refuses (loads 2 4 5 4 3) 4 && says (loads 2 4 5 4 4) [])
-    ∷ (54, refuses (advances 3 4 3 3 1) 1 && refuses (advances 2 4 3 3 1) 3 && refuses (advances 2 5 3 3 1) 4)
-    ∷ (54, refuses (advances 2 5 4 3 1) 4 && refuses (advances 2 5 4 4 1) 5)
-    ∷ (54, same (saidAs (advances 2 5 4 4 0)) (saidAs finished))
-    ∷ (55, refuses (lists 3 4 3 3 1 3) 1 && refuses (lists 2 4 3 3 1 3) 3 && refuses (lists 2 5 3 3 1 3) 4)
-    ∷ (55, refuses (lists 2 5 4 3 1 3) 4 && refuses (lists 2 5 4 4 1 3) 5 && refuses (lists 2 5 4 4 0 3) 8)
-    ∷ (55, says (lists 2 5 4 4 0 4) (4 ∷ []))
+    ∷ (53, refuses (loads 3 2 3 4 3 3) 1 && refuses (loads 2 2 3 4 3 3) 11 && refuses (loads 2 0 3 4 3 3) 2)
+    ∷ (53, refuses (loads 2 0 4 4 3 3) 3 && refuses (loads 2 0 4 5 3 3) 4 && refuses (loads 2 0 4 5 4 3) 4)
+    ∷ (53, says (loads 2 0 4 5 4 4) [] && says (loads 2 1 4 5 4 4) [] && refuses (loads 2 4294967295 4 5 4 4) 11)
+    ∷ (54, refuses (advances 3 2 4 3 3 1) 1 && refuses (advances 2 2 4 3 3 1) 11 && refuses (advances 2 0 4 3 3 1) 3)
+    ∷ (54, refuses (advances 2 0 5 3 3 1) 4 && refuses (advances 2 0 5 4 3 1) 4 && refuses (advances 2 0 5 4 4 1) 5)
+    ∷ (54, same (saidAs (advances 2 0 5 4 4 0)) (saidAs finished))
+    ∷ (55, refuses (lists 3 2 4 3 3 1 3) 1 && refuses (lists 2 2 4 3 3 1 3) 11 && refuses (lists 2 0 4 3 3 1 3) 3)
+    ∷ (55, refuses (lists 2 0 5 3 3 1 3) 4 && refuses (lists 2 0 5 4 3 1 3) 4 && refuses (lists 2 0 5 4 4 1 3) 5)
+    ∷ (55, refuses (lists 2 0 5 4 4 0 3) 8 && says (lists 2 0 5 4 4 0 4) (4 ∷ []))
+    ∷ (55, says (lists 2 1 5 4 4 0 4) (4 ∷ []))
     -- those of Tally, Levels and Quote Page
     ∷ (56, refuses (tallyOf 3 [] 9 0 0) 1 && refuses (tallyOf 2 three 9 0 0) 4 && refuses (tallyOf 2 p1 1 2 0) 6)
     ∷ (57, refuses (levelsOf 3 [] [] .said) 1 && refuses (levelsOf 2 three [] .said) 2)
@@ -485,14 +504,23 @@ singlePlates =
     ∷ (62, refuses (reads (textOfGrey (47 ∷ [])) 4) 7 && refuses (reads (textOfGrey (58 ∷ [])) 4) 7)
     ∷ (62, refuses (reads (textOfGrey (49 ∷ 47 ∷ [])) 4) 7 && refuses (reads (textOfGrey (49 ∷ 58 ∷ [])) 4) 7)
     -- the record of a refused Load, and that of a refused Advance
-    ∷ (63, eqb (loadOf 2 [] [] [] [] .progress .side) 0 && eqb (loadOf 2 [] [] [] [] .progress .dots) 0)
-    ∷ (63, givesBack 3 7 && givesBack 2 7)
+    ∷ (
+      63,
+      let none = loadOf 2 ribbed [] [] [] [] .progress in
+          eqb (none .side) 0 && eqb (none .dots) 0 && eqb (none .knit) 0,
+    )
+    ∷ (63, givesBack 3 7 0 && givesBack 2 7 1 && givesBack 2 7 9)
     -- a top of just 32,640 and a budget of 0: a hole is due still
     ∷ (64, replied ((0, more) ∷ []) (owedWith 0 32640 ∷ []))
     ∷ (64, replied ((0, finished) ∷ []) (owedWith 0 32639 ∷ []))
     -- beside one hole, only the cells around it may owe −1: not the hole itself, and none further off
-    ∷ (65, same (lowBeside 0) (0 ∷ 1 ∷ 0 ∷ 0 ∷ 1 ∷ 1 ∷ replicate 10 0))
-    ∷ (65, same (lowBeside 6) (0 ∷ 1 ∷ 1 ∷ 1 ∷ 0 ∷ 1 ∷ 0 ∷ 1 ∷ 0 ∷ 1 ∷ 1 ∷ 1 ∷ replicate 4 0))
+    ∷ (65, same (lowBeside plain 0) (0 ∷ 1 ∷ 0 ∷ 0 ∷ 1 ∷ 1 ∷ replicate 10 0))
+    ∷ (
+      65,
+      same (lowBeside plain 6)
+          (0 ∷ 1 ∷ 1 ∷ 1 ∷ 0 ∷ 1 ∷ 0 ∷ 1 ∷ 0 ∷ 1 ∷ 1 ∷ 1 ∷ replicate 4 0),
+    )
+    ∷ (65, same (lowBeside ribbed 6) (lowBeside plain 6))
     -- the last place of the order list has to be unused too
     ∷ (66, refuses (altered 0 (1 ∷ 0 ∷ 0 ∷ 0 ∷ []) (0 ∷ 0 ∷ 0 ∷ 3 ∷ []) (pos 0) (minus 1) .said) 5)
     -- a list in which rows and columns differ
@@ -546,17 +574,18 @@ firstFailing [] = 0
 firstFailing (row ∷ rows) = elim (row .1) [ true ↦ firstFailing rows | false ↦ row .0 ]
 
 abbrev pub allPlates : List Row
-allPlates = plates ++ furtherPlates ++ singlePlates ++ stagePlates
+allPlates = plates ++ furtherPlates ++ singlePlates ++ stagePlates ++ knitPlates
 
 -- no row is lost
-pub plates-there : length allPlates ≡ 131
-unfolding plates furtherPlates singlePlates stagePlates
+pub plates-there : length allPlates ≡ 156
+unfolding plates furtherPlates singlePlates stagePlates knitPlates
 plates-there = refl
 
 pub plates-hold : firstFailing allPlates ≡ 0
 unfolding sumTo sumZTo allTo tabulateFrom joined repeated eqZ numberOf start placeIn rowAt columnAt
     levelOf inLevel entry four coarser pyramidOver blockSum blockSumZ greyAt burnt burntAt greySum greyTotal
-    dotsIn allDots candidate firstOfEquals lastOfEquals ofEquals choiceOf better largest descend plain within
+    dotsIn allDots candidate firstOfEquals lastOfEquals ofEquals choiceOf better largest descend weightsOf kernelOf
+    within
     onMap weightAt share diffuse topOf modelStart missing placeDot step steps burntNear everyEntry fewDots
     numbered counted unused summed bounded owing isSound powerUpTo powerOf lowest greysRefusal loadRefusal
     loaded loadOf dotsDue saidAt sheetIn advanceRefusal advanced advanceOf tallyRefusal tallyOf errorAt
@@ -569,13 +598,16 @@ unfolding sumTo sumZTo allTo tabulateFrom joined repeated eqZ numberOf start pla
     heldAfter outcomesOf heldAfterCalls repliesOf modelRefusal modelCall modelReply modelAfterCalls
     modelReplies greys4 order4
     serials4 pyramid4 levels4 greys8 order8 serials8 pyramid8 levels8 greysFlat4 orderFlat4 serialsFlat4
-    pyramidFlat4 levelsFlat4 same sameZ comparedAs saidAs refuses loadedMap callsOf after modelAfter replied answers
-    leaves sharesFrom shares total p1 p2 p3 p6 textP3 listP3 listed lineP3 quoted owedWith altered renews4
+    pyramidFlat4 levelsFlat4 orderRibbed2 serialsRibbed2 pyramidRibbed2 orderRibbed4 serialsRibbed4 pyramidRibbed4
+    orderRibbed8 serialsRibbed8 pyramidRibbed8 same sameZ comparedAs saidAs refuses loadedOn callsOf afterOn
+    modelAfterOn
+    replied answersOn leavesOn sharesFrom sharesOn total p1 p2 p3 p6 textP3 listP3 listed lineP3 quoted owedWith
+    altered renews4
     renews8 leftAlone samples sampleBegins numbers says loads advances lists reads textOfGrey acceptsLow
     lowBeside givesBack darkAt orderOf refusedLine plateRefuses quoteRefuses text64 textX level0 textRight
     listRight tenDigits pageP3 turns turnsPyramid compares fivePlates shelves shelfRefuses isName keptAt
     keepRefusal keepOf canRestore restoreRefusal restored restoreOf keeps keepRefuses restoresP3 isAfter
-    goesBack staysThere restores twoKept callerAtFirst returnOf callerAfter act callerAfterAll memoryAtFirst
-    sheetAt isKept modelReturnRefusal orElse modelReturn modelAct memoryAfterAll countOf countsOf leavesStage
-    keptThree stagePlates plates furtherPlates singlePlates firstFailing
+    goesBackOn staysThereOn restores twoKept callerAtFirst returnOf callerAfter act callerAfterAll memoryAtFirst
+    sheetAt isKept modelReturnRefusal orElse modelReturn modelAct memoryAfterAll countOf countsOf leavesStageOn
+    keptThree stagePlates keepsKnit otherCell knitPlates plates furtherPlates singlePlates firstFailing
 plates-hold = refl

@@ -22,6 +22,10 @@ Row = ℕ × Bool
 abbrev pub sideUnknown : ℕ → Row
 sideUnknown r = (1, eqb r 0)
 
+-- neither plain nor ribbed (document 02, request 8): it stands directly after 1 in the calls that look at the knit
+abbrev pub knitUnknown : ℕ → Row
+knitUnknown knit = (11, ltb 1 knit)
+
 -- "greys buffer shorter than N²"
 abbrev pub greysShort : ℕ → ℕ → Row
 greysShort r lent = (2, ltb lent (cellCount r))
@@ -50,7 +54,8 @@ levelUnknown r k = (6, ltb r k)
 abbrev pub outputShort : ℕ → ℕ → Row
 outputShort list lent = (8, ltb lent list)
 
--- "The lowest number that applies is returned": the first that does, of rows by rising number; 0 if none does
+-- The first row of the call's list that applies; 0 if none does. In document 01 the rows go by rising number, so that
+-- this is the lowest that applies; document 02 puts 11 directly after 1.
 unfoldable pub lowest : List Row → ℕ
 lowest [] = 0
 lowest (row ∷ rows) = cond (row .1) (row .0) (lowest rows)

@@ -8,7 +8,6 @@ use Prim.Native.Nat.{ℕ, zero, suc, _-_, _^_}
 use lib.ListN.{getD, set, take, drop, replicate}
 use lib.IntN.{ℤ}
 use Rattle.definition.specs.Answers.{Said, returned, refused}
-use Rattle.definition.specs.Diffusion.{Kernel}
 use Rattle.definition.specs.Model.{Halftone, modelStart}
 use Rattle.definition.specs.Refusals.{greysShort, pyramidShort, sheetShort, lowest}
 use Rattle.definition.specs.Advance.{Reply}
@@ -44,18 +43,18 @@ pub record Caller : Type 0 where
   pub checkpoints : Checkpoints
 
 -- after Load, with all names empty
-unfoldable pub callerAtFirst : ℕ → List ℕ → List ℤ → List ℕ → List ℕ → Caller
-callerAtFirst side greys pyramid serials order =
+unfoldable pub callerAtFirst : ℕ → ℕ → List ℕ → List ℤ → List ℕ → List ℕ → Caller
+callerAtFirst side knit greys pyramid serials order =
     record {
-      held = heldAfterLoad side greys pyramid serials order;
+      held = heldAfterLoad side knit greys pyramid serials order;
       checkpoints = record { kept = replicate 8 0 };
     }
 
 -- a return: what was lent comes back in front of what wasn't
-unfoldable pub returnOf : Kernel → List ℕ → Caller → Return → RestoreOutcome
-returnOf kernel greys caller b =
+unfoldable pub returnOf : List ℕ → Caller → Return → RestoreOutcome
+returnOf greys caller b =
     let held = caller .held in
-    let out = restoreOf kernel (held .progress) (caller .checkpoints) (b .name)
+    let out = restoreOf (held .progress) (caller .checkpoints) (b .name)
     (take (b .greysLent) greys) (take (b .pyramidLent) (held .pyramid))
     (take (b .serialsLent) (held .serials)) (take (b .orderLent) (held .order)) in
     record {
@@ -74,10 +73,10 @@ callerAfter out =
       checkpoints = out .checkpoints;
     }
 
-unfoldable pub act : Kernel → List ℕ → Caller → Action → Caller
-act kernel greys caller (advancing call) =
-    record { held = heldAfter (callOf kernel (caller .held) call); checkpoints = caller .checkpoints }
-act kernel greys caller (keeping name) =
+unfoldable pub act : List ℕ → Caller → Action → Caller
+act greys caller (advancing call) =
+    record { held = heldAfter (callOf (caller .held) call); checkpoints = caller .checkpoints }
+act greys caller (keeping name) =
     let held = caller .held in
     let out = keepOf (held .progress) (caller .checkpoints) name in
     record {
@@ -85,24 +84,24 @@ act kernel greys caller (keeping name) =
           record { progress = out .progress; pyramid = held .pyramid; serials = held .serials; order = held .order };
       checkpoints = out .checkpoints;
     }
-act kernel greys caller (returning b) = callerAfter (returnOf kernel greys caller b)
+act greys caller (returning b) = callerAfter (returnOf greys caller b)
 
-unfoldable pub answerOf : Kernel → List ℕ → Caller → Action → Answer
-answerOf kernel greys caller (advancing call) = replied (callOf kernel (caller .held) call .reply)
-answerOf kernel greys caller (keeping name) = noted (keepOf (caller .held .progress) (caller .checkpoints) name .said)
-answerOf kernel greys caller (returning b) =
-    let out = returnOf kernel greys caller b in
+unfoldable pub answerOf : List ℕ → Caller → Action → Answer
+answerOf greys caller (advancing call) = replied (callOf (caller .held) call .reply)
+answerOf greys caller (keeping name) = noted (keepOf (caller .held .progress) (caller .checkpoints) name .said)
+answerOf greys caller (returning b) =
+    let out = returnOf greys caller b in
     back (out .progress) (out .said)
 
 -- a list of calls: what the caller holds after all of them, and what they answered
-unfoldable pub callerAfterAll : Kernel → List ℕ → Caller → List Action → Caller
-callerAfterAll kernel greys caller [] = caller
-callerAfterAll kernel greys caller (a ∷ rest) = callerAfterAll kernel greys (act kernel greys caller a) rest
+unfoldable pub callerAfterAll : List ℕ → Caller → List Action → Caller
+callerAfterAll greys caller [] = caller
+callerAfterAll greys caller (a ∷ rest) = callerAfterAll greys (act greys caller a) rest
 
-unfoldable pub answersOf : Kernel → List ℕ → Caller → List Action → List Answer
-answersOf kernel greys caller [] = []
-answersOf kernel greys caller (a ∷ rest) =
-    answerOf kernel greys caller a ∷ answersOf kernel greys (act kernel greys caller a) rest
+unfoldable pub answersOf : List ℕ → Caller → List Action → List Answer
+answersOf greys caller [] = []
+answersOf greys caller (a ∷ rest) =
+    answerOf greys caller a ∷ answersOf greys (act greys caller a) rest
 
 -- ---- the model
 -- the sheet there is, and for each name the whole sheet at the time of its last keep
@@ -144,30 +143,31 @@ unfoldable pub saidOf : ℕ → Said
 saidOf zero = returned []
 saidOf (suc n) = refused (suc n)
 
-unfoldable pub modelAct : Kernel → ℕ → Memory → Action → Memory
-modelAct kernel r memory (advancing call) =
-    record { sheet = modelCall kernel r (memory .sheet) call; names = memory .names }
-modelAct kernel r memory (keeping name) =
+unfoldable pub modelAct : ℕ → ℕ → Memory → Action → Memory
+modelAct knit r memory (advancing call) =
+    record { sheet = modelCall knit r (memory .sheet) call; names = memory .names }
+modelAct knit r memory (keeping name) =
     elim (isName name) [
       | true ↦ record { sheet = memory .sheet; names = set (memory .names) (name - 1) (some (memory .sheet)) }
       | false ↦ memory
     ]
-modelAct kernel r memory (returning b) = record { sheet = modelReturn r memory b; names = memory .names }
+modelAct knit r memory (returning b) = record { sheet = modelReturn r memory b; names = memory .names }
 
-unfoldable pub modelAnswer : Kernel → ℕ → Memory → Action → Answer
-modelAnswer kernel r memory (advancing call) = replied (modelReply kernel r (memory .sheet) call)
-modelAnswer kernel r memory (keeping name) = noted (saidOf (lowest (nameUnknown (isName name) ∷ [])))
-modelAnswer kernel r memory (returning b) =
-    back (record { side = 2 ^ r; dots = modelReturn r memory b .dots }) (saidOf (modelReturnRefusal r memory b))
+unfoldable pub modelAnswer : ℕ → ℕ → Memory → Action → Answer
+modelAnswer knit r memory (advancing call) = replied (modelReply knit r (memory .sheet) call)
+modelAnswer knit r memory (keeping name) = noted (saidOf (lowest (nameUnknown (isName name) ∷ [])))
+modelAnswer knit r memory (returning b) =
+    let progress : Progress = record { side = 2 ^ r; dots = modelReturn r memory b .dots; knit = knit } in
+    back progress (saidOf (modelReturnRefusal r memory b))
 
-unfoldable pub memoryAfterAll : Kernel → ℕ → Memory → List Action → Memory
-memoryAfterAll kernel r memory [] = memory
-memoryAfterAll kernel r memory (a ∷ rest) = memoryAfterAll kernel r (modelAct kernel r memory a) rest
+unfoldable pub memoryAfterAll : ℕ → ℕ → Memory → List Action → Memory
+memoryAfterAll knit r memory [] = memory
+memoryAfterAll knit r memory (a ∷ rest) = memoryAfterAll knit r (modelAct knit r memory a) rest
 
-unfoldable pub modelAnswers : Kernel → ℕ → Memory → List Action → List Answer
-modelAnswers kernel r memory [] = []
-modelAnswers kernel r memory (a ∷ rest) =
-    modelAnswer kernel r memory a ∷ modelAnswers kernel r (modelAct kernel r memory a) rest
+unfoldable pub modelAnswers : ℕ → ℕ → Memory → List Action → List Answer
+modelAnswers knit r memory [] = []
+modelAnswers knit r memory (a ∷ rest) =
+    modelAnswer knit r memory a ∷ modelAnswers knit r (modelAct knit r memory a) rest
 
 -- the value that goes with the names: 0 for an empty one, else 1 more than the dots of its sheet
 unfoldable pub countOf : Option Halftone → ℕ

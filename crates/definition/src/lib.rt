@@ -1,13 +1,15 @@
 // The values that the public calls are given and answer. What they mean is in specs/: Answers.antt gives document 01's
 // number and values for each case of each enum.
 
-// "The record, passed by value, holds the side and the number of holes made."
+// The record, passed by value: the side, the dots made (document 01), and the knit of the cloth, 0 for plain and 1 for
+// ribbed (document 02, request 8).
 pub struct Progress {
     pub side: u32,
     pub dots: u32,
+    pub knit: u32,
 }
 
-// Why a call says no: document 01's table, row by row.
+// Why a call says no: document 01's table, row by row, and what document 02 adds to it.
 pub enum Refusal {
     SideUnknown,
     GreysShort,
@@ -19,6 +21,7 @@ pub enum Refusal {
     OutputShort,
     InputLong,
     NameUnknown,
+    KnitUnknown,
 }
 
 // Whether Load filled the buffers.

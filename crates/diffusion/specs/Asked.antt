@@ -1,5 +1,6 @@
 -- What the functions of this crate are asked, and what one turn of the diffusion gives.
 use mathlib.Core.Path.{_≡_}
+use mathlib.Core.Logic.{_≢_}
 use mathlib.Core.Bool.{true, false}
 use mathlib.Core.List.{List}
 use Prim.Native.Nat.{ℕ, _-_, _^_, _≤_, _<_}
@@ -8,15 +9,15 @@ use lib.ListN.{length, getD, set}
 use lib.IntN.{ℤ, pos, _-ℤ_}
 use lib.Signed.{_≤ℤ_}
 use Rattle.definition.specs.Pyramid.{oneDot, cellCount, placeIn, inLevel}
-use Rattle.definition.specs.Diffusion.{plain, rowNear, columnNear, weightAt}
+use Rattle.definition.specs.Diffusion.{rowNear, columnNear}
 use Rattle.pyramid.specs.Asked.{Within}
 
--- the cells with s taken off the neighbour at place p, if that has a weight
-unfoldable pub shareTaken : ℕ → ℕ → ℕ → ℕ → ℕ → List ℤ → List ℤ
-shareTaken r row column p s cells =
+-- the cells with s taken off the neighbour at place p, if its weight w isn't 0
+unfoldable pub shareTaken : ℕ → ℕ → ℕ → ℕ → ℕ → ℕ → List ℤ → List ℤ
+shareTaken r row column p w s cells =
     let x = rowNear row p - 1 in
     let y = columnNear column p - 1 in
-    elim (eqb (weightAt plain r row column p) 0) [
+    elim (eqb w 0) [
       | true ↦ cells
       | false ↦ set cells (placeIn r x y) (inLevel r cells x y -ℤ pos s)
     ]
@@ -28,11 +29,13 @@ pub record CellAsked (r row column : ℕ) : Type 0 where
   pub above : row < 2 ^ r
   pub left : column < 2 ^ r
 
--- a share to take at place p of the nine around a cell, which has the weight w, far from overflow
+-- a share to take at place p of the nine around a cell, far from overflow; the place lies on the map if its weight w
+-- isn't 0
 pub record ShareAsked (cells : List ℤ) (r row column p w s : ℕ) : Type 0 where
   pub cell : CellAsked r row column
   pub nine : p < 9
-  pub is : w ≡ weightAt plain r row column p
+  pub near : w ≢ 0 → (1 ≤ rowNear row p) × (rowNear row p ≤ 2 ^ r)
+      × (1 ≤ columnNear column p) × (columnNear column p ≤ 2 ^ r)
   pub fair : s ≤ 2 ^ 46
   pub whole : length cells ≡ cellCount r
   pub small : (i : ℕ) → Within (2 ^ 60) (getD cells i (pos 0))

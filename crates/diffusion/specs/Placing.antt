@@ -12,7 +12,7 @@ use mir.Val.{Fits, SFits, toZ, ofZ}
 use mir.Facts.{toZ-ofZ}
 use Rattle.definition.specs.Pyramid.{placeIn, inLevel, oneDot}
 use Rattle.definition.specs.Model.{missing}
-use Rattle.definition.specs.Diffusion.{plain, diffuse}
+use Rattle.definition.specs.Diffusion.{kernelOf, diffuse}
 use Rattle.integers.specs.Linear.{zz, ints, natAbs-within}
 use Rattle.integers.specs.Machine.{words, machine, cast-asks64}
 use Rattle.pyramid.specs.Asked.{Within}
@@ -68,7 +68,10 @@ module _ {cells : List ℤ} {r row column side : ℕ} (h : PlaceAsked cells r ro
         fair = rw (toZ-ofZ (lack-fits oneDot (omega arith)), read) lack-small;
       }
 
-  pub burnt : {next : List ℤ} → next ≡ diffuse plain r row column (natAbs (toZ w64 (ofZ w64 (pos oneDot -ℤ w)))) 9 (set cells at (pos 0))
-      → next ≡ diffuse plain r row column (missing (inLevel r cells row column)) 9 (set cells (placeIn r row column) (pos 0))
+  pub burnt : (knit : ℕ) {next : List ℤ}
+      → next ≡ diffuse (kernelOf knit) r row column (natAbs (toZ w64 (ofZ w64 (pos oneDot -ℤ w)))) 9
+      (set cells at (pos 0))
+      → next ≡ diffuse (kernelOf knit) r row column (missing (inLevel r cells row column)) 9
+      (set cells (placeIn r row column) (pos 0))
   unfolding placeIn
-  burnt q = q ∙ rw (lack-is, e)
+  burnt knit q = q ∙ rw (lack-is, e)

@@ -13,12 +13,11 @@ use mir.Syntax.{w64}
 use mir.Val.{Fits, SFits, toZ, ofZ}
 use mir.Facts.{toZ-ofZ}
 use Rattle.definition.specs.Pyramid.{placeIn, inLevel}
-use Rattle.definition.specs.Diffusion.{plain, rowNear, columnNear, weightAt}
+use Rattle.definition.specs.Diffusion.{rowNear, columnNear}
 use Rattle.integers.specs.Linear.{zz, ints}
 use Rattle.integers.specs.Machine.{words, machine, of-bits, div-mono}
 use Rattle.pyramid.specs.Asked.{Within}
 use Rattle.pyramid.specs.Four.{within-mono}
-use Rattle.shares.specs.Neighbours.{weight-on-map}
 use Rattle.diffusion.specs.Asked.{shareTaken, ShareAsked}
 
 -- ---- a share
@@ -35,26 +34,24 @@ pub share-fair : (d before after all : ℕ) → d ≤ 2 ^ 41 → after ≤ 18 �
 share-fair d before after all h k = omega (arith, part-small d after h k, div-le-self (d * after) all)
 
 -- ---- a share taken
-module _ (r row column p s : ℕ) (cells : List ℤ) where
+module _ (r row column p w s : ℕ) (cells : List ℤ) where
   abbrev x : ℕ
   x = rowNear row p - 1
 
   abbrev y : ℕ
   y = columnNear column p - 1
 
-  taken-none : weightAt plain r row column p ≡ 0 → cells ≡ shareTaken r row column p s cells
+  pub taken-none : w ≡ 0 → cells ≡ shareTaken r row column p w s cells
   unfolding shareTaken
-  taken-none e = rw (eq-eqb (weightAt plain r row column p) 0 e, shareTaken)
+  taken-none e = rw (eq-eqb w 0 e, shareTaken)
 
-  taken-some : weightAt plain r row column p ≢ 0 → set cells (placeIn r x y) (inLevel r cells x y -ℤ pos s) ≡ shareTaken r row column p s cells
+  taken-some : w ≢ 0
+      → set cells (placeIn r x y) (inLevel r cells x y -ℤ pos s) ≡ shareTaken r row column p w s cells
   unfolding shareTaken
-  taken-some ne = rw (ne-eqb (weightAt plain r row column p) 0 ne, shareTaken)
+  taken-some ne = rw (ne-eqb w 0 ne, shareTaken)
 
 -- ---- what taking a share off a neighbour rests on
 module _ {cells : List ℤ} {r row column p w s : ℕ} (h : ShareAsked cells r row column p w s) where
-  pub nothing-taken : w ≡ 0 → cells ≡ shareTaken r row column p s cells
-  nothing-taken e = taken-none r row column p s cells (sym (h .is) ∙ e)
-
   -- in machine words
   old-fits : (i : ℕ) → SFits w64 (getD cells i (pos 0))
   old-fits i = let b = h .small i in simp words (omega machine)
@@ -69,32 +66,26 @@ module _ {cells : List ℤ} {r row column p w s : ℕ} (h : ShareAsked cells r r
   less-fits i = rw (toZ-ofZ (old-fits i), cast) (new-fits i)
 
   module _ (ne : w ≡ 0 → ⊥) where
-    some : weightAt plain r row column p ≢ 0
-    some q = ne (h .is ∙ q)
-
     pub near-up : 1 ≤ row + p / 3
-    unfolding plain
-    near-up = weight-on-map plain r row column p some .0
+    near-up = h .near ne .0
 
     pub near-left : 1 ≤ column + p % 3
-    unfolding plain
-    near-left = weight-on-map plain r row column p some .2
+    near-left = h .near ne .2
 
     pub near-row : row + p / 3 - 1 < 2 ^ r
-    unfolding plain
-    near-row = omega (arith, weight-on-map plain r row column p some)
+    near-row = omega (arith, h .near ne)
 
     pub near-column : column + p % 3 - 1 < 2 ^ r
-    unfolding plain
-    near-column = omega (arith, weight-on-map plain r row column p some)
+    near-column = omega (arith, h .near ne)
 
     pub share-taken : {side : ℕ} → side ≡ 2 ^ r
         → let at = (row + p / 3 - 1) * side + (column + p % 3 - 1) in
-        set cells at (toZ w64 (ofZ w64 (toZ w64 (ofZ w64 (getD cells at (pos 0))) -ℤ toZ w64 s))) ≡ shareTaken r row column p s cells
+        set cells at (toZ w64 (ofZ w64 (toZ w64 (ofZ w64 (getD cells at (pos 0))) -ℤ toZ w64 s)))
+        ≡ shareTaken r row column p w s cells
     unfolding placeIn inLevel
     share-taken {side} e =
         let at = (row + p / 3 - 1) * side + (column + p % 3 - 1) in
-        rw (toZ-ofZ (old-fits at), cast, toZ-ofZ (new-fits at), e) (taken-some r row column p s cells some)
+        rw (toZ-ofZ (old-fits at), cast, toZ-ofZ (new-fits at), e) (taken-some r row column p w s cells ne)
 
 pub ruleset nearby = (near-up, near-left, near-row, near-column)
 
@@ -106,9 +97,10 @@ set-within B (x ∷ l) zero v h q (suc i) = h (suc i)
 set-within B (x ∷ l) (suc k) v h q zero = h zero
 set-within B (x ∷ l) (suc k) v h q (suc i) = set-within B l k v (λ m. h (suc m)) q i
 
-pub taken-within : (B r row column p s : ℕ) (cells : List ℤ) → ((i : ℕ) → Within B (getD cells i (pos 0))) → (i : ℕ) → Within (B + s) (getD (shareTaken r row column p s cells) i (pos 0))
+pub taken-within : (B r row column p w s : ℕ) (cells : List ℤ) → ((i : ℕ) → Within B (getD cells i (pos 0)))
+    → (i : ℕ) → Within (B + s) (getD (shareTaken r row column p w s cells) i (pos 0))
 unfolding inLevel
-taken-within B r row column p s cells h i = go (ℕ-discrete (weightAt plain r row column p) 0)
+taken-within B r row column p w s cells h i = go (ℕ-discrete w 0)
   where
     wider : (z : ℤ) → Within B z → Within (B + s) z
     wider z = within-mono B (B + s) z (omega arith)
@@ -116,13 +108,16 @@ taken-within B r row column p s cells h i = go (ℕ-discrete (weightAt plain r r
     less : (z : ℤ) → Within B z → Within (B + s) (z -ℤ pos s)
     less z k = record { low = simp zz (omega ints); high = simp zz (omega ints) }
 
-    go : Dec (weightAt plain r row column p ≡ 0) → Within (B + s) (getD (shareTaken r row column p s cells) i (pos 0))
-    go (yes e) = rw (sym (taken-none r row column p s cells e)) (wider _ (h i))
-    go (no ne) = rw (sym (taken-some r row column p s cells ne)) (set-within (B + s) cells _ _ (λ m. wider _ (h m)) (less _ (h _)) i)
+    go : Dec (w ≡ 0) → Within (B + s) (getD (shareTaken r row column p w s cells) i (pos 0))
+    go (yes e) = rw (sym (taken-none r row column p w s cells e)) (wider _ (h i))
+    go (no ne) =
+        rw (sym (taken-some r row column p w s cells ne))
+        (set-within (B + s) cells _ _ (λ m. wider _ (h m)) (less _ (h _)) i)
 
-pub length-taken : (r row column p s : ℕ) (cells : List ℤ) → length (shareTaken r row column p s cells) ≡ length cells
-length-taken r row column p s cells = go (ℕ-discrete (weightAt plain r row column p) 0)
+pub length-taken : (r row column p w s : ℕ) (cells : List ℤ)
+    → length (shareTaken r row column p w s cells) ≡ length cells
+length-taken r row column p w s cells = go (ℕ-discrete w 0)
   where
-    go : Dec (weightAt plain r row column p ≡ 0) → length (shareTaken r row column p s cells) ≡ length cells
-    go (yes e) = ap length (sym (taken-none r row column p s cells e))
-    go (no ne) = ap length (sym (taken-some r row column p s cells ne)) ∙ length-set cells _ _
+    go : Dec (w ≡ 0) → length (shareTaken r row column p w s cells) ≡ length cells
+    go (yes e) = ap length (sym (taken-none r row column p w s cells e))
+    go (no ne) = ap length (sym (taken-some r row column p w s cells ne)) ∙ length-set cells _ _

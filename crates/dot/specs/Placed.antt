@@ -2,29 +2,27 @@
 use mathlib.Core.Path.{_≡_, refl, sym, ap, _∙_}
 use mathlib.Core.Bool.{Bool, false}
 use mathlib.Core.List.{List, _++_}
-use Prim.Native.Nat.{ℕ, zero, suc, _+_, _*_, _-_, _%_, _^_, _≤_, _<_}
+use Prim.Native.Nat.{ℕ, suc, _+_, _*_, _-_, _%_, _^_, _≤_, _<_}
 use native.Mathlib.Omega.{arith}
 use native.Mathlib.Nat.{sub-zero}
 use native.Mathlib.Numerals.{add-one}
-use native.Mathlib.Decide.{ℕ-discrete}
 use lib.Dec.{eqb}
 use lib.Pow.{pow-mono}
-use lib.ListN.{length, getD, take, drop, set, length-set, length-drop, length-append}
+use lib.ListN.{length, getD, take, drop, set, length-drop, length-append}
 use lib.Seq.{length-take-le}
 use lib.IntN.{ℤ, pos}
 use mir.Syntax.{w64}
 use mir.Val.{Fits}
-use borrow.Author.Tests.{eq-eqb, ne-eqb}
 use Rattle.definition.specs.Pyramid.{cellCount, start, placeIn, inLevel, entry, pyramidOver}
 use Rattle.definition.specs.Descent.{ofEquals, choiceOf, descend}
-use Rattle.definition.specs.Diffusion.{Kernel, plain, weightAt, diffuse}
+use Rattle.definition.specs.Diffusion.{kernelOf, diffuse}
 use Rattle.definition.specs.Model.{Halftone, missing, placeDot, step}
 use Rattle.definition.specs.Renewal.{isNear, renewed}
 use Rattle.integers.specs.Tests.{tests, true-T, same-test}
 use Rattle.quadtree.specs.Levels.{start-suc, start-mono, cell-lt, cells-few}
 use Rattle.quadtree.specs.Pyramids.{entry-drop, pyramid-cells}
 use Rattle.quadtree.specs.Renewal.{Changed, renewed-right}
-use Rattle.shares.specs.Kernels.{plain-fit}
+use Rattle.shares.specs.Kernels.{knit-fit}
 use Rattle.dots.specs.Kept.{sound-summed}
 use Rattle.dots.specs.Steps.{Sheet, target, step-made, row-in, column-in, next-sheet, next-away}
 use Rattle.pyramid.specs.Asked.{Within, Whole, SmallPyramid}
@@ -38,15 +36,6 @@ use Rattle.dot.specs.Small.{mostResidual, sound-small, places-small, all
 
 start-eight : start 8 ≡ 21845
 start-eight = unfold start in refl
-
-length-diffuse : (kernel : Kernel) (r row column d n : ℕ) (cells : List ℤ) → length (diffuse kernel r row column d n cells) ≡ length cells
-unfolding diffuse
-length-diffuse kernel r row column d zero cells = refl
-length-diffuse kernel r row column d (suc n) cells = go (ℕ-discrete (weightAt kernel r row column n) 0) (length-diffuse kernel r row column d n cells)
-  where
-    go : Dec (weightAt kernel r row column n ≡ 0) → length (diffuse kernel r row column d n cells) ≡ length cells → length (diffuse kernel r row column d (suc n) cells) ≡ length cells
-    go (yes z) e = rw (eq-eqb (weightAt kernel r row column n) 0 z, diffuse) e
-    go (no z) e = rw (ne-eqb (weightAt kernel r row column n) 0 z, diffuse) (simp length-set e)
 
 -- after an odd number of dots the next serial is even
 in-turn : (n : ℕ) → eqb (n % 2) 1 ≡ eqb (suc n % 2) 0
@@ -93,21 +82,25 @@ module _ (r : ℕ) (p : List ℤ) (ss o : List ℕ) (dots : ℕ) (h : DotAsked r
   -- the cell that the walk reaches
   module _ (last : Bool) (el : last ≡ eqb (dots % 2) 1) (row column : ℕ)
       (ec : (row, column) ≡ descend (ofEquals last) p (r - 0) 0 0 0) where
-    at-target : (row, column) ≡ target plain r s
+    -- no knit leads the walk elsewhere: here 0 stands for them all
+    at-target : (row, column) ≡ target (kernelOf 0) r s
     unfolding choiceOf
     at-target = rw (sub-zero r, el ∙ in-turn dots) at ec
 
     pub row-lt : row < 2 ^ r
-    row-lt = rw (ap (λ (c : ℕ × ℕ). c .0) at-target) (row-in plain plain-fit r big s (h .sheet) (h .due))
+    row-lt =
+        rw (ap (λ (c : ℕ × ℕ). c .0) at-target) (row-in (kernelOf 0) (knit-fit 0) r big s (h .sheet) (h .due))
 
     pub column-lt : column < 2 ^ r
-    column-lt = rw (ap (λ (c : ℕ × ℕ). c .1) at-target) (column-in plain plain-fit r big s (h .sheet) (h .due))
+    column-lt =
+        rw (ap (λ (c : ℕ × ℕ). c .1) at-target) (column-in (kernelOf 0) (knit-fit 0) r big s (h .sheet) (h .due))
 
-    next-is : step plain r s ≡ placeDot plain r s (row, column)
-    next-is = step-made plain r s (true-T _ (h .due .le)) ∙ ap (placeDot plain r s) (sym at-target)
+    next-is : (knit : ℕ) → step (kernelOf knit) r s ≡ placeDot (kernelOf knit) r s (row, column)
+    next-is knit =
+        step-made (kernelOf knit) r s (true-T _ (h .due .le)) ∙ ap (placeDot (kernelOf knit) r s) (sym at-target)
 
-    sheet' : Sheet r (placeDot plain r s (row, column))
-    sheet' = rw at-target (next-sheet plain plain-fit r big s (h .sheet) (h .due))
+    sheet' : (knit : ℕ) → Sheet r (placeDot (kernelOf knit) r s (row, column))
+    sheet' knit = rw at-target (next-sheet (kernelOf knit) (knit-fit knit) r big s (h .sheet) (h .due))
 
     module _ (off : ℕ) (eo : off ≡ start r) where
       abbrev lent : List ℤ
@@ -131,20 +124,13 @@ module _ (r : ℕ) (p : List ℤ) (ss o : List ℕ) (dots : ℕ) (h : DotAsked r
             owed = rw (lent-is, entry-drop p r row column) (h .sheet .sound .at-most row column row-lt column-lt);
           }
 
-      -- the cells come back as e
-      module _ {e : List ℤ} (q : e ≡ diffuse plain r row column (missing (inLevel r lent row column)) 9 (set lent (placeIn r row column) (pos 0))) where
+      -- the cells come back as e, as many as before
+      module _ (e : List ℤ) (kept : length e ≡ length lent) where
         abbrev back : List ℤ
         back = take off p ++ (e ++ drop (length p - off) (drop off p))
 
         e-long : length e ≡ cellCount r
-        e-long = ap length q ∙ length-diffuse plain r row column _ 9 _ ∙ length-set lent (placeIn r row column) (pos 0) ∙ lent-long
-
-        over-e : placeDot plain r s (row, column) .pyramid ≡ pyramidOver r e
-        unfolding placeDot
-        over-e = rw (q, lent-is)
-
-        e-small : (i : ℕ) → Within mostResidual (getD e i (pos 0))
-        e-small = places-small r mostResidual e e-long (λ x y a b. rw (over-e, pyramid-cells r e x y) at (sound-small r (placeDot plain r s (row, column)) (sheet' .sound) x y a b))
+        e-long = kept ∙ lent-long
 
         back-is : back ≡ take off p ++ e
         back-is = tail-back off p e
@@ -155,29 +141,60 @@ module _ (r : ℕ) (p : List ℤ) (ss o : List ℕ) (dots : ℕ) (h : DotAsked r
         pub back-whole : Whole back r
         back-whole = rw back-is (record { most = h .small; long = omega (arith, length-append (take off p) e, head-long, e-long, start-suc r, ap start (add-one r)) })
 
-        pub back-small : SmallPyramid back
-        back-small = rw back-is (record { small = append-within (2 ^ 40) (take off p) e (take-within (2 ^ 40) off p p-small) (λ i. within-mono mostResidual (2 ^ 40) _ (omega arith) (e-small i)) })
+        -- with a dot placed, on cloth of a knit
+        module _ (knit : ℕ)
+            (q : e
+            ≡ diffuse (kernelOf knit) r row column (missing (inLevel r lent row column)) 9
+            (set lent (placeIn r row column) (pos 0))) where
+          over-e : placeDot (kernelOf knit) r s (row, column) .pyramid ≡ pyramidOver r e
+          unfolding placeDot
+          over-e = rw (q, lent-is)
 
-        -- only the cell and its neighbours have changed
-        stays : (x y : ℕ) → x < 2 ^ r → y < 2 ^ r → isNear row column x y ≡ false → inLevel r e x y ≡ entry p r x y
-        stays x y i j f = sym (pyramid-cells r e x y) ∙ rw (← over-e, at-target) (next-away plain plain-fit r big s (h .sheet) (h .due) x y i j (ap (λ (c : ℕ × ℕ). isNear (c .0) (c .1) x y) (sym at-target) ∙ f))
+          e-small : (i : ℕ) → Within mostResidual (getD e i (pos 0))
+          e-small =
+              places-small r mostResidual e e-long
+              (λ x y a b.
+              rw (over-e, pyramid-cells r e x y) at
+              (sound-small r (placeDot (kernelOf knit) r s (row, column)) (sheet' knit .sound) x y a b))
 
-        changed : Changed r (isNear row column) p e
-        changed =
-            record {
-              long = h .sheet .sized .pyramid;
-              full = e-long;
-              summed = sound-summed (h .sheet .sound);
-              away = λ x y i j f. sym (stays x y i j f);
-            }
+          pub back-small : SmallPyramid back
+          back-small =
+              rw back-is
+              (record {
+                small =
+                    append-within (2 ^ 40) (take off p) e (take-within (2 ^ 40) off p p-small)
+                    (λ i. within-mono mostResidual (2 ^ 40) _ (omega arith) (e-small i));
+              })
 
-        renewed-is : renewed r (isNear row column) back ≡ pyramidOver r e
-        renewed-is = ap (renewed r (isNear row column)) (back-is ∙ ap (λ (n : ℕ). take n p ++ e) eo) ∙ renewed-right r (isNear row column) p e changed
+          -- only the cell and its neighbours have changed
+          stays : (x y : ℕ) → x < 2 ^ r → y < 2 ^ r → isNear row column x y ≡ false
+              → inLevel r e x y ≡ entry p r x y
+          stays x y i j f =
+              sym (pyramid-cells r e x y)
+              ∙ rw (← over-e, at-target)
+              (next-away (kernelOf knit) (knit-fit knit) r big s (h .sheet) (h .due) x y i j
+              (ap (λ (c : ℕ × ℕ). isNear (c .0) (c .1) x y) (sym at-target) ∙ f))
 
-        pub placed : {z : List ℤ} {s′ o′ : List ℕ} (side : ℕ) → side ≡ 2 ^ r → z ≡ renewed r (isNear row column) back → s′ ≡ set ss (row * side + column) (dots + 1) → o′ ≡ set o dots (row * side + column)
-            → record { pyramid = z; serials = s′; order = o′; dots = dots + 1 } ≡ step plain r s
-        unfolding placeDot
-        placed side es ez e₁ e₂ = rw (next-is, ez, renewed-is, e₁, e₂, es, q, lent-is, add-one dots)
+          changed : Changed r (isNear row column) p e
+          changed =
+              record {
+                long = h .sheet .sized .pyramid;
+                full = e-long;
+                summed = sound-summed (h .sheet .sound);
+                away = λ x y i j f. sym (stays x y i j f);
+              }
+
+          renewed-is : renewed r (isNear row column) back ≡ pyramidOver r e
+          renewed-is =
+              ap (renewed r (isNear row column)) (back-is ∙ ap (λ (n : ℕ). take n p ++ e) eo)
+              ∙ renewed-right r (isNear row column) p e changed
+
+          pub placed : {z : List ℤ} {s′ o′ : List ℕ} (side : ℕ) → side ≡ 2 ^ r
+              → z ≡ renewed r (isNear row column) back
+              → s′ ≡ set ss (row * side + column) (dots + 1) → o′ ≡ set o dots (row * side + column)
+              → record { pyramid = z; serials = s′; order = o′; dots = dots + 1 } ≡ step (kernelOf knit) r s
+          unfolding placeDot
+          placed side es ez e₁ e₂ = rw (next-is knit, ez, renewed-is, e₁, e₂, es, q, lent-is, add-one dots)
 
     module _ (side : ℕ) (es : side ≡ 2 ^ r) where
       cell-in : row * side + column < 65536
@@ -199,7 +216,7 @@ module _ (r : ℕ) (p : List ℤ) (ss o : List ℕ) (dots : ℕ) (h : DotAsked r
           }
         where
           room : dots < cellCount r
-          room = omega (arith, sheet' .sound .few-dots, dots-next)
+          room = omega (arith, sheet' 0 .sound .few-dots, dots-next)
             where
-              dots-next : placeDot plain r s (row, column) .dots ≡ suc dots
+              dots-next : placeDot (kernelOf 0) r s (row, column) .dots ≡ suc dots
               dots-next = unfold placeDot in refl

@@ -2,7 +2,7 @@
 ghost use mathlib.Core.Path.{_≡_};
 ghost use Prim.Native.Nat.{_+_};
 ghost use lib.ListN.{length, set};
-ghost use Rattle.definition.specs.Diffusion.{plain};
+ghost use Rattle.definition.specs.Diffusion.{kernelOf};
 ghost use Rattle.definition.specs.Model.{step};
 ghost use Rattle.dot.specs.Asked.{NoteAsked, DotAsked};
 
@@ -15,18 +15,41 @@ fn note(serials: &mut [u32], order: &mut [u32], at: usize, dots: u32)
     order[dots as usize] = at as u32;
 }
 
-// Makes the next dot, on a sound sheet of just the needed lengths where one is due. After an odd number of dots its
-// serial is even, and the walk takes the last of equal entries.
-pub fn place_dot(pyramid: &mut [i64], serials: &mut [u32], order: &mut [u32], r: usize, dots: u32)
-    requires { ⌜ DotAsked r (record { pyramid = now pyramid; serials = now serials; order = now order; dots = dots }) ⌝ }
-    ensures { λ _. ⌜ record { pyramid = now (pyramid .exit); serials = now (serials .exit); order = now (order .exit); dots = dots + 1 } ≡ step plain r (record { pyramid = now (pyramid .entry); serials = now (serials .entry); order = now (order .entry); dots = dots }) ⌝ }
+// Makes the next dot on cloth of a knit, on a sound sheet of just the needed lengths where one is due. After an odd
+// number of dots its serial is even, and the walk takes the last of equal entries.
+pub fn place_dot(
+    pyramid: &mut [i64],
+    serials: &mut [u32],
+    order: &mut [u32],
+    knit: u32,
+    r: usize,
+    dots: u32,
+)
+    requires { ⌜
+        DotAsked r (record { pyramid = now pyramid; serials = now serials; order = now order; dots = dots })
+        ⌝ }
+    ensures { λ _. ⌜
+        record {
+          pyramid = now (pyramid .exit);
+          serials = now (serials .exit);
+          order = now (order .exit);
+          dots = dots + 1;
+        }
+        ≡ step (kernelOf knit) r
+        (record {
+          pyramid = now (pyramid .entry);
+          serials = now (serials .entry);
+          order = now (order .entry);
+          dots = dots;
+        })
+        ⌝ }
 {
     let last = dots % 2 == 1;
     let cell = descent::descend(pyramid, r, 0, 0, 0, last);
     let row = cell.row;
     let column = cell.column;
     let cells = sizes::level_start(r);
-    diffusion::place(&mut pyramid[cells..], r, row, column);
+    diffusion::place(&mut pyramid[cells..], knit, r, row, column);
     renewal::renew(pyramid, r, row, column);
     let side = sizes::pow2(r);
     note(serials, order, row * side + column, dots);

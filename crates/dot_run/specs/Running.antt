@@ -13,12 +13,12 @@ use lib.Signed.{ltZ}
 use mir.Syntax.{w32, w64}
 use mir.Val.{Fits, SFits, toZ, ofZ}
 use Rattle.definition.specs.Pyramid.{halfDot}
-use Rattle.definition.specs.Diffusion.{plain}
+use Rattle.definition.specs.Diffusion.{kernelOf}
 use Rattle.definition.specs.Model.{Halftone, topOf, step, steps}
 use Rattle.definition.specs.Advance.{dotsDue}
 use Rattle.integers.specs.Linear.{ints, up-or-dn}
 use Rattle.quadtree.specs.Levels.{start-suc, cells-few}
-use Rattle.shares.specs.Kernels.{plain-fit}
+use Rattle.shares.specs.Kernels.{knit-fit}
 use Rattle.dots.specs.Steps.{Sheet, due-is, steps-sheet, steps-due}
 use Rattle.dot.specs.Asked.{DotAsked}
 use Rattle.dot_run.specs.Tops.{none-owed, some-owed}
@@ -29,33 +29,37 @@ pub record RunAsked (r : ℕ) (s : Halftone) : Type 0 where
   pub small : r ≤ 8
   pub sheet : Sheet r s
 
--- what a run leaves: the sheet with so many dots more, and these are the smaller of the budget and the dots due
-pub record Ran (r : ℕ) (s : Halftone) (budget made : ℕ) (after : Halftone) : Type 0 where
+-- what a run leaves on cloth of a knit: the sheet with so many dots more, and these are the smaller of the budget and
+-- the dots due
+pub record Ran (knit r : ℕ) (s : Halftone) (budget made : ℕ) (after : Halftone) : Type 0 where
   pub made-is : made ≡ min budget (dotsDue (topOf (s .pyramid)))
-  pub after-is : after ≡ steps plain r made s
+  pub after-is : after ≡ steps (kernelOf knit) r made s
 
 -- after some turns: the sheet holds p, s and o, with so many dots more than at the start, where it held p₀, s₀ and o₀
-pub record Going (r : ℕ) (p₀ : List ℤ) (s₀ o₀ : List ℕ) (dots budget : ℕ) (p : List ℤ) (s o : List ℕ) (made : ℕ) : Type 0 where
+pub record Going (knit r : ℕ) (p₀ : List ℤ) (s₀ o₀ : List ℕ) (dots budget : ℕ)
+    (p : List ℤ) (s o : List ℕ) (made : ℕ) : Type 0 where
   pub within : made ≤ budget
-  pub is : record { pyramid = p; serials = s; order = o; dots = dots + made } ≡ steps plain r made (record { pyramid = p₀; serials = s₀; order = o₀; dots = dots })
+  pub is : record { pyramid = p; serials = s; order = o; dots = dots + made }
+      ≡ steps (kernelOf knit) r made (record { pyramid = p₀; serials = s₀; order = o₀; dots = dots })
 
-module _ (r : ℕ) (p₀ : List ℤ) (s₀ o₀ : List ℕ) (dots budget : ℕ) (h : RunAsked r (record { pyramid = p₀; serials = s₀; order = o₀; dots = dots })) where
+module _ (knit r : ℕ) (p₀ : List ℤ) (s₀ o₀ : List ℕ) (dots budget : ℕ)
+    (h : RunAsked r (record { pyramid = p₀; serials = s₀; order = o₀; dots = dots })) where
   abbrev first : Halftone
   first = record { pyramid = p₀; serials = s₀; order = o₀; dots = dots }
 
   big : 2 ≤ 2 ^ r
   big = pow-mono {i = 1} {j = r} (h .power)
 
-  pub begins : Going r p₀ s₀ o₀ dots budget p₀ s₀ o₀ 0
+  pub begins : Going knit r p₀ s₀ o₀ dots budget p₀ s₀ o₀ 0
   unfolding steps
   begins = record { within = omega arith; is = rw (add-zero dots) }
 
-  module _ (p : List ℤ) (s o : List ℕ) (made : ℕ) (g : Going r p₀ s₀ o₀ dots budget p s o made) where
+  module _ (p : List ℤ) (s o : List ℕ) (made : ℕ) (g : Going knit r p₀ s₀ o₀ dots budget p s o made) where
     abbrev sheet-now : Halftone
     sheet-now = record { pyramid = p; serials = s; order = o; dots = dots + made }
 
     sheet : Sheet r sheet-now
-    sheet = rw (g .is) (steps-sheet plain plain-fit r big made first (h .sheet))
+    sheet = rw (g .is) (steps-sheet (kernelOf knit) (knit-fit knit) r big made first (h .sheet))
 
     pub same-pyramid : length p ≡ length p₀
     same-pyramid = sheet .sized .pyramid ∙ sym (h .sheet .sized .pyramid)
@@ -74,13 +78,14 @@ module _ (r : ℕ) (p₀ : List ℤ) (s₀ o₀ : List ℕ) (dots budget : ℕ) 
 
     -- what is due now is what of the dots due at the start has not been made
     rest : made + dotsDue (topOf p) ≡ dotsDue (topOf p₀)
-    rest = omega (arith, rw (← g .is) at (steps-due plain plain-fit r big made first (h .sheet)))
+    rest = omega (arith, rw (← g .is) at (steps-due (kernelOf knit) (knit-fit knit) r big made first (h .sheet)))
 
-    pub spent : budget ≤ made → Ran r first budget made sheet-now
+    pub spent : budget ≤ made → Ran knit r first budget made sheet-now
     spent le = record { made-is = omega (arith, rest, g .within); after-is = g .is }
 
     module _ (fits : SFits w64 (getD p 0 (pos 0))) where
-      pub none-due : ltZ (toZ w64 (ofZ w64 (getD p 0 (pos 0)))) (pos halfDot) ≡ true → Ran r first budget made sheet-now
+      pub none-due : ltZ (toZ w64 (ofZ w64 (getD p 0 (pos 0)))) (pos halfDot) ≡ true
+          → Ran knit r first budget made sheet-now
       unfolding topOf
       none-due e =
           let low = none-owed (getD p 0 (pos 0)) fits e in
@@ -92,7 +97,9 @@ module _ (r : ℕ) (p₀ : List ℤ) (s₀ o₀ : List ℕ) (dots budget : ℕ) 
         unfolding topOf
         dot-asked = record { power = h .power; small = h .small; sheet = sheet; due = some-owed (getD p 0 (pos 0)) fits e }
 
-    pub goes-on : (p′ : List ℤ) (s′ o′ : List ℕ) → made < budget → record { pyramid = p′; serials = s′; order = o′; dots = dots + made + 1 } ≡ step plain r sheet-now
-        → Going r p₀ s₀ o₀ dots budget p′ s′ o′ (made + 1)
+    pub goes-on : (p′ : List ℤ) (s′ o′ : List ℕ) → made < budget
+        → record { pyramid = p′; serials = s′; order = o′; dots = dots + made + 1 }
+        ≡ step (kernelOf knit) r sheet-now
+        → Going knit r p₀ s₀ o₀ dots budget p′ s′ o′ (made + 1)
     unfolding steps
     goes-on p′ s′ o′ lt q = record { within = omega arith; is = rw (← add-assoc dots made 1, q, g .is, add-one made) }

@@ -5,12 +5,13 @@ ghost use Rattle.dot_run.specs.Running.{RunAsked, Ran};
 // From this top on a dot is due.
 const HALF_DOT: i64 = 32640;
 
-// Makes the dots that are due, as far as the budget lasts, on a sound sheet of just the needed lengths, and returns how
-// many.
+// Makes the dots that are due on cloth of a knit, as far as the budget lasts, on a sound sheet of just the needed
+// lengths, and returns how many.
 pub fn run(
     pyramid: &mut [i64],
     serials: &mut [u32],
     order: &mut [u32],
+    knit: u32,
     r: usize,
     dots: u32,
     budget: u32,
@@ -19,7 +20,7 @@ pub fn run(
         RunAsked r (record { pyramid = now pyramid; serials = now serials; order = now order; dots = dots })
         ⌝ }
     ensures { λ made. ⌜
-        Ran r
+        Ran knit r
         (record {
           pyramid = now (pyramid .entry);
           serials = now (serials .entry);
@@ -41,7 +42,7 @@ pub fn run(
         if top < HALF_DOT {
             return made;
         }
-        dot::place_dot(pyramid, serials, order, r, dots + made);
+        dot::place_dot(pyramid, serials, order, knit, r, dots + made);
         made += 1;
     }
     made

@@ -1,16 +1,15 @@
 -- Drill List's ways out: refused before the list is made, with nothing changed; and the list, written or refused for its length.
-use mathlib.Core.Path.{_≡_, sym, _∙_}
-use mathlib.Core.Bool.{Bool, true, false}
+use mathlib.Core.Path.{_≡_, refl, sym, _∙_}
+use mathlib.Core.Bool.{Bool, true}
 use mathlib.Core.List.{List, [], _∷_, _++_}
 use Prim.Native.Nat.{ℕ, suc, _-_, _≤_}
 use native.Mathlib.Omega.{arith}
-use borrow.Author.Tests.{ne-eqb, le-ltb}
 use lib.ListN.{length}
 use lib.Seq.{take-take}
 use lib.IntN.{ℤ}
 use Rattle.definition.specs.Answers.{textSays, numberOf}
-use Rattle.definition.specs.Pyramid.{needed, cellCount}
-use Rattle.definition.specs.Refusals.{Row, powerOf, outputShort, lowest}
+use Rattle.definition.specs.Pyramid.{cellCount}
+use Rattle.definition.specs.Refusals.{powerOf, outputShort, lowest}
 use Rattle.definition.specs.Sound.{isSound}
 use Rattle.definition.specs.Advance.{sheetIn, advanceRefusal}
 use Rattle.definition.specs.Text.{TextOutcome, textInto}
@@ -21,44 +20,48 @@ use Rattle.definition.specs.declared.TextAnswer.the-variants.{Refused}
 use Rattle.integers.specs.Tests.{T-true}
 use Rattle.quadtree.specs.Levels.{cells-few}
 use Rattle.refusals.specs.Powers.{power-small}
+use Rattle.refusals.specs.Lowest.{positive, lowest-before, lowest-after}
 use Rattle.refusals.specs.Numbers.{number-positive}
 use Rattle.dots.specs.SoundTest.{test-sound}
-use Rattle.checks.specs.Checks.{checked, failed-number}
+use Rattle.checks.specs.Checks.{checked, passed-none, failed-number}
 use Rattle.checks.specs.declared.Check.{Check}
 use Rattle.checks.specs.declared.Check.the-variants.{Passed, Failed}
-use Rattle.sheet.specs.Sheets.{SheetLent, SheetAsked, sheet-asked}
+use Rattle.sheet.specs.Sheets.{SheetAsked, sheet-asked}
 use Rattle.drill_list.specs.Listing.{listText, listedIn, ListAsked}
 
--- a row that applies comes before all that are added behind
-lowest-before : (rows more : List Row) (n : ℕ) → lowest rows ≡ suc n → lowest (rows ++ more) ≡ suc n
-unfolding lowest
-lowest-before [] more n e = absurd (omega arith)
-lowest-before ((k, true) ∷ rows) more n e = e
-lowest-before ((k, false) ∷ rows) more n e = lowest-before rows more n e
-
-module _ (r p s o list output : ℕ) where
-  sheet-first : (sound : Bool) (n : ℕ) → advanceRefusal r p s o sound ≡ suc n → drillListRefusal r p s o sound list output ≡ suc n
+module _ (r knit p s o list output : ℕ) where
+  sheet-first : (sound : Bool) (n : ℕ) → advanceRefusal r knit p s o sound ≡ suc n
+      → drillListRefusal r knit p s o sound list output ≡ suc n
   unfolding advanceRefusal drillListRefusal
   sheet-first sound n e = lowest-before _ (outputShort list output ∷ []) n e
 
-  length-then : SheetLent r p s o → drillListRefusal r p s o true list output ≡ lowest (outputShort list output ∷ [])
-  unfolding drillListRefusal lowest
-  length-then h = rw (ne-eqb r 0 (λ e. omega arith), le-ltb p (needed r) (h .pyramid-long), le-ltb s (cellCount r) (h .serials-long), le-ltb o (cellCount r) (h .order-long))
+  length-then : advanceRefusal r knit p s o true ≡ 0
+      → drillListRefusal r knit p s o true list output ≡ lowest (outputShort list output ∷ [])
+  unfolding advanceRefusal drillListRefusal positive
+  length-then e = lowest-after _ (outputShort list output ∷ []) refl e
 
 module _ (progress : Progress) (p : List ℤ) (s o : List ℕ) {r : ℕ} (er : r ≡ powerOf (progress .side)) (check : Check)
-    (e : checked check ≡ advanceRefusal r (length p) (length s) (length o) (isSound r (sheetIn r (progress .dots) p s o))) where
+    (e : checked check
+    ≡ advanceRefusal r (progress .knit) (length p) (length s) (length o)
+    (isSound r (sheetIn r (progress .dots) p s o))) where
+  abbrev knit : ℕ
+  knit = progress .knit
+
   pub refused-is : (output : List ℕ) {why : Refusal} → check ≡ Failed why
       → record { said = textSays (Refused why); output = output } ≡ drillListOf progress p s o output
   unfolding drillListOf textInto textSays
   refused-is output {why} failed =
       let k = powerOf (progress .side) in
       let sheet = sheetIn k (progress .dots) p s o in
-      let n : advanceRefusal k (length p) (length s) (length o) (isSound k sheet) ≡ suc (numberOf why - 1) = rw (← er) (failed-number check e why failed) in
-      rw (sheet-first k (length p) (length s) (length o) (length (drillText k sheet)) (length output) (isSound k sheet) (numberOf why - 1) n, ← number-positive why)
+      let n : advanceRefusal k knit (length p) (length s) (length o) (isSound k sheet) ≡ suc (numberOf why - 1) =
+      rw (← er) (failed-number check e why failed) in
+      let first = sheet-first k knit (length p) (length s) (length o) (length (drillText k sheet)) (length output)
+      (isSound k sheet) (numberOf why - 1) n in
+      rw (first, ← number-positive why)
 
   module _ (passed : check ≡ Passed) where
     asked : SheetAsked r (progress .dots) p s o
-    asked = sheet-asked (power-small (progress .side) er) (progress .dots) p s o check e passed
+    asked = sheet-asked (progress .knit) (power-small (progress .side) er) (progress .dots) p s o check e passed
 
     few : progress .dots ≤ cellCount r
     unfolding sheetIn
@@ -72,6 +75,9 @@ module _ (progress : Progress) (p : List ℤ) (s o : List ℕ) {r : ℕ} (er : r
     unfolding drillText sheetIn listText
     list-is = rw (take-take (progress .dots) (cellCount r) o few)
 
+    not-refused : advanceRefusal r (progress .knit) (length p) (length s) (length o) true ≡ 0
+    not-refused = rw (asked .sound) at (passed-none check e passed)
+
     module _ (output : List ℕ) where
       list-then : drillListOf progress p s o output ≡ listedIn (drillText (powerOf (progress .side)) (sheetIn (powerOf (progress .side)) (progress .dots) p s o)) output
       unfolding drillListOf
@@ -79,8 +85,11 @@ module _ (progress : Progress) (p : List ℤ) (s o : List ℕ) {r : ℕ} (er : r
           let k = powerOf (progress .side) in
           let sheet = sheetIn k (progress .dots) p s o in
           let list = drillText k sheet in
-          let z : drillListRefusal k (length p) (length s) (length o) (isSound k sheet) (length list) (length output) ≡ lowest (outputShort (length list) (length output) ∷ []) =
-          rw (← er, asked .sound) (length-then r (length p) (length s) (length o) _ (length output) (asked .lent)) in
+          let z : drillListRefusal k knit (length p) (length s) (length o) (isSound k sheet)
+          (length list) (length output)
+          ≡ lowest (outputShort (length list) (length output) ∷ []) =
+          rw (← er, asked .sound)
+          (length-then r knit (length p) (length s) (length o) _ (length output) not-refused) in
           rw z
 
       pub listed-is : {out : TextOutcome} → out ≡ listedIn (listText r (progress .dots) o) output → out ≡ drillListOf progress p s o output

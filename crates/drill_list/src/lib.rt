@@ -1,4 +1,4 @@
-// Drill List: "a line holes,side; then for each hole in order serial,row,column; same ending. It returns its length; bytes past it stay."
+// Drill List: the number of dots and the side on one line, then a line for each dot with its serial, row and column.
 use checks::Check;
 use definition::Progress;
 use definition::Refusal;
@@ -77,11 +77,15 @@ pub fn drill_list(
     order: &[u32],
     out: &mut [u8],
 ) -> TextAnswer
-    ensures { λ a. ⌜ record { said = textSays a; output = now (out .exit) } ≡ drillListOf progress (now (pyramid .entry)) (now (serials .entry)) (now (order .entry)) (now (out .entry)) ⌝ }
+    ensures { λ a. ⌜
+        record { said = textSays a; output = now (out .exit) }
+        ≡ drillListOf progress
+        (now (pyramid .entry)) (now (serials .entry)) (now (order .entry)) (now (out .entry))
+        ⌝ }
 {
     let r = sizes::power_of(progress.side);
     let dots = progress.dots;
-    match sheet::check_sheet(r, dots, pyramid, serials, order) {
+    match sheet::check_sheet(r, dots, progress.knit, pyramid, serials, order) {
         Check::Failed(why) => TextAnswer::Refused(why),
         Check::Passed => write_list(out, order, dots as usize, r),
     }

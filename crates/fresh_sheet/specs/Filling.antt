@@ -1,7 +1,7 @@
 -- What the filling of a fresh sheet is asked, and what it leaves.
 use mathlib.Core.Path.{_≡_, sym, _∙_}
 use mathlib.Core.List.{List, _++_}
-use Prim.Native.Nat.{ℕ, _≤_}
+use Prim.Native.Nat.{ℕ, _≤_, _<_}
 use native.Mathlib.Omega.{arith}
 use lib.ListN.{length, take, drop, replicate}
 use lib.Seq.{length-take-le}
@@ -13,7 +13,23 @@ use Rattle.pyramid.specs.Asked.{FillAsked, freshPyramid}
 -- a power, and lengths that are enough for it
 pub record FillLent (r greys pyramid serials order : ℕ) : Type 0 where
   pub small : r ≤ 8
-  pub lent : LoadLent r greys pyramid serials order
+  pub power : 0 < r
+  pub greys-long : cellCount r ≤ greys
+  pub pyramid-long : needed r ≤ pyramid
+  pub serials-long : cellCount r ≤ serials
+  pub order-long : cellCount r ≤ order
+
+-- where Load is not refused
+pub fill-lent : {r knit g p s o : ℕ} → r ≤ 8 → LoadLent r knit g p s o → FillLent r g p s o
+fill-lent small h =
+    record {
+      small = small;
+      power = h .power;
+      greys-long = h .greys-long;
+      pyramid-long = h .pyramid-long;
+      serials-long = h .serials-long;
+      order-long = h .order-long;
+    }
 
 -- the three buffers, filled
 pub record Filled (r : ℕ) (g : List ℕ) (p : List ℤ) (s o : List ℕ)
@@ -26,20 +42,20 @@ pub record Filled (r : ℕ) (g : List ℕ) (p : List ℤ) (s o : List ℕ)
 module _ {r g s o : ℕ} (p : List ℤ) (h : FillLent r g (length p) s o) where
   module _ {n : ℕ} (en : n ≡ needed r) where
     pub pyramid-in : n ≤ length p
-    pyramid-in = omega (arith, h .lent .pyramid-long)
+    pyramid-in = omega (arith, h .pyramid-long)
 
     pub part-length : n ≡ length (take n p)
     part-length = sym (length-take-le n p pyramid-in)
 
     pub fill-asked : FillAsked (take n p) g r
-    fill-asked = record { most = h .small; whole = sym part-length ∙ en; enough = h .lent .greys-long }
+    fill-asked = record { most = h .small; whole = sym part-length ∙ en; enough = h .greys-long }
 
   module _ {c : ℕ} (ec : c ≡ cellCount r) where
     pub serials-in : c ≤ s
-    serials-in = omega (arith, h .lent .serials-long)
+    serials-in = omega (arith, h .serials-long)
 
     pub order-in : c ≤ o
-    order-in = omega (arith, h .lent .order-long)
+    order-in = omega (arith, h .order-long)
 
 module _ {r n c : ℕ} (en : n ≡ needed r) (ec : c ≡ cellCount r) where
   pub all-filled : {g : List ℕ} {p p′ : List ℤ} {s o s′ o′ : List ℕ} → p′ ≡ freshPyramid r g

@@ -9,16 +9,26 @@ ghost use Rattle.definition.specs.Load.{loadRefusal};
 ghost use Rattle.checks.specs.Checks.{checked};
 ghost use Rattle.fresh_sheet.specs.Filling.{FillLent, Filled};
 
-// Refusals 1, 2, 3, 4, from the side's power and the lengths lent.
-pub fn check_load(r: usize, greys: usize, pyramid: usize, serials: usize, order: usize) -> Check
+// Refusals 1, 11, 2, 3, 4, from the side's power, the knit and the lengths lent.
+pub fn check_load(
+    r: usize,
+    knit: u32,
+    greys: usize,
+    pyramid: usize,
+    serials: usize,
+    order: usize,
+) -> Check
     requires { ⌜ r ≤ 8 ⌝ }
-    ensures { λ c. ⌜ checked c ≡ loadRefusal r greys pyramid serials order ⌝ }
+    ensures { λ c. ⌜ checked c ≡ loadRefusal r knit greys pyramid serials order ⌝ }
 {
+    let cells = sizes::cell_count(r);
+    let needed = sizes::needed(r);
     if r == 0 {
         return Check::Failed(Refusal::SideUnknown);
     }
-    let cells = sizes::cell_count(r);
-    let needed = sizes::needed(r);
+    if 1 < knit {
+        return Check::Failed(Refusal::KnitUnknown);
+    }
     if greys < cells {
         return Check::Failed(Refusal::GreysShort);
     }

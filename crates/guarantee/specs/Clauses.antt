@@ -13,7 +13,7 @@ use lib.Signed.{_<ℤ_}
 use Rattle.definition.specs.Answers.{returned, finished}
 use Rattle.definition.specs.Pyramid.{start}
 use Rattle.definition.specs.Blocks.{greySum, greyTotal, dotsIn, allDots}
-use Rattle.definition.specs.Diffusion.{plain}
+use Rattle.definition.specs.Diffusion.{kernelOf}
 use Rattle.definition.specs.Model.{Halftone, topOf, modelStart, steps}
 use Rattle.definition.specs.Refusals.{powerOf}
 use Rattle.definition.specs.Load.{loadRefusal, loaded, loadOf}
@@ -37,8 +37,8 @@ use Rattle.guarantee.specs.Demand3.{Each, Accepted, Demand3}
 use Rattle.guarantee.specs.Start.{each-of}
 use Rattle.guarantee.specs.Theorem.{demand-3}
 
-module _ (side : ℕ) (greys : List ℕ) (pyramid : List ℤ) (serials order : List ℕ)
-    (accepted : Accepted side greys pyramid serials order) (calls : List Call) where
+module _ (side knit : ℕ) (greys : List ℕ) (pyramid : List ℤ) (serials order : List ℕ)
+    (accepted : Accepted side knit greys pyramid serials order) (calls : List Call) where
   -- the power, N, and the sum of all greys
   abbrev r : ℕ
   r = powerOf side
@@ -51,26 +51,26 @@ module _ (side : ℕ) (greys : List ℕ) (pyramid : List ℤ) (serials order : L
 
   -- what the caller holds after Load and after all calls, and what each call left and answered
   abbrev fresh : Held
-  fresh = heldAfterLoad side greys pyramid serials order
+  fresh = heldAfterLoad side knit greys pyramid serials order
 
   abbrev held : Held
-  held = heldAfterCalls plain fresh calls
+  held = heldAfterCalls fresh calls
 
   abbrev outcomes : List AdvanceOutcome
-  outcomes = outcomesOf plain fresh calls
+  outcomes = outcomesOf fresh calls
 
   abbrev replies : List Reply
-  replies = repliesOf plain fresh calls
+  replies = repliesOf fresh calls
 
   -- the model, fed with the same calls
   abbrev model : Halftone
-  model = modelAfterCalls plain r (modelStart r greys) calls
+  model = modelAfterCalls knit r (modelStart r greys) calls
 
   abbrev dots : ℕ
   dots = held .progress .dots
 
-  demand : Demand3 plain side greys pyramid serials order calls
-  demand = demand-3 side greys pyramid serials order accepted calls
+  demand : Demand3 side knit greys pyramid serials order calls
+  demand = demand-3 side knit greys pyramid serials order accepted calls
 
   -- buffers, record and answers are the model's
   pub pyramid-as-model : take ((4 ^ suc r - 1) / 3) (held .pyramid) ≡ model .pyramid
@@ -83,14 +83,18 @@ module _ (side : ℕ) (greys : List ℕ) (pyramid : List ℤ) (serials order : L
   pub order-as-model : take (N * N) (held .order) ≡ model .order
   order-as-model = demand .order
 
-  pub record-as-model : (held .progress .side ≡ N) × (dots ≡ model .dots)
-  record-as-model = (ap (λ p. p .side) (demand .progress), ap (λ p. p .dots) (demand .progress))
+  pub record-as-model : (held .progress .side ≡ N) × (dots ≡ model .dots) × (held .progress .knit ≡ knit)
+  record-as-model = (
+    ap (λ p. p .side) (demand .progress),
+    ap (λ p. p .dots) (demand .progress),
+    ap (λ p. p .knit) (demand .progress),
+  )
 
-  pub answers-as-model : replies ≡ modelReplies plain r (modelStart r greys) calls
+  pub answers-as-model : replies ≡ modelReplies knit r (modelStart r greys) calls
   answers-as-model = demand .answered
 
-  -- and what the model has is its first dots for these greys
-  pub first-dots : model ≡ steps plain r dots (modelStart r greys)
+  -- and what the model has is its first dots for these greys and this knit
+  pub first-dots : model ≡ steps (kernelOf knit) r dots (modelStart r greys)
   first-dots = demand .first-dots
 
   -- past the needed lengths nothing has changed
@@ -158,28 +162,32 @@ module _ (side : ℕ) (greys : List ℕ) (pyramid : List ℤ) (serials order : L
         let fits = demand .quotes k a b level row column .fits in
         (fits .0, fits .1 .0, fits .1 .1 .0, fits .1 .1 .1 .0, fits .1 .1 .1 .1 .0)
 
--- ---- who may ask: each of the eight sides, with bytes as greys and buffers that are long enough, whatever they hold
-pub everyone : (r : ℕ) → 1 ≤ r → r ≤ 8 → (greys : List ℕ) (pyramid : List ℤ) (serials order : List ℕ)
+-- ---- who may ask: each of the eight sides and either knit, with bytes as greys and buffers that are long enough,
+-- whatever they hold
+pub everyone : (r knit : ℕ) → 1 ≤ r → r ≤ 8 → knit ≤ 1
+    → (greys : List ℕ) (pyramid : List ℤ) (serials order : List ℕ)
     → 2 ^ r * 2 ^ r ≤ length greys → (4 ^ suc r - 1) / 3 ≤ length pyramid
     → 2 ^ r * 2 ^ r ≤ length serials → 2 ^ r * 2 ^ r ≤ length order
-    → ((i : ℕ) → i < length greys → getD greys i 0 ≤ 255) → Accepted (2 ^ r) greys pyramid serials order
-everyone r some most greys pyramid serials order g p s o bytes =
+    → ((i : ℕ) → i < length greys → getD greys i 0 ≤ 255)
+    → Accepted (2 ^ r) knit greys pyramid serials order
+everyone r knit some most known greys pyramid serials order g p s o bytes =
     record { bytes = each-of (λ grey. grey ≤ 255) greys 0 bytes; said = said }
   where
-    lent : LoadLent r (length greys) (length pyramid) (length serials) (length order)
+    lent : LoadLent r knit (length greys) (length pyramid) (length serials) (length order)
     lent =
         record {
           power = some;
+          known = known;
           greys-long = g;
           pyramid-long = unfold start in p;
           serials-long = s;
           order-long = o;
         }
 
-    none : loadRefusal (powerOf (2 ^ r)) (length greys) (length pyramid) (length serials) (length order) ≡ 0
+    none : loadRefusal (powerOf (2 ^ r)) knit (length greys) (length pyramid) (length serials) (length order) ≡ 0
     none =
         rw (powerOf-pow r some most)
-        (load-none r (length greys) (length pyramid) (length serials) (length order) .1 lent)
+        (load-none r knit (length greys) (length pyramid) (length serials) (length order) .1 lent)
 
-    said : loadOf (2 ^ r) greys pyramid serials order .said ≡ returned []
+    said : loadOf (2 ^ r) knit greys pyramid serials order .said ≡ returned []
     said = unfold loadOf loaded in rw (none, loadOf)

@@ -11,7 +11,7 @@ use lib.Signed.{_<ℤ_}
 use Rattle.definition.specs.Answers.{returned, finished}
 use Rattle.definition.specs.Pyramid.{oneDot, halfDot, needed, cellCount}
 use Rattle.definition.specs.Blocks.{blockSide, greySum, greyTotal, totalOf, dotsIn, allDots}
-use Rattle.definition.specs.Diffusion.{Kernel}
+use Rattle.definition.specs.Diffusion.{kernelOf}
 use Rattle.definition.specs.Model.{Halftone, topOf, modelStart, steps}
 use Rattle.definition.specs.Refusals.{powerOf}
 use Rattle.definition.specs.Load.{loadOf}
@@ -29,9 +29,9 @@ abbrev pub EachBlock : ℕ → (ℕ → ℕ → ℕ → Type 0) → Type 0
 EachBlock r P = (k a b : ℕ) → k ≤ r → a < 2 ^ k → b < 2 ^ k → P k a b
 
 -- "Demand 3 starts from an accepted Load": of greys, each of which "is a byte"
-pub record Accepted (side : ℕ) (greys : List ℕ) (pyramid : List ℤ) (serials order : List ℕ) : Type 0 where
+pub record Accepted (side knit : ℕ) (greys : List ℕ) (pyramid : List ℤ) (serials order : List ℕ) : Type 0 where
   pub bytes : Each (λ grey. grey ≤ 255) greys
-  pub said : loadOf side greys pyramid serials order .said ≡ returned []
+  pub said : loadOf side knit greys pyramid serials order .said ≡ returned []
 
 -- The holes of an aligned square of side s with grey sum g: the cap ..
 abbrev pub UnderCap : ℕ → List ℕ → List ℕ → ℕ → ℕ → ℕ → Type 0
@@ -60,13 +60,14 @@ Ends r total out = isRefusal (out .reply .said) ≡ false → (out .reply .said 
 
 -- What holds after a list of calls: of the buffers as Load was lent them, of what the caller then holds, of the outcomes and replies of
 -- the calls, and of the model's state and replies. N = 2^r is the side, G the sum of the greys.
-pub record Holds (kernel : Kernel) (r G : ℕ) (greys : List ℕ) (lentPyramid : List ℤ) (lentSerials lentOrder : List ℕ) (calls : List Call)
+pub record Holds (knit r G : ℕ) (greys : List ℕ) (lentPyramid : List ℤ) (lentSerials lentOrder : List ℕ)
+    (calls : List Call)
     (held : Held) (outcomes : List AdvanceOutcome) (replies : List Reply) (model : Halftone) (modelled : List Reply) : Type 0 where
   -- "After every list of calls the three buffers, each over its needed length, and the record (N, h) equal the model's"
   pub pyramid : take (needed r) (held .pyramid) ≡ model .pyramid
   pub serials : take (cellCount r) (held .serials) ≡ model .serials
   pub order : take (cellCount r) (held .order) ≡ model .order
-  pub progress : held .progress ≡ record { side = 2 ^ r; dots = model .dots }
+  pub progress : held .progress ≡ record { side = 2 ^ r; dots = model .dots; knit = knit }
   -- "and each call, refused or not, has answered as the model does"
   pub answered : replies ≡ modelled
   -- "the part past the needed length is neither read nor written"
@@ -74,7 +75,7 @@ pub record Holds (kernel : Kernel) (r G : ℕ) (greys : List ℕ) (lentPyramid :
   pub serials-rest : drop (cellCount r) (held .serials) ≡ drop (cellCount r) lentSerials
   pub order-rest : drop (cellCount r) (held .order) ≡ drop (cellCount r) lentOrder
   -- the holes and their order are the first ones that the model makes for that map
-  pub first-dots : model ≡ steps kernel r (held .progress .dots) (modelStart r greys)
+  pub first-dots : model ≡ steps (kernelOf knit) r (held .progress .dots) (modelStart r greys)
   -- "all holes are those of the whole map", "as Tally counts them"; they number the smaller of the total and the sum of the budgets of
   -- the calls not refused
   pub all-dots : allDots r (held .serials) ≡ held .progress .dots
@@ -91,11 +92,11 @@ pub record Holds (kernel : Kernel) (r G : ℕ) (greys : List ℕ) (lentPyramid :
   pub ends : Each (Ends r (totalOf G)) outcomes
 
 -- Demand 3 of one list of calls on the buffers that Load was lent.
-abbrev pub Demand3 : Kernel → ℕ → List ℕ → List ℤ → List ℕ → List ℕ → List Call → Type 0
-Demand3 kernel side greys pyramid serials order calls =
+abbrev pub Demand3 : ℕ → ℕ → List ℕ → List ℤ → List ℕ → List ℕ → List Call → Type 0
+Demand3 side knit greys pyramid serials order calls =
     let r = powerOf side in
-    let fresh = heldAfterLoad side greys pyramid serials order in
+    let fresh = heldAfterLoad side knit greys pyramid serials order in
     let model = modelStart r greys in
-    Holds kernel r (greyTotal r greys) greys pyramid serials order calls
-    (heldAfterCalls kernel fresh calls) (outcomesOf kernel fresh calls) (repliesOf kernel fresh calls)
-    (modelAfterCalls kernel r model calls) (modelReplies kernel r model calls)
+    Holds knit r (greyTotal r greys) greys pyramid serials order calls
+    (heldAfterCalls fresh calls) (outcomesOf fresh calls) (repliesOf fresh calls)
+    (modelAfterCalls knit r model calls) (modelReplies knit r model calls)

@@ -20,7 +20,7 @@ use Rattle.definition.specs.Descent.{
   largest,
   descend,
 }
-use Rattle.definition.specs.Diffusion.{plain, within, onMap, weightAt, share, diffuse}
+use Rattle.definition.specs.Diffusion.{plain, ribbed, weightsOf, kernelOf, within, onMap, weightAt, share, diffuse}
 use Rattle.definition.specs.Model.{topOf, modelStart, missing, placeDot, step, steps}
 use Rattle.definition.specs.Sound.{burntNear, everyEntry, fewDots, numbered, counted, unused, summed, bounded, owing, isSound}
 use Rattle.definition.specs.Refusals.{powerUpTo, powerOf, lowest}
@@ -45,22 +45,38 @@ call budget lent = record { budget = budget; pyramidLent = lent; serialsLent = 5
 abbrev calls : List Call
 calls = call 0 6 ∷ call 1 4 ∷ call 1 6 ∷ call 1 5 ∷ []
 
-accepted : Accepted 2 greys pyramid sheet sheet
+accepted : Accepted 2 plain greys pyramid sheet sheet
 unfolding loadOf loadRefusal loaded lowest powerOf powerUpTo start
 accepted = record { bytes = (omega arith, (omega arith, (omega arith, (omega arith, tt)))); said = refl }
 
-pub holds-here : Demand3 plain 2 greys pyramid sheet sheet calls
-holds-here = demand-3 2 greys pyramid sheet sheet accepted calls
+accepted-ribbed : Accepted 2 ribbed greys pyramid sheet sheet
+unfolding loadOf loadRefusal loaded lowest powerOf powerUpTo start
+accepted-ribbed = record { bytes = accepted .bytes; said = refl }
 
--- what the calls reply, by computing: more; refused, 3; more; finished
-abbrev reply : ℕ → ℕ → Said → Reply
-reply dots made said = record { progress = record { side = 2; dots = dots }; made = made; said = said }
+pub holds-here : Demand3 2 plain greys pyramid sheet sheet calls
+holds-here = demand-3 2 plain greys pyramid sheet sheet accepted calls
 
-pub replies-here : repliesOf plain (heldAfterLoad 2 greys pyramid sheet sheet) calls ≡ reply 0 0 more ∷ reply 0 0 (refused 3) ∷ reply 1 1 more ∷ reply 2 1 finished ∷ []
+pub holds-ribbed : Demand3 2 ribbed greys pyramid sheet sheet calls
+holds-ribbed = demand-3 2 ribbed greys pyramid sheet sheet accepted-ribbed calls
+
+-- what the calls reply on either cloth, by computing: more; refused, 3; more; finished
+abbrev reply : ℕ → ℕ → ℕ → Said → Reply
+reply knit dots made said =
+    record { progress = record { side = 2; dots = dots; knit = knit }; made = made; said = said }
+
+abbrev replies : ℕ → List Reply
+replies knit = reply knit 0 0 more ∷ reply knit 0 0 (refused 3) ∷ reply knit 1 1 more ∷ reply knit 2 1 finished
+    ∷ []
+
+abbrev given : ℕ → List Reply
+given knit = repliesOf (heldAfterLoad 2 knit greys pyramid sheet sheet) calls
+
+pub replies-here : (given plain ≡ replies plain) × (given ribbed ≡ replies ribbed)
 unfolding sumTo allTo tabulateFrom eqZ start placeIn rowAt columnAt levelOf inLevel entry four coarser
     pyramidOver greyAt burnt burntAt candidate firstOfEquals lastOfEquals ofEquals choiceOf better largest
-    descend plain within onMap weightAt share diffuse topOf modelStart missing placeDot step steps burntNear
+    descend weightsOf kernelOf within onMap weightAt share diffuse topOf modelStart missing placeDot step steps
+    burntNear
     everyEntry fewDots numbered counted unused summed bounded owing isSound powerUpTo powerOf lowest
     loadRefusal loaded loadOf dotsDue saidAt sheetIn advanceRefusal advanced advanceOf heldAfterLoad callOf
     heldAfter outcomesOf repliesOf
-replies-here = refl
+replies-here = (refl, refl)

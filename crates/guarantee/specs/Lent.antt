@@ -13,8 +13,13 @@ use Rattle.definition.specs.Model.{Halftone}
 use Rattle.definition.specs.Calls.{Held}
 
 -- a sheet in buffers that go on with p, s and o
-abbrev pub heldOf : ℕ → Halftone → List ℤ → List ℕ → List ℕ → Held
-heldOf r t p s o = record { progress = record { side = 2 ^ r; dots = t .dots }; pyramid = t .pyramid ++ p; serials = t .serials ++ s; order = t .order ++ o }
+abbrev pub heldOf : ℕ → ℕ → Halftone → List ℤ → List ℕ → List ℕ → Held
+heldOf knit r t p s o = record {
+  progress = record { side = 2 ^ r; dots = t .dots; knit = knit };
+  pyramid = t .pyramid ++ p;
+  serials = t .serials ++ s;
+  order = t .order ++ o;
+}
 
 module _ {A : Type 0} where
   -- whether the part is too short does not depend on what the buffer has past the needed length

@@ -11,13 +11,13 @@ use lib.IntN.{ℤ, pos}
 use lib.Signed.{ltZ}
 use Rattle.definition.specs.Answers.{finished, more, refused}
 use Rattle.definition.specs.Pyramid.{halfDot}
-use Rattle.definition.specs.Diffusion.{Kernel}
+use Rattle.definition.specs.Diffusion.{kernelOf}
 use Rattle.definition.specs.Model.{Halftone, topOf, steps}
 use Rattle.definition.specs.Refusals.{powerOf}
 use Rattle.definition.specs.Advance.{Reply, AdvanceOutcome, dotsDue, saidAt}
 use Rattle.definition.specs.Calls.{Call, outcomesOf, heldAfterCalls, repliesOf, modelRefusal, modelCall, modelReply, modelAfterCalls, modelReplies, isRefusal, granted}
 use Rattle.integers.specs.Linear.{ints, up-or-dn}
-use Rattle.shares.specs.Kernels.{Fit}
+use Rattle.shares.specs.Kernels.{knit-fit}
 use Rattle.dots.specs.Steps.{Sheet, due-is, steps-sheet, steps-due, steps-made, steps-min, steps-add}
 use Rattle.guarantee.specs.Lent.{heldOf}
 use Rattle.guarantee.specs.OneCall.{model-taken, model-refused, reply-taken, reply-refused, call-same, held-same}
@@ -39,91 +39,130 @@ finished-due t = go (ltZ t (pos halfDot)) refl
     go true e = ((λ h. omega (ints, due-is t, up-or-dn t)), (λ h. refl))
     go false e = ((λ h. let z : _≡_ {A = ℕ} 0 1 = cc in absurd (omega arith)), (λ h. absurd (omega (ints, due-is t, up-or-dn t))))
 
-module _ (kernel : Kernel) (fit : Fit kernel) (r : ℕ) (big : 2 ≤ 2 ^ r) (power : powerOf (2 ^ r) ≡ r) where
+module _ (knit : ℕ) (known : knit ≤ 1) (r : ℕ) (big : 2 ≤ 2 ^ r) (power : powerOf (2 ^ r) ≡ r) where
   -- ---- one call of the model: taken, or refused
   pub data Modelled (t : Halftone) (c : Call) : Type 0 where
-    taken : modelCall kernel r t c ≡ steps kernel r (c .budget) t → modelReply kernel r t c .said ≡ saidAt (topOf (steps kernel r (c .budget) t .pyramid)) → Modelled t c
-    refusing : (n : ℕ) → modelCall kernel r t c ≡ t → modelReply kernel r t c .said ≡ refused n → Modelled t c
+    taken : modelCall knit r t c ≡ steps (kernelOf knit) r (c .budget) t
+        → modelReply knit r t c .said ≡ saidAt (topOf (steps (kernelOf knit) r (c .budget) t .pyramid))
+        → Modelled t c
+    refusing : (n : ℕ) → modelCall knit r t c ≡ t → modelReply knit r t c .said ≡ refused n → Modelled t c
 
   modelled : (t : Halftone) → Sheet r t → (c : Call) → Modelled t c
   modelled t sheet c = go (modelRefusal r c) refl
     where
       go : (k : ℕ) → modelRefusal r c ≡ k → Modelled t c
-      go zero e = taken (model-taken kernel fit r big power t sheet [] [] [] c e) (ap (λ (q : Reply). q .said) (reply-taken kernel fit r big power t sheet [] [] [] c e))
-      go (suc n) e = refusing (suc n) (model-refused kernel fit r big power t sheet [] [] [] c n e) (ap (λ (q : Reply). q .said) (reply-refused kernel fit r big power t sheet [] [] [] c n e))
+      go zero e = taken (model-taken knit known r big power t sheet [] [] [] c e)
+          (ap (λ (q : Reply). q .said) (reply-taken knit known r big power t sheet [] [] [] c e))
+      go (suc n) e = refusing (suc n) (model-refused knit known r big power t sheet [] [] [] c n e)
+          (ap (λ (q : Reply). q .said) (reply-refused knit known r big power t sheet [] [] [] c n e))
 
   -- what steps keep, a call keeps
-  pub call-keeps : (P : Halftone → Type 0) (t : Halftone) → Sheet r t → (c : Call) → P t → P (steps kernel r (c .budget) t) → P (modelCall kernel r t c)
+  pub call-keeps : (P : Halftone → Type 0) (t : Halftone) → Sheet r t → (c : Call) → P t
+      → P (steps (kernelOf knit) r (c .budget) t) → P (modelCall knit r t c)
   call-keeps P t sheet c h k = go (modelled t sheet c)
     where
-      go : Modelled t c → P (modelCall kernel r t c)
+      go : Modelled t c → P (modelCall knit r t c)
       go (taken e f) = rw e k
       go (refusing n e f) = rw e h
 
-  pub call-sheet : (t : Halftone) → Sheet r t → (c : Call) → Sheet r (modelCall kernel r t c)
-  call-sheet t sheet c = call-keeps (Sheet r) t sheet c sheet (steps-sheet kernel fit r big (c .budget) t sheet)
+  pub call-sheet : (t : Halftone) → Sheet r t → (c : Call) → Sheet r (modelCall knit r t c)
+  call-sheet t sheet c = call-keeps (Sheet r) t sheet c sheet
+      (steps-sheet (kernelOf knit) (knit-fit knit) r big (c .budget) t sheet)
 
-  pub calls-sheet : (cs : List Call) (t : Halftone) → Sheet r t → Sheet r (modelAfterCalls kernel r t cs)
+  pub calls-sheet : (cs : List Call) (t : Halftone) → Sheet r t → Sheet r (modelAfterCalls knit r t cs)
   unfolding modelAfterCalls
   calls-sheet [] t sheet = sheet
-  calls-sheet (c ∷ cs) t sheet = calls-sheet cs (modelCall kernel r t c) (call-sheet t sheet c)
+  calls-sheet (c ∷ cs) t sheet = calls-sheet cs (modelCall knit r t c) (call-sheet t sheet c)
 
   -- what every number of steps keeps, a list of calls keeps
-  pub calls-keep : (P : Halftone → Type 0) → ((n : ℕ) (t : Halftone) → Sheet r t → P t → P (steps kernel r n t)) → (cs : List Call) (t : Halftone) → Sheet r t → P t → P (modelAfterCalls kernel r t cs)
+  pub calls-keep : (P : Halftone → Type 0)
+      → ((n : ℕ) (t : Halftone) → Sheet r t → P t → P (steps (kernelOf knit) r n t))
+      → (cs : List Call) (t : Halftone) → Sheet r t → P t → P (modelAfterCalls knit r t cs)
   unfolding modelAfterCalls
   calls-keep P keep [] t sheet h = h
-  calls-keep P keep (c ∷ cs) t sheet h = calls-keep P keep cs (modelCall kernel r t c) (call-sheet t sheet c) (call-keeps P t sheet c h (keep (c .budget) t sheet h))
+  calls-keep P keep (c ∷ cs) t sheet h = calls-keep P keep cs (modelCall knit r t c) (call-sheet t sheet c)
+      (call-keeps P t sheet c h (keep (c .budget) t sheet h))
 
   -- ---- the same buffers, the same record, the same replies
   module _ (p : List ℤ) (s o : List ℕ) where
-    pub calls-held : (cs : List Call) (t : Halftone) → Sheet r t → heldAfterCalls kernel (heldOf r t p s o) cs ≡ heldOf r (modelAfterCalls kernel r t cs) p s o
+    pub calls-held : (cs : List Call) (t : Halftone) → Sheet r t
+        → heldAfterCalls (heldOf knit r t p s o) cs ≡ heldOf knit r (modelAfterCalls knit r t cs) p s o
     unfolding heldAfterCalls modelAfterCalls
     calls-held [] t sheet = refl
-    calls-held (c ∷ cs) t sheet = rw (held-same kernel fit r big power t sheet p s o c) (calls-held cs (modelCall kernel r t c) (call-sheet t sheet c))
+    calls-held (c ∷ cs) t sheet =
+        rw (held-same knit known r big power t sheet p s o c)
+        (calls-held cs (modelCall knit r t c) (call-sheet t sheet c))
 
-    pub calls-replies : (cs : List Call) (t : Halftone) → Sheet r t → repliesOf kernel (heldOf r t p s o) cs ≡ modelReplies kernel r t cs
+    pub calls-replies : (cs : List Call) (t : Halftone) → Sheet r t
+        → repliesOf (heldOf knit r t p s o) cs ≡ modelReplies knit r t cs
     unfolding repliesOf outcomesOf modelReplies
     calls-replies [] t sheet = refl
     calls-replies (c ∷ cs) t sheet =
-        ap₂ _∷_ (ap (λ (out : AdvanceOutcome). out .reply) (call-same kernel fit r big power t sheet p s o c))
-        (rw (held-same kernel fit r big power t sheet p s o c) (calls-replies cs (modelCall kernel r t c) (call-sheet t sheet c)))
+        ap₂ _∷_ (ap (λ (out : AdvanceOutcome). out .reply) (call-same knit known r big power t sheet p s o c))
+        (rw (held-same knit known r big power t sheet p s o c)
+        (calls-replies cs (modelCall knit r t c) (call-sheet t sheet c)))
 
   -- ---- counting
   -- in all, as many steps as the budgets of the calls not refused
-  pub calls-steps : (cs : List Call) (t : Halftone) → Sheet r t → modelAfterCalls kernel r t cs ≡ steps kernel r (granted cs (modelReplies kernel r t cs)) t
+  pub calls-steps : (cs : List Call) (t : Halftone) → Sheet r t
+      → modelAfterCalls knit r t cs ≡ steps (kernelOf knit) r (granted cs (modelReplies knit r t cs)) t
   unfolding modelAfterCalls modelReplies granted steps isRefusal
   calls-steps [] t sheet = refl
-  calls-steps (c ∷ cs) t sheet = go (modelled t sheet c) (calls-steps cs (modelCall kernel r t c) (call-sheet t sheet c))
+  calls-steps (c ∷ cs) t sheet = go (modelled t sheet c)
+      (calls-steps cs (modelCall knit r t c) (call-sheet t sheet c))
     where
-      go : Modelled t c → modelAfterCalls kernel r (modelCall kernel r t c) cs ≡ steps kernel r (granted cs (modelReplies kernel r (modelCall kernel r t c) cs)) (modelCall kernel r t c)
-          → modelAfterCalls kernel r (modelCall kernel r t c) cs ≡ steps kernel r (granted (c ∷ cs) (modelReply kernel r t c ∷ modelReplies kernel r (modelCall kernel r t c) cs)) t
+      go : Modelled t c
+          → modelAfterCalls knit r (modelCall knit r t c) cs
+          ≡ steps (kernelOf knit) r (granted cs (modelReplies knit r (modelCall knit r t c) cs))
+          (modelCall knit r t c)
+          → modelAfterCalls knit r (modelCall knit r t c) cs
+          ≡ steps (kernelOf knit) r
+          (granted (c ∷ cs) (modelReply knit r t c ∷ modelReplies knit r (modelCall knit r t c) cs)) t
       go (taken e f) ih =
-          rw (f, said-not-refusal (topOf (steps kernel r (c .budget) t .pyramid)))
-          (ih ∙ ap (λ (u : Halftone). steps kernel r (granted cs (modelReplies kernel r (modelCall kernel r t c) cs)) u) e ∙ steps-add kernel r (c .budget) (granted cs (modelReplies kernel r (modelCall kernel r t c) cs)) t)
-      go (refusing n e f) ih = rw (f, zero-add) (ih ∙ ap (λ (u : Halftone). steps kernel r (granted cs (modelReplies kernel r (modelCall kernel r t c) cs)) u) e)
+          rw (f, said-not-refusal (topOf (steps (kernelOf knit) r (c .budget) t .pyramid)))
+          (ih ∙ ap (λ (u : Halftone). steps (kernelOf knit) r
+          (granted cs (modelReplies knit r (modelCall knit r t c) cs)) u) e
+          ∙ steps-add (kernelOf knit) r (c .budget)
+          (granted cs (modelReplies knit r (modelCall knit r t c) cs)) t)
+      go (refusing n e f) ih =
+          rw (f, zero-add)
+          (ih ∙ ap (λ (u : Halftone). steps (kernelOf knit) r
+          (granted cs (modelReplies knit r (modelCall knit r t c) cs)) u) e)
 
   -- so the dots made are the smaller of these and the dots due
-  pub calls-number : (cs : List Call) (t : Halftone) → Sheet r t → modelAfterCalls kernel r t cs .dots ≡ t .dots + min (granted cs (modelReplies kernel r t cs)) (dotsDue (topOf (t .pyramid)))
-  calls-number cs t sheet = rw (calls-steps cs t sheet) (steps-made kernel fit r big (granted cs (modelReplies kernel r t cs)) t sheet)
+  pub calls-number : (cs : List Call) (t : Halftone) → Sheet r t
+      → modelAfterCalls knit r t cs .dots
+      ≡ t .dots + min (granted cs (modelReplies knit r t cs)) (dotsDue (topOf (t .pyramid)))
+  calls-number cs t sheet =
+      rw (calls-steps cs t sheet)
+      (steps-made (kernelOf knit) (knit-fit knit) r big (granted cs (modelReplies knit r t cs)) t sheet)
 
   -- and from a start without dots they are the first ones that the model makes
-  pub calls-first : (cs : List Call) (t : Halftone) → Sheet r t → t .dots ≡ 0 → modelAfterCalls kernel r t cs ≡ steps kernel r (modelAfterCalls kernel r t cs .dots) t
+  pub calls-first : (cs : List Call) (t : Halftone) → Sheet r t → t .dots ≡ 0
+      → modelAfterCalls knit r t cs ≡ steps (kernelOf knit) r (modelAfterCalls knit r t cs .dots) t
   calls-first cs t sheet h =
       calls-steps cs t sheet
-      ∙ sym (steps-min kernel fit r big (granted cs (modelReplies kernel r t cs)) t sheet)
-      ∙ ap (λ (n : ℕ). steps kernel r n t) (omega (arith, calls-number cs t sheet))
+      ∙ sym (steps-min (kernelOf knit) (knit-fit knit) r big (granted cs (modelReplies knit r t cs)) t sheet)
+      ∙ ap (λ (n : ℕ). steps (kernelOf knit) r n t) (omega (arith, calls-number cs t sheet))
 
   -- ---- finished
   -- a call that isn't refused says finished exactly if no dot is due then
-  pub reply-finished : (t : Halftone) → Sheet r t → (c : Call) → isRefusal (modelReply kernel r t c .said) ≡ false → (modelReply kernel r t c .said ≡ finished) ↔ (dotsDue (topOf (modelCall kernel r t c .pyramid)) ≡ 0)
+  pub reply-finished : (t : Halftone) → Sheet r t → (c : Call)
+      → isRefusal (modelReply knit r t c .said) ≡ false → (modelReply knit r t c .said ≡ finished)
+      ↔ (dotsDue (topOf (modelCall knit r t c .pyramid)) ≡ 0)
   unfolding isRefusal
   reply-finished t sheet c h = go (modelled t sheet c)
     where
-      go : Modelled t c → (modelReply kernel r t c .said ≡ finished) ↔ (dotsDue (topOf (modelCall kernel r t c .pyramid)) ≡ 0)
-      go (taken e f) = rw (e, f) (finished-due (topOf (steps kernel r (c .budget) t .pyramid)))
+      go : Modelled t c → (modelReply knit r t c .said ≡ finished)
+          ↔ (dotsDue (topOf (modelCall knit r t c .pyramid)) ≡ 0)
+      go (taken e f) = rw (e, f) (finished-due (topOf (steps (kernelOf knit) r (c .budget) t .pyramid)))
       go (refusing n e f) = let b : isRefusal (refused n) ≡ false = rw f at h in absurd (true≢false b)
 
   -- the dots made and the dots due stay as many
-  pub call-due : (t : Halftone) → Sheet r t → (c : Call) → modelCall kernel r t c .dots + dotsDue (topOf (modelCall kernel r t c .pyramid)) ≡ t .dots + dotsDue (topOf (t .pyramid))
+  pub call-due : (t : Halftone) → Sheet r t → (c : Call)
+      → modelCall knit r t c .dots + dotsDue (topOf (modelCall knit r t c .pyramid))
+      ≡ t .dots + dotsDue (topOf (t .pyramid))
   call-due t sheet c =
-      call-keeps (λ u. u .dots + dotsDue (topOf (u .pyramid)) ≡ t .dots + dotsDue (topOf (t .pyramid))) t sheet c refl (steps-due kernel fit r big (c .budget) t sheet)
+      call-keeps (λ u. u .dots + dotsDue (topOf (u .pyramid))
+      ≡ t .dots + dotsDue (topOf (t .pyramid))) t sheet c refl
+      (steps-due (kernelOf knit) (knit-fit knit) r big (c .budget) t sheet)

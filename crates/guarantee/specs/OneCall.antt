@@ -7,10 +7,10 @@ use native.Mathlib.Omega.{arith}
 use lib.Dec.{ltb}
 use lib.ListN.{length, take, length-append, take-append-drop}
 use lib.IntN.{ℤ}
-use borrow.Author.Tests.{ltb-false, ne-eqb}
+use borrow.Author.Tests.{ltb-false, le-ltb, ne-eqb}
 use Rattle.definition.specs.Answers.{refused}
 use Rattle.definition.specs.Pyramid.{needed, cellCount}
-use Rattle.definition.specs.Diffusion.{Kernel}
+use Rattle.definition.specs.Diffusion.{kernelOf}
 use Rattle.definition.specs.Model.{Halftone, topOf, steps}
 use Rattle.definition.specs.Sound.{isSound}
 use Rattle.definition.specs.Refusals.{powerOf, lowest}
@@ -19,7 +19,7 @@ use Rattle.definition.specs.Calls.{Call, callOf, heldAfter, modelRefusal, model
 use Rattle.definition.specs.declared.Progress.{Progress}
 use Rattle.integers.specs.Tests.{true-T}
 use Rattle.refusals.specs.Lowest.{lowest-none}
-use Rattle.shares.specs.Kernels.{Fit}
+use Rattle.shares.specs.Kernels.{knit-fit}
 use Rattle.dots.specs.Steps.{Sheet, steps-made, steps-min}
 use Rattle.dots.specs.SoundTest.{sound-test}
 use Rattle.guarantee.specs.Lent.{heldOf, lent-test, lent-part, lent-back}
@@ -33,7 +33,8 @@ enough r c e =
     let r₅ = lowest-none 4 (ltb (c .orderLent) (cellCount r)) _ (omega arith) (r₄ .1) in
     (ltb-false _ _ (r₃ .0), ltb-false _ _ (r₄ .0), ltb-false _ _ (r₅ .0))
 
-module _ (kernel : Kernel) (fit : Fit kernel) (r : ℕ) (big : 2 ≤ 2 ^ r) (power : powerOf (2 ^ r) ≡ r) (t : Halftone) (sheet : Sheet r t) (p : List ℤ) (s o : List ℕ) (c : Call) where
+module _ (knit : ℕ) (known : knit ≤ 1) (r : ℕ) (big : 2 ≤ 2 ^ r) (power : powerOf (2 ^ r) ≡ r)
+    (t : Halftone) (sheet : Sheet r t) (p : List ℤ) (s o : List ℕ) (c : Call) where
   -- the parts lent
   abbrev lentPyramid : List ℤ
   lentPyramid = take (c .pyramidLent) (t .pyramid ++ p)
@@ -60,10 +61,12 @@ module _ (kernel : Kernel) (fit : Fit kernel) (r : ℕ) (big : 2 ≤ 2 ^ r) (pow
       }
 
   -- the call is refused exactly as the model refuses it
-  refusal-same : advanceRefusal r (length lentPyramid) (length lentSerials) (length lentOrder) (isSound r lentSheet) ≡ modelRefusal r c
+  refusal-same : advanceRefusal r knit (length lentPyramid) (length lentSerials) (length lentOrder)
+      (isSound r lentSheet) ≡ modelRefusal r c
   unfolding advanceRefusal modelRefusal lowest
   refusal-same =
       rw (
+        le-ltb 1 knit known,
         ne-eqb r 0 (λ z. omega (arith, ap (λ (n : ℕ). 2 ^ n) z)),
         lent-test (t .pyramid ++ p) (c .pyramidLent) (needed r) (omega (arith, length-append (t .pyramid) p, sheet .sized .pyramid)),
         lent-test (t .serials ++ s) (c .serialsLent) (cellCount r) (omega (arith, length-append (t .serials) s, sheet .sized .serials)),
@@ -81,37 +84,50 @@ module _ (kernel : Kernel) (fit : Fit kernel) (r : ℕ) (big : 2 ≤ 2 ^ r) (pow
           rw e
 
   abbrev given : Progress
-  given = record { side = 2 ^ r; dots = t .dots }
+  given = record { side = 2 ^ r; dots = t .dots; knit = knit }
 
   abbrev outcome : AdvanceOutcome
-  outcome = advanceOf kernel given (c .budget) lentPyramid lentSerials lentOrder
+  outcome = advanceOf given (c .budget) lentPyramid lentSerials lentOrder
 
-  outcome-taken : modelRefusal r c ≡ 0 → outcome ≡ advanced kernel r given (c .budget) lentPyramid lentSerials lentOrder
+  outcome-taken : modelRefusal r c ≡ 0
+      → outcome ≡ advanced r given (c .budget) lentPyramid lentSerials lentOrder
   outcome-taken e =
-      unfold advanceOf in rw (power, refusal-same ∙ e, advanceOf) (ap (λ (k : ℕ). advanced kernel k given (c .budget) lentPyramid lentSerials lentOrder) power)
+      unfold advanceOf in
+      rw (power, refusal-same ∙ e, advanceOf)
+      (ap (λ (k : ℕ). advanced k given (c .budget) lentPyramid lentSerials lentOrder) power)
 
   outcome-refused : (n : ℕ) → modelRefusal r c ≡ suc n
       → outcome ≡ record { reply = record { progress = given; made = 0; said = refused (suc n) }; pyramid = lentPyramid; serials = lentSerials; order = lentOrder }
   outcome-refused n e = unfold advanceOf in rw (power, refusal-same ∙ e, advanceOf)
 
   -- the model's part of it: what the steps made, and how far the number of dots rose
-  pub model-taken : modelRefusal r c ≡ 0 → modelCall kernel r t c ≡ steps kernel r (c .budget) t
+  pub model-taken : modelRefusal r c ≡ 0 → modelCall knit r t c ≡ steps (kernelOf knit) r (c .budget) t
   model-taken e = unfold modelCall in rw (e, modelCall)
 
-  pub model-refused : (n : ℕ) → modelRefusal r c ≡ suc n → modelCall kernel r t c ≡ t
+  pub model-refused : (n : ℕ) → modelRefusal r c ≡ suc n → modelCall knit r t c ≡ t
   model-refused n e = unfold modelCall in rw (e, modelCall)
 
-  pub reply-taken : modelRefusal r c ≡ 0 → modelReply kernel r t c
-      ≡ record { progress = record { side = 2 ^ r; dots = steps kernel r (c .budget) t .dots }; made = min (c .budget) (dotsDue (topOf (t .pyramid))); said = saidAt (topOf (steps kernel r (c .budget) t .pyramid)) }
+  pub reply-taken : modelRefusal r c ≡ 0 → modelReply knit r t c
+      ≡ record {
+        progress = record
+            { side = 2 ^ r; dots = steps (kernelOf knit) r (c .budget) t .dots; knit = knit };
+        made = min (c .budget) (dotsDue (topOf (t .pyramid)));
+        said = saidAt (topOf (steps (kernelOf knit) r (c .budget) t .pyramid));
+      }
   unfolding modelReply
   reply-taken e =
       rw (e, model-taken e)
-      (λ i. record { progress = record { side = 2 ^ r; dots = steps kernel r (c .budget) t .dots }; made = made-is i; said = saidAt (topOf (steps kernel r (c .budget) t .pyramid)) })
+      (λ i. record {
+        progress = record { side = 2 ^ r; dots = steps (kernelOf knit) r (c .budget) t .dots; knit = knit };
+        made = made-is i;
+        said = saidAt (topOf (steps (kernelOf knit) r (c .budget) t .pyramid));
+      })
     where
-      made-is : steps kernel r (c .budget) t .dots - t .dots ≡ min (c .budget) (dotsDue (topOf (t .pyramid)))
-      made-is = omega (arith, steps-made kernel fit r big (c .budget) t sheet)
+      made-is : steps (kernelOf knit) r (c .budget) t .dots - t .dots ≡ min (c .budget) (dotsDue (topOf (t .pyramid)))
+      made-is = omega (arith, steps-made (kernelOf knit) (knit-fit knit) r big (c .budget) t sheet)
 
-  pub reply-refused : (n : ℕ) → modelRefusal r c ≡ suc n → modelReply kernel r t c ≡ record { progress = given; made = 0; said = refused (suc n) }
+  pub reply-refused : (n : ℕ) → modelRefusal r c ≡ suc n
+      → modelReply knit r t c ≡ record { progress = given; made = 0; said = refused (suc n) }
   unfolding modelReply
   reply-refused n e = rw (e, model-refused n e) (λ i. record { progress = given; made = none i; said = refused (suc n) })
     where
@@ -120,23 +136,38 @@ module _ (kernel : Kernel) (fit : Fit kernel) (r : ℕ) (big : 2 ≤ 2 ^ r) (pow
 
   -- one call: its reply is the model's, and the buffers begin with the model's sheet
   abbrev expected : AdvanceOutcome
-  expected = record { reply = modelReply kernel r t c; pyramid = modelCall kernel r t c .pyramid ++ p; serials = modelCall kernel r t c .serials ++ s; order = modelCall kernel r t c .order ++ o }
+  expected = record {
+    reply = modelReply knit r t c;
+    pyramid = modelCall knit r t c .pyramid ++ p;
+    serials = modelCall knit r t c .serials ++ s;
+    order = modelCall knit r t c .order ++ o;
+  }
 
-  call-taken : modelRefusal r c ≡ 0 → callOf kernel (heldOf r t p s o) c ≡ expected
+  call-taken : modelRefusal r c ≡ 0 → callOf (heldOf knit r t p s o) c ≡ expected
   unfolding callOf advanced
   call-taken e =
       let h = enough r c e in
-      let done = steps kernel r (c .budget) t in
-      rw (outcome-taken e, sheet-lent h, steps-min kernel fit r big (c .budget) t sheet, reply-taken e, model-taken e)
+      let done = steps (kernelOf knit) r (c .budget) t in
+      rw (
+        outcome-taken e,
+        sheet-lent h,
+        steps-min (kernelOf knit) (knit-fit knit) r big (c .budget) t sheet,
+        reply-taken e,
+        model-taken e,
+      )
       (λ i.
       record {
-        reply = record { progress = record { side = 2 ^ r; dots = done .dots }; made = min (c .budget) (dotsDue (topOf (t .pyramid))); said = saidAt (topOf (done .pyramid)) };
+        reply = record {
+          progress = record { side = 2 ^ r; dots = done .dots; knit = knit };
+          made = min (c .budget) (dotsDue (topOf (t .pyramid)));
+          said = saidAt (topOf (done .pyramid));
+        };
         pyramid = lent-back (t .pyramid) (done .pyramid) p (needed r) (c .pyramidLent) (sheet .sized .pyramid) (h .0) i;
         serials = lent-back (t .serials) (done .serials) s (cellCount r) (c .serialsLent) (sheet .sized .serials) (h .1) i;
         order = lent-back (t .order) (done .order) o (cellCount r) (c .orderLent) (sheet .sized .order) (h .2) i;
       })
 
-  call-refused : (n : ℕ) → modelRefusal r c ≡ suc n → callOf kernel (heldOf r t p s o) c ≡ expected
+  call-refused : (n : ℕ) → modelRefusal r c ≡ suc n → callOf (heldOf knit r t p s o) c ≡ expected
   unfolding callOf
   call-refused n e =
       rw (outcome-refused n e, reply-refused n e, model-refused n e)
@@ -148,19 +179,25 @@ module _ (kernel : Kernel) (fit : Fit kernel) (r : ℕ) (big : 2 ≤ 2 ^ r) (pow
         order = take-append-drop (c .orderLent) (t .order ++ o) i;
       })
 
-  pub call-same : callOf kernel (heldOf r t p s o) c ≡ expected
+  pub call-same : callOf (heldOf knit r t p s o) c ≡ expected
   call-same = go (modelRefusal r c) refl
     where
-      go : (k : ℕ) → modelRefusal r c ≡ k → callOf kernel (heldOf r t p s o) c ≡ expected
+      go : (k : ℕ) → modelRefusal r c ≡ k → callOf (heldOf knit r t p s o) c ≡ expected
       go zero e = call-taken e
       go (suc n) e = call-refused n e
 
-  reply-progress : modelReply kernel r t c .progress ≡ record { side = 2 ^ r; dots = modelCall kernel r t c .dots }
+  reply-progress : modelReply knit r t c .progress
+      ≡ record { side = 2 ^ r; dots = modelCall knit r t c .dots; knit = knit }
   unfolding modelReply
   reply-progress = refl
 
-  pub held-same : heldAfter (callOf kernel (heldOf r t p s o) c) ≡ heldOf r (modelCall kernel r t c) p s o
+  pub held-same : heldAfter (callOf (heldOf knit r t p s o) c) ≡ heldOf knit r (modelCall knit r t c) p s o
   unfolding heldAfter
   held-same =
       rw call-same
-      (λ i. record { progress = reply-progress i; pyramid = modelCall kernel r t c .pyramid ++ p; serials = modelCall kernel r t c .serials ++ s; order = modelCall kernel r t c .order ++ o })
+      (λ i. record {
+        progress = reply-progress i;
+        pyramid = modelCall knit r t c .pyramid ++ p;
+        serials = modelCall knit r t c .serials ++ s;
+        order = modelCall knit r t c .order ++ o;
+      })

@@ -154,22 +154,23 @@ module _ (r : ℕ) (values rest : List ℕ) (enough : cellCount r ≤ length val
 
 -- ---- Load
 -- what an accepted Load was lent
-pub record Loaded (side : ℕ) (greys : List ℕ) (pyramid : List ℤ) (serials order : List ℕ) : Type 0 where
-  pub none : loadRefusal (powerOf side) (length greys) (length pyramid) (length serials) (length order) ≡ 0
-  pub lent : LoadLent (powerOf side) (length greys) (length pyramid) (length serials) (length order)
+pub record Loaded (side knit : ℕ) (greys : List ℕ) (pyramid : List ℤ) (serials order : List ℕ) : Type 0 where
+  pub none : loadRefusal (powerOf side) knit (length greys) (length pyramid) (length serials) (length order) ≡ 0
+  pub lent : LoadLent (powerOf side) knit (length greys) (length pyramid) (length serials) (length order)
   pub side-is : side ≡ 2 ^ powerOf side
 
-module _ (side : ℕ) (greys : List ℕ) (pyramid : List ℤ) (serials order : List ℕ) where
+module _ (side knit : ℕ) (greys : List ℕ) (pyramid : List ℤ) (serials order : List ℕ) where
   abbrev refusal : ℕ
-  refusal = loadRefusal (powerOf side) (length greys) (length pyramid) (length serials) (length order)
+  refusal = loadRefusal (powerOf side) knit (length greys) (length pyramid) (length serials) (length order)
 
-  pub accepted-loaded : Accepted side greys pyramid serials order → Loaded side greys pyramid serials order
+  pub accepted-loaded : Accepted side knit greys pyramid serials order → Loaded side knit greys pyramid serials order
   accepted-loaded h =
       let z = go refusal refl in
-      let l = load-none (powerOf side) (length greys) (length pyramid) (length serials) (length order) .0 z in
+      let l = load-none (powerOf side) knit (length greys) (length pyramid) (length serials) (length order) .0 z in
       record { none = z; lent = l; side-is = side-pow side (l .power) }
     where
-      said-no : (n : ℕ) → refusal ≡ suc n → loadOf side greys pyramid serials order .said ≡ refused (suc n)
+      said-no : (n : ℕ) → refusal ≡ suc n
+          → loadOf side knit greys pyramid serials order .said ≡ refused (suc n)
       said-no n e = unfold loadOf in rw (e, loadOf)
 
       go : (k : ℕ) → refusal ≡ k → refusal ≡ 0
@@ -177,15 +178,16 @@ module _ (side : ℕ) (greys : List ℕ) (pyramid : List ℤ) (serials order : L
       go (suc n) e = let s = said-no n e in let t = h .said in let z : _≡_ {A = ℕ} 0 1 = cc in absurd (omega arith)
 
   -- it leaves the model's start in front of what lay past the needed lengths
-  pub loaded-held : Loaded side greys pyramid serials order → heldAfterLoad side greys pyramid serials order
-      ≡ heldOf (powerOf side) (modelStart (powerOf side) greys) (drop (needed (powerOf side)) pyramid) (drop (cellCount (powerOf side)) serials) (drop (cellCount (powerOf side)) order)
+  pub loaded-held : Loaded side knit greys pyramid serials order → heldAfterLoad side knit greys pyramid serials order
+      ≡ heldOf knit (powerOf side) (modelStart (powerOf side) greys) (drop (needed (powerOf side)) pyramid)
+      (drop (cellCount (powerOf side)) serials) (drop (cellCount (powerOf side)) order)
   unfolding heldAfterLoad loadOf loaded modelStart
   loaded-held h =
       let fresh = modelStart (powerOf side) greys in
       rw (h .none, loadOf)
       (λ i.
       record {
-        progress = record { side = h .side-is i; dots = 0 };
+        progress = record { side = h .side-is i; dots = 0; knit = knit };
         pyramid = fresh .pyramid ++ drop (needed (powerOf side)) pyramid;
         serials = fresh .serials ++ drop (cellCount (powerOf side)) serials;
         order = fresh .order ++ drop (cellCount (powerOf side)) order;

@@ -14,7 +14,7 @@ use Rattle.definition.specs.Lists.{sumTo}
 use Rattle.definition.specs.Answers.{finished}
 use Rattle.definition.specs.Pyramid.{cellCount, cellNumber, needed}
 use Rattle.definition.specs.Blocks.{greyAt, burnt, burntAt, greySum, greyTotal, totalOf, dotsIn, allDots}
-use Rattle.definition.specs.Diffusion.{Kernel, plain}
+use Rattle.definition.specs.Diffusion.{kernelOf}
 use Rattle.definition.specs.Model.{Halftone, topOf, modelStart}
 use Rattle.definition.specs.Refusals.{powerOf}
 use Rattle.definition.specs.Advance.{dotsDue}
@@ -24,7 +24,7 @@ use Rattle.integers.specs.Sums.{sumTo-rows, sumTo-ext}
 use Rattle.refusals.specs.Powers.{power-small}
 use Rattle.quadtree.specs.Areas.{span, area, area-ext, block-area}
 use Rattle.quadtree.specs.Levels.{start-suc, cell-lt, block-side, block-on-map}
-use Rattle.shares.specs.Kernels.{Fit, plain-fit}
+use Rattle.shares.specs.Kernels.{knit-fit}
 use Rattle.dots.specs.Steps.{Sheet, steps-keep}
 use Rattle.guarantee.specs.Demand3.{Each, EachBlock, Accepted, UnderCap, Ends, Holds, Demand3}
 use Rattle.guarantee.specs.Floor.{floor}
@@ -72,7 +72,8 @@ grey-area : (r : ℕ) (greys : List ℕ) (j k a b : ℕ) → j + k ≡ r → gre
 unfolding greySum
 grey-area r greys j k a b e = block-area r (greyAt r greys) k a b ∙ rw (block-side r j k e)
 
-module _ (kernel : Kernel) (fit : Fit kernel) (r : ℕ) (big : 2 ≤ 2 ^ r) (power : powerOf (2 ^ r) ≡ r) (greys : List ℕ) (bytes : Each (λ grey. grey ≤ 255) greys) where
+module _ (knit : ℕ) (known : knit ≤ 1) (r : ℕ) (big : 2 ≤ 2 ^ r) (power : powerOf (2 ^ r) ≡ r)
+    (greys : List ℕ) (bytes : Each (λ grey. grey ≤ 255) greys) where
   abbrev fresh : Halftone
   fresh = modelStart r greys
 
@@ -86,41 +87,49 @@ module _ (kernel : Kernel) (fit : Fit kernel) (r : ℕ) (big : 2 ≤ 2 ^ r) (pow
   due-total = start-due r greys bytes
 
   -- ---- each call says finished exactly if all dots are made
-  ends-one : (p : List ℤ) (s o : List ℕ) (t : Halftone) → Sheet r t → (c : Call) → t .dots + dotsDue (topOf (t .pyramid)) ≡ total → Ends r total (callOf kernel (heldOf r t p s o) c)
-  ends-one p s o t sheet c h = rw (call-same kernel fit r big power t sheet p s o c) ends
+  ends-one : (p : List ℤ) (s o : List ℕ) (t : Halftone) → Sheet r t → (c : Call)
+      → t .dots + dotsDue (topOf (t .pyramid)) ≡ total → Ends r total (callOf (heldOf knit r t p s o) c)
+  ends-one p s o t sheet c h = rw (call-same knit known r big power t sheet p s o c) ends
     where
       after : Halftone
-      after = modelCall kernel r t c
+      after = modelCall knit r t c
 
-      made : allDots r (modelCall kernel r t c .serials ++ s) ≡ modelCall kernel r t c .dots
-      made = all-dots-is r (modelCall kernel r t c) (call-sheet kernel fit r big power t sheet c) s
+      made : allDots r (modelCall knit r t c .serials ++ s) ≡ modelCall knit r t c .dots
+      made = all-dots-is r (modelCall knit r t c) (call-sheet knit known r big power t sheet c) s
 
-      ends : isRefusal (modelReply kernel r t c .said) ≡ false → (modelReply kernel r t c .said ≡ finished) ↔ (allDots r (modelCall kernel r t c .serials ++ s) ≡ total)
+      ends : isRefusal (modelReply knit r t c .said) ≡ false → (modelReply knit r t c .said ≡ finished)
+          ↔ (allDots r (modelCall knit r t c .serials ++ s) ≡ total)
       ends e =
-          let f = reply-finished kernel fit r big power t sheet c e in
-          let d = call-due kernel fit r big power t sheet c in
+          let f = reply-finished knit known r big power t sheet c e in
+          let d = call-due knit known r big power t sheet c in
           ((λ x. omega (arith, f .0 x, d, made)), (λ x. f .1 (omega (arith, d, made))))
 
-  ends-all : (p : List ℤ) (s o : List ℕ) (cs : List Call) (t : Halftone) → Sheet r t → t .dots + dotsDue (topOf (t .pyramid)) ≡ total → Each (Ends r total) (outcomesOf kernel (heldOf r t p s o) cs)
+  ends-all : (p : List ℤ) (s o : List ℕ) (cs : List Call) (t : Halftone) → Sheet r t
+      → t .dots + dotsDue (topOf (t .pyramid)) ≡ total
+      → Each (Ends r total) (outcomesOf (heldOf knit r t p s o) cs)
   unfolding outcomesOf
   ends-all p s o [] t sheet h = tt
   ends-all p s o (c ∷ cs) t sheet h = (
     ends-one p s o t sheet c h,
-    rw (held-same kernel fit r big power t sheet p s o c)
-        (ends-all p s o cs (modelCall kernel r t c) (call-sheet kernel fit r big power t sheet c) (call-due kernel fit r big power t sheet c ∙ h)),
+    rw (held-same knit known r big power t sheet p s o c)
+        (ends-all p s o cs (modelCall knit r t c) (call-sheet knit known r big power t sheet c)
+        (call-due knit known r big power t sheet c ∙ h)),
   )
 
   module _ (cs : List Call) (lentPyramid : List ℤ) (lentSerials lentOrder : List ℕ) where
     abbrev last : Halftone
-    last = modelAfterCalls kernel r fresh cs
+    last = modelAfterCalls knit r fresh cs
 
     sheet : Sheet r last
-    sheet = calls-sheet kernel fit r big power cs fresh (start-sheet r greys bytes)
+    sheet = calls-sheet knit known r big power cs fresh (start-sheet r greys bytes)
 
     capped : Capped r greys last
     capped =
-        calls-keep kernel fit r big power (Capped r greys)
-        (λ n t sheet h. steps-keep kernel fit r big (Capped r greys) (λ u sheet due k. capped-kept kernel fit r big greys u sheet due k) n t sheet h) cs fresh (start-sheet r greys bytes) (start-capped r greys bytes)
+        calls-keep knit known r big power (Capped r greys)
+        (λ n t sheet h. steps-keep (kernelOf knit) (knit-fit knit) r big (Capped r greys)
+        (λ u sheet due k. capped-kept (kernelOf knit)
+        (knit-fit knit) r big greys u sheet due k) n t sheet h) cs fresh (start-sheet r greys bytes)
+        (start-capped r greys bytes)
 
     abbrev p : List ℤ
     p = drop (needed r) lentPyramid
@@ -158,25 +167,28 @@ module _ (kernel : Kernel) (fit : Fit kernel) (r : ℕ) (big : 2 ≤ 2 ^ r) (pow
     -- on a finished map all dots are made
     all-made : 2 * greyTotal r greys < 510 * last .dots + 255 → allDots r (last .serials ++ s) ≡ total
     all-made h =
-        let number = calls-number kernel fit r big power cs fresh (start-sheet r greys bytes) in
+        let number = calls-number knit known r big power cs fresh (start-sheet r greys bytes) in
         omega (arith, all-dots-is r last sheet s, number, no-dots, due-total)
 
-    pub holds : Holds kernel r (greyTotal r greys) greys lentPyramid lentSerials lentOrder cs (heldOf r last p s o) (outcomesOf kernel (heldOf r fresh p s o) cs) (repliesOf kernel (heldOf r fresh p s o) cs) last (modelReplies kernel r fresh cs)
+    pub holds :
+        Holds knit r (greyTotal r greys) greys lentPyramid lentSerials lentOrder cs (heldOf knit r last p s o)
+        (outcomesOf (heldOf knit r fresh p s o) cs) (repliesOf (heldOf knit r fresh p s o) cs)
+        last (modelReplies knit r fresh cs)
     holds =
         record {
           pyramid = take-at (last .pyramid) p (needed r) (sheet .sized .pyramid);
           serials = take-at (last .serials) s (cellCount r) (sheet .sized .serials);
           order = take-at (last .order) o (cellCount r) (sheet .sized .order);
           progress = refl;
-          answered = calls-replies kernel fit r big power p s o cs fresh (start-sheet r greys bytes);
+          answered = calls-replies knit known r big power p s o cs fresh (start-sheet r greys bytes);
           pyramid-rest = drop-at (last .pyramid) p (needed r) (sheet .sized .pyramid);
           serials-rest = drop-at (last .serials) s (cellCount r) (sheet .sized .serials);
           order-rest = drop-at (last .order) o (cellCount r) (sheet .sized .order);
-          first-dots = calls-first kernel fit r big power cs fresh (start-sheet r greys bytes) no-dots;
+          first-dots = calls-first knit known r big power cs fresh (start-sheet r greys bytes) no-dots;
           all-dots = all-dots-is r last sheet s;
           number =
-              rw (calls-replies kernel fit r big power p s o cs fresh (start-sheet r greys bytes))
-              (let number = calls-number kernel fit r big power cs fresh (start-sheet r greys bytes) in
+              rw (calls-replies knit known r big power p s o cs fresh (start-sheet r greys bytes))
+              (let number = calls-number knit known r big power cs fresh (start-sheet r greys bytes) in
               omega (arith, number, no-dots, due-total));
           once = λ i j h k e. different i j h k (sym (at-order i (omega arith)) ∙ e ∙ at-order j k);
           cap = capped-blocks;
@@ -193,18 +205,19 @@ module _ (kernel : Kernel) (fit : Fit kernel) (r : ℕ) (big : 2 ≤ 2 ^ r) (pow
           ends = ends-all p s o cs fresh (start-sheet r greys bytes) due-total;
         }
 
--- Demand 3, for every table of weights that is fit ..
-pub demand-3-for : (kernel : Kernel) → Fit kernel → (side : ℕ) (greys : List ℕ) (pyramid : List ℤ) (serials order : List ℕ)
-    → Accepted side greys pyramid serials order → (calls : List Call) → Demand3 kernel side greys pyramid serials order calls
-demand-3-for kernel fit side greys pyramid serials order accepted calls =
-    let h = accepted-loaded side greys pyramid serials order accepted in
+-- Demand 3, for either knit
+pub demand-3 : (side knit : ℕ) (greys : List ℕ) (pyramid : List ℤ) (serials order : List ℕ)
+    → Accepted side knit greys pyramid serials order → (calls : List Call)
+    → Demand3 side knit greys pyramid serials order calls
+demand-3 side knit greys pyramid serials order accepted calls =
+    let h = accepted-loaded side knit greys pyramid serials order accepted in
     let r = powerOf side in
+    let known = h .lent .known in
     let big : 2 ≤ 2 ^ r = pow-mono {i = 1} {j = r} (h .lent .power) in
     let power : powerOf (2 ^ r) ≡ r = ap powerOf (sym (h .side-is)) in
-    rw (loaded-held side greys pyramid serials order h, calls-held kernel fit r big power (drop (needed r) pyramid) (drop (cellCount r) serials) (drop (cellCount r) order) calls (modelStart r greys) (start-sheet r greys (accepted .bytes)))
-    (holds kernel fit r big power greys (accepted .bytes) calls pyramid serials order)
-
--- .. and so for document 01's
-pub demand-3 : (side : ℕ) (greys : List ℕ) (pyramid : List ℤ) (serials order : List ℕ)
-    → Accepted side greys pyramid serials order → (calls : List Call) → Demand3 plain side greys pyramid serials order calls
-demand-3 = demand-3-for plain plain-fit
+    rw (
+      loaded-held side knit greys pyramid serials order h,
+      calls-held knit known r big power (drop (needed r) pyramid) (drop (cellCount r) serials)
+          (drop (cellCount r) order) calls (modelStart r greys) (start-sheet r greys (accepted .bytes)),
+    )
+    (holds knit known r big power greys (accepted .bytes) calls pyramid serials order)

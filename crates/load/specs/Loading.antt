@@ -18,24 +18,38 @@ use Rattle.checks.specs.Checks.{checked, passed-none, failed-number}
 use Rattle.checks.specs.declared.Check.{Check}
 use Rattle.checks.specs.declared.Check.the-variants.{Passed, Failed}
 use Rattle.pyramid.specs.Asked.{freshPyramid}
-use Rattle.fresh_sheet.specs.Filling.{FillLent, Filled}
+use Rattle.fresh_sheet.specs.Filling.{FillLent, fill-lent, Filled}
 
-module _ (side : ℕ) {r : ℕ} (er : r ≡ powerOf side) (g : List ℕ) (p : List ℤ) (s o : List ℕ) (check : Check)
-    (e : checked check ≡ loadRefusal r (length g) (length p) (length s) (length o)) where
-  pub refused-is : {why : Refusal} {a : LoadAnswer} → check ≡ Failed why → a ≡ record { progress = record { side = 0; dots = 0 }; status = Refused why }
-      → record { progress = a .progress; said = loadSays (a .status); pyramid = p; serials = s; order = o } ≡ loadOf side g p s o
+module _ (side knit : ℕ) {r : ℕ} (er : r ≡ powerOf side) (g : List ℕ) (p : List ℤ) (s o : List ℕ)
+    (check : Check)
+    (e : checked check ≡ loadRefusal r knit (length g) (length p) (length s) (length o)) where
+  pub refused-is : {why : Refusal} {a : LoadAnswer} → check ≡ Failed why
+      → a ≡ record { progress = record { side = 0; dots = 0; knit = 0 }; status = Refused why }
+      → record { progress = a .progress; said = loadSays (a .status); pyramid = p; serials = s; order = o }
+      ≡ loadOf side knit g p s o
   unfolding loadOf loadSays
   refused-is {why} failed ea =
-      let n : loadRefusal (powerOf side) (length g) (length p) (length s) (length o) ≡ suc (numberOf why - 1) = rw (← er) (failed-number check e why failed) in
+      let n : loadRefusal (powerOf side) knit (length g) (length p) (length s) (length o) ≡ suc (numberOf why - 1) =
+      rw (← er) (failed-number check e why failed) in
       rw (ea, n, loadOf, ← number-positive why)
 
   module _ (passed : check ≡ Passed) where
-    pub fill-lent : FillLent r (length g) (length p) (length s) (length o)
-    fill-lent = record { small = power-small side er; lent = load-none r (length g) (length p) (length s) (length o) .0 (passed-none check e passed) }
+    pub room : FillLent r (length g) (length p) (length s) (length o)
+    room =
+        fill-lent (power-small side er)
+        (load-none r knit (length g) (length p) (length s) (length o) .0 (passed-none check e passed))
 
-    pub loaded-is : {p′ : List ℤ} {s′ o′ : List ℕ} {a : LoadAnswer} → Filled r g p s o p′ s′ o′ → a ≡ record { progress = record { side = side; dots = 0 }; status = Loaded }
-        → record { progress = a .progress; said = loadSays (a .status); pyramid = p′; serials = s′; order = o′ } ≡ loadOf side g p s o
+    pub loaded-is : {p′ : List ℤ} {s′ o′ : List ℕ} {a : LoadAnswer} → Filled r g p s o p′ s′ o′
+        → a ≡ record { progress = record { side = side; dots = 0; knit = knit }; status = Loaded }
+        → record {
+          progress = a .progress;
+          said = loadSays (a .status);
+          pyramid = p′;
+          serials = s′;
+          order = o′;
+        } ≡ loadOf side knit g p s o
     unfolding loadOf loaded modelStart loadSays freshPyramid
     loaded-is f ea =
-        let z : loadRefusal (powerOf side) (length g) (length p) (length s) (length o) ≡ 0 = rw (← er) (passed-none check e passed) in
+        let z : loadRefusal (powerOf side) knit (length g) (length p) (length s) (length o) ≡ 0 =
+        rw (← er) (passed-none check e passed) in
         rw (f .pyramid, f .serials, f .order, ea, er, z, loadOf)

@@ -1,46 +1,56 @@
-// Load: "fills the pyramid from the greys, sets the N² places of both other buffers to 0 and returns the record (N, 0)".
+// Load: the pyramid summed from the greys, the two other buffers cleared, and the record (side, 0, knit).
 use checks::Check;
 use definition::LoadAnswer;
 use definition::LoadStatus;
 use definition::Progress;
-use definition::Refusal;
 ghost use mathlib.Core.Path.{_≡_};
 ghost use Rattle.definition.specs.Answers.{loadSays};
 ghost use Rattle.definition.specs.Load.{loadOf};
 
-fn refused(why: Refusal) -> LoadAnswer
-    ensures { λ a. ⌜ a ≡ record { progress = record { side = 0; dots = 0 }; status = LoadStatus.Refused why } ⌝ }
+// A record without dots, and what is said with it.
+fn answer(side: u32, knit: u32, status: LoadStatus) -> LoadAnswer
+    ensures { λ a. ⌜ a ≡ record { progress = record { side = side; dots = 0; knit = knit }; status = status } ⌝ }
 {
+    let dots = 0;
     LoadAnswer {
-        progress: Progress { side: 0, dots: 0 },
-        status: LoadStatus::Refused(why),
-    }
-}
-
-fn loaded(side: u32) -> LoadAnswer
-    ensures { λ a. ⌜ a ≡ record { progress = record { side = side; dots = 0 }; status = LoadStatus.Loaded } ⌝ }
-{
-    LoadAnswer {
-        progress: Progress { side, dots: 0 },
-        status: LoadStatus::Loaded,
+        progress: Progress { side, dots, knit },
+        status,
     }
 }
 
 pub fn load(
     side: u32,
+    knit: u32,
     greys: &[u8],
     pyramid: &mut [i64],
     serials: &mut [u32],
     order: &mut [u32],
 ) -> LoadAnswer
-    ensures { λ a. ⌜ record { progress = a .progress; said = loadSays (a .status); pyramid = now (pyramid .exit); serials = now (serials .exit); order = now (order .exit) } ≡ loadOf side (now (greys .entry)) (now (pyramid .entry)) (now (serials .entry)) (now (order .entry)) ⌝ }
+    ensures { λ a. ⌜
+        record {
+          progress = a .progress;
+          said = loadSays (a .status);
+          pyramid = now (pyramid .exit);
+          serials = now (serials .exit);
+          order = now (order .exit);
+        }
+        ≡ loadOf side knit
+        (now (greys .entry)) (now (pyramid .entry)) (now (serials .entry)) (now (order .entry))
+        ⌝ }
 {
     let r = sizes::power_of(side);
-    match fresh_sheet::check_load(r, greys.len(), pyramid.len(), serials.len(), order.len()) {
-        Check::Failed(why) => refused(why),
+    match fresh_sheet::check_load(
+        r,
+        knit,
+        greys.len(),
+        pyramid.len(),
+        serials.len(),
+        order.len(),
+    ) {
+        Check::Failed(why) => answer(0, 0, LoadStatus::Refused(why)),
         Check::Passed => {
             fresh_sheet::fill(r, greys, pyramid, serials, order);
-            loaded(side)
+            answer(side, knit, LoadStatus::Loaded)
         }
     }
 }

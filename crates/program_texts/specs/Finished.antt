@@ -10,7 +10,7 @@ use lib.IntN.{ℤ}
 use borrow.Author.Tests.{le-ltb}
 use Rattle.definition.specs.Answers.{Said}
 use Rattle.definition.specs.Pyramid.{needed, cellCount}
-use Rattle.definition.specs.Diffusion.{plain}
+use Rattle.definition.specs.Diffusion.{plain, kernelOf}
 use Rattle.definition.specs.Model.{Halftone, topOf, modelStart, steps}
 use Rattle.definition.specs.Refusals.{powerOf, lowest}
 use Rattle.definition.specs.Load.{loadOf}
@@ -20,7 +20,7 @@ use Rattle.definition.specs.Plate.{finishedOf}
 use Rattle.definition.specs.declared.Progress.{Progress}
 use Rattle.refusals.specs.Powers.{side-pow}
 use Rattle.refusals.specs.Lowest.{LoadLent, load-none}
-use Rattle.shares.specs.Kernels.{plain-fit}
+use Rattle.shares.specs.Kernels.{knit-fit}
 use Rattle.dots.specs.Steps.{Sheet, steps-sheet, steps-made, steps-min}
 use Rattle.guarantee.specs.Lent.{heldOf}
 use Rattle.guarantee.specs.OneCall.{model-taken, held-same}
@@ -28,12 +28,13 @@ use Rattle.guarantee.specs.Start.{Loaded, loaded-held}
 
 -- the finished sheet of a map, in buffers that went on behind the needed lengths as p, s and o do
 abbrev pub finishedIn : ℕ → List ℕ → List ℤ → List ℕ → List ℕ → Held
-finishedIn r greys p s o = heldOf r (finishedOf plain r greys) (drop (needed r) p) (drop (cellCount r) s) (drop (cellCount r) o)
+finishedIn r greys p s o =
+    heldOf plain r (finishedOf plain r greys) (drop (needed r) p) (drop (cellCount r) s) (drop (cellCount r) o)
 
 -- a side of at most 32, greys from which the model starts with a sound sheet, and the lengths of the three buffers
 pub record MapAsked (side : ℕ) (greys : List ℕ) (pyramid serials order : ℕ) : Type 0 where
   pub few : cellCount (powerOf side) ≤ 1024
-  pub lent : LoadLent (powerOf side) (length greys) pyramid serials order
+  pub lent : LoadLent (powerOf side) plain (length greys) pyramid serials order
   pub start : Sheet (powerOf side) (modelStart (powerOf side) greys)
 
 pub power-again : (side : ℕ) → 0 < powerOf side → powerOf (2 ^ powerOf side) ≡ powerOf side
@@ -47,17 +48,20 @@ module _ (r : ℕ) (big : 2 ≤ 2 ^ r) (greys : List ℕ) (start : Sheet r (mode
   due-few : due ≤ cellCount r
   due-few =
       let fresh = modelStart r greys in
-      omega (arith, steps-made plain plain-fit r big due fresh start, steps-sheet plain plain-fit r big due fresh start .sound .few-dots)
+      let made = steps-made (kernelOf plain) (knit-fit plain) r big due fresh start in
+      omega (arith, made, steps-sheet (kernelOf plain) (knit-fit plain) r big due fresh start .sound .few-dots)
 
-  finished-steps : (budget : ℕ) → cellCount r ≤ budget → steps plain r budget (modelStart r greys) ≡ finishedOf plain r greys
+  finished-steps : (budget : ℕ) → cellCount r ≤ budget
+      → steps (kernelOf plain) r budget (modelStart r greys) ≡ finishedOf plain r greys
   unfolding finishedOf
   finished-steps budget h =
       let z : min budget due ≡ due = omega (arith, due-few) in
-      sym (steps-min plain plain-fit r big budget (modelStart r greys) start) ∙ ap (λ (n : ℕ). steps plain r n (modelStart r greys)) z
+      sym (steps-min (kernelOf plain) (knit-fit plain) r big budget (modelStart r greys) start)
+      ∙ ap (λ (n : ℕ). steps (kernelOf plain) r n (modelStart r greys)) z
 
   pub finished-sheet : Sheet r (finishedOf plain r greys)
   unfolding finishedOf
-  finished-sheet = steps-sheet plain plain-fit r big due (modelStart r greys) start
+  finished-sheet = steps-sheet (kernelOf plain) (knit-fit plain) r big due (modelStart r greys) start
 
 -- ---- a call that is lent the whole buffers
 abbrev wholeCall : Held → ℕ → Call
@@ -65,9 +69,9 @@ wholeCall held budget = record { budget = budget; pyramidLent = length (held .py
 
 -- Advance, as a call on what the caller holds
 abbrev advancedFrom : Held → ℕ → AdvanceOutcome
-advancedFrom held budget = advanceOf plain (held .progress) budget (held .pyramid) (held .serials) (held .order)
+advancedFrom held budget = advanceOf (held .progress) budget (held .pyramid) (held .serials) (held .order)
 
-call-whole : (held : Held) (budget : ℕ) → callOf plain held (wholeCall held budget) ≡ advancedFrom held budget
+call-whole : (held : Held) (budget : ℕ) → callOf held (wholeCall held budget) ≡ advancedFrom held budget
 unfolding callOf
 call-whole held budget =
     let p = held .pyramid in
@@ -91,10 +95,13 @@ module _ (r : ℕ) (some : 0 < r) (power : powerOf (2 ^ r) ≡ r) (greys : List 
   fresh = modelStart r greys
 
   abbrev call : Call
-  call = wholeCall (heldOf r fresh p s o) budget
+  call = wholeCall (heldOf plain r fresh p s o) budget
 
   big : 2 ≤ 2 ^ r
   big = pow-mono {i = 1} {j = r} some
+
+  known : plain ≤ 1
+  known = omega arith
 
   not-refused : modelRefusal r call ≡ 0
   unfolding modelRefusal lowest
@@ -105,12 +112,14 @@ module _ (r : ℕ) (some : 0 < r) (power : powerOf (2 ^ r) ≡ r) (greys : List 
         le-ltb (length (fresh .order ++ o)) (cellCount r) (omega (arith, length-append (fresh .order) o, start .sized .order)),
       )
 
-  run-held : heldAfter (advancedFrom (heldOf r fresh p s o) budget) ≡ heldOf r (finishedOf plain r greys) p s o
+  run-held : heldAfter (advancedFrom (heldOf plain r fresh p s o) budget)
+      ≡ heldOf plain r (finishedOf plain r greys) p s o
   run-held =
-      ap heldAfter (sym (call-whole (heldOf r fresh p s o) budget))
-      ∙ held-same plain plain-fit r big power fresh start p s o call
-      ∙ ap (λ (t : Halftone). heldOf r t p s o)
-      (model-taken plain plain-fit r big power fresh start p s o call not-refused ∙ finished-steps r big greys start budget enough)
+      ap heldAfter (sym (call-whole (heldOf plain r fresh p s o) budget))
+      ∙ held-same plain known r big power fresh start p s o call
+      ∙ ap (λ (t : Halftone). heldOf plain r t p s o)
+      (model-taken plain known r big power fresh start p s o call not-refused
+      ∙ finished-steps r big greys start budget enough)
 
 -- ---- Load, then Advance
 module _ (side : ℕ) (greys : List ℕ) (p : List ℤ) (s o : List ℕ) (asked : MapAsked side greys (length p) (length s) (length o)) where
@@ -120,21 +129,28 @@ module _ (side : ℕ) (greys : List ℕ) (p : List ℤ) (s o : List ℕ) (asked 
   one-of-eight : 0 < r
   one-of-eight = asked .lent .power
 
-  loaded : Loaded side greys p s o
+  loaded : Loaded side plain greys p s o
   loaded =
-      record { none = load-none r (length greys) (length p) (length s) (length o) .1 (asked .lent); lent = asked .lent; side-is = side-pow side one-of-eight }
+      record {
+        none = load-none r plain (length greys) (length p) (length s) (length o) .1 (asked .lent);
+        lent = asked .lent;
+        side-is = side-pow side one-of-eight;
+      }
 
   module _ {progress : Progress} (said : Said) {p₁ : List ℤ} {s₁ o₁ : List ℕ}
-      (e : record { progress = progress; said = said; pyramid = p₁; serials = s₁; order = o₁ } ≡ loadOf side greys p s o) where
+      (e : record { progress = progress; said = said; pyramid = p₁; serials = s₁; order = o₁ }
+      ≡ loadOf side plain greys p s o) where
     load-held : record { progress = progress; pyramid = p₁; serials = s₁; order = o₁ }
-        ≡ heldOf r (modelStart r greys) (drop (needed r) p) (drop (cellCount r) s) (drop (cellCount r) o)
-    load-held = held-after ∙ loaded-held side greys p s o loaded
+        ≡ heldOf plain r (modelStart r greys) (drop (needed r) p) (drop (cellCount r) s) (drop (cellCount r) o)
+    load-held = held-after ∙ loaded-held side plain greys p s o loaded
       where
-        held-after : record { progress = progress; pyramid = p₁; serials = s₁; order = o₁ } ≡ heldAfterLoad side greys p s o
+        held-after : record { progress = progress; pyramid = p₁; serials = s₁; order = o₁ }
+            ≡ heldAfterLoad side plain greys p s o
         held-after = unfold heldAfterLoad in rw (← e)
 
     pub map-finished : (budget : ℕ) → 1024 ≤ budget → {reply : Reply} {p₂ : List ℤ} {s₂ o₂ : List ℕ}
-        → record { reply = reply; pyramid = p₂; serials = s₂; order = o₂ } ≡ advanceOf plain progress budget p₁ s₁ o₁
+        → record { reply = reply; pyramid = p₂; serials = s₂; order = o₂ }
+        ≡ advanceOf progress budget p₁ s₁ o₁
         → record { progress = reply .progress; pyramid = p₂; serials = s₂; order = o₂ } ≡ finishedIn r greys p s o
     unfolding heldAfter
     map-finished budget h q =

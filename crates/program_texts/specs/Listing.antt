@@ -55,8 +55,10 @@ module _ (r : ℕ) (some : 0 < r) (power : powerOf (2 ^ r) ≡ r) (t : Halftone)
         dots = t .dots;
       }
 
-  not-refused : drillListRefusal r (length (t .pyramid ++ p)) (length (t .serials ++ s)) (length (t .order ++ o)) (isSound r t)
-      (length (drillText r t)) (length out)
+  not-refused :
+      drillListRefusal r plain
+      (length (t .pyramid ++ p)) (length (t .serials ++ s)) (length (t .order ++ o))
+      (isSound r t) (length (drillText r t)) (length out)
       ≡ 0
   unfolding drillListRefusal lowest
   not-refused =
@@ -69,7 +71,7 @@ module _ (r : ℕ) (some : 0 < r) (power : powerOf (2 ^ r) ≡ r) (t : Halftone)
         le-ltb (length out) (length (drillText r t)) room,
       )
 
-  sheet-listed : listedFrom (heldOf r t p s o) out ≡ printedIn (drillText r t) out
+  sheet-listed : listedFrom (heldOf plain r t p s o) out ≡ printedIn (drillText r t) out
   unfolding drillListOf
   sheet-listed = rw (power, sheet-is, not-refused)
 

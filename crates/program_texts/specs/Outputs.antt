@@ -90,6 +90,7 @@ module _ (input buffer : List ℕ) (whole : length buffer ≡ 1024) {greys : Lis
           lent =
               record {
                 power = found .1 .one-of-eight;
+                known = omega arith;
                 greys-long = omega (arith, ap length greys-are, length-append values (drop (side * side) buffer), count);
                 pyramid-long = needed-few (powerOf side) few;
                 serials-long = few;

@@ -35,6 +35,9 @@ pub struct SampleText {
     pub length: usize,
 }
 
+// The programs are for plain cloth (document 02, request 8).
+const PLAIN: u32 = 0;
+
 // The map loaded, and all its holes made.
 fn run_map(
     side: u32,
@@ -54,7 +57,7 @@ fn run_map(
         (now (pyramid .entry)) (now (serials .entry)) (now (order .entry))
         ⌝ }
 {
-    let start = load::load(side, greys, pyramid, serials, order);
+    let start = load::load(side, PLAIN, greys, pyramid, serials, order);
     let end = advance::advance(start.progress, 4294967295, pyramid, serials, order);
     end.progress
 }

@@ -14,6 +14,7 @@ use Rattle.definition.specs.declared.Refusal.the-variants.{
   OutputShort,
   InputLong,
   NameUnknown,
+  KnitUnknown,
 }
 
 pub number-positive : (why : Refusal) → numberOf why ≡ suc (numberOf why - 1)
@@ -28,3 +29,4 @@ number-positive TextMalformed = refl
 number-positive OutputShort = refl
 number-positive InputLong = refl
 number-positive NameUnknown = refl
+number-positive KnitUnknown = refl

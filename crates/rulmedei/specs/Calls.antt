@@ -18,7 +18,6 @@ use Rattle.definition.specs.Answers.{
   shelfSays,
 }
 use Rattle.definition.specs.Load.{loadOf}
-use Rattle.definition.specs.Diffusion.{plain}
 use Rattle.definition.specs.Advance.{advanceOf}
 use Rattle.definition.specs.Checkpoints.{keepOf, restoreOf}
 use Rattle.definition.specs.Survey.{tallyOf, levelsOf}
@@ -54,35 +53,60 @@ use Rattle.rulmedei.specs.Codes.{
 }
 
 -- ---- the calls that answer a record with a status
-pub load-coded : (side : ℕ) (g : List ℕ) (p : List ℤ) (s o : List ℕ) (a : LoadAnswer) {p′ : List ℤ} {s′ o′ : List ℕ}
-    → record { progress = a .progress; said = loadSays (a .status); pyramid = p′; serials = s′; order = o′ } ≡ loadOf side g p s o
+pub load-coded : (side knit : ℕ) (g : List ℕ) (p : List ℤ) (s o : List ℕ) (a : LoadAnswer)
+    {p′ : List ℤ} {s′ o′ : List ℕ}
+    → record { progress = a .progress; said = loadSays (a .status); pyramid = p′; serials = s′; order = o′ }
+    ≡ loadOf side knit g p s o
     → {t : LoadStatus} → a .status ≡ t → {n : ℕ} → n ≡ codeOf (loadSays t)
-    → record { code = n; side = a .progress .side; dots = a .progress .dots; pyramid = p′; serials = s′; order = o′ } ≡ loadCode side g p s o
+    → record {
+      code = n;
+      side = a .progress .side;
+      dots = a .progress .dots;
+      knit = a .progress .knit;
+      pyramid = p′;
+      serials = s′;
+      order = o′;
+    }
+    ≡ loadCode side knit g p s o
 unfolding loadCode
-load-coded side g p s o a h is n = rw (← h, is, n)
+load-coded side knit g p s o a h is n = rw (← h, is, n)
 
-pub advance-coded : (side dots budget : ℕ) (p : List ℤ) (s o : List ℕ) (a : AdvanceAnswer) {p′ : List ℤ} {s′ o′ : List ℕ}
-    → record { reply = record { progress = a .progress; made = a .made; said = advanceSays (a .status) }; pyramid = p′; serials = s′; order = o′ }
-    ≡ advanceOf plain (record { side = side; dots = dots }) budget p s o
+pub advance-coded : (side dots knit budget : ℕ) (p : List ℤ) (s o : List ℕ) (a : AdvanceAnswer)
+    {p′ : List ℤ} {s′ o′ : List ℕ}
+    → record {
+      reply = record { progress = a .progress; made = a .made; said = advanceSays (a .status) };
+      pyramid = p′;
+      serials = s′;
+      order = o′;
+    }
+    ≡ advanceOf (record { side = side; dots = dots; knit = knit }) budget p s o
     → {t : AdvanceStatus} → a .status ≡ t → {n : ℕ} → n ≡ codeOf (advanceSays t)
-    → record { code = n; dots = a .progress .dots; made = a .made; pyramid = p′; serials = s′; order = o′ } ≡ advanceCode side dots budget p s o
+    → record {
+      code = n;
+      dots = a .progress .dots;
+      made = a .made;
+      pyramid = p′;
+      serials = s′;
+      order = o′;
+    }
+    ≡ advanceCode side dots knit budget p s o
 unfolding advanceCode
-advance-coded side dots budget p s o a h is n = rw (← h, is, n)
+advance-coded side dots knit budget p s o a h is n = rw (← h, is, n)
 
 -- what `status_code` returns
 pub status-coded : (status : CheckpointStatus) {t : CheckpointStatus} → status ≡ t
     → {n : ℕ} → n ≡ codeOf (checkpointSays t) → n ≡ codeOf (checkpointSays status)
 status-coded status is n = rw (is, n)
 
-pub keep-coded : (side dots : ℕ) (kept : List ℕ) (name : ℕ) (a : CheckpointAnswer)
+pub keep-coded : (side dots knit : ℕ) (kept : List ℕ) (name : ℕ) (a : CheckpointAnswer)
     → record { progress = a .progress; checkpoints = a .checkpoints; said = checkpointSays (a .status) }
-    ≡ keepOf (record { side = side; dots = dots }) (record { kept = kept }) name
+    ≡ keepOf (record { side = side; dots = dots; knit = knit }) (record { kept = kept }) name
     → {n : ℕ} → n ≡ codeOf (checkpointSays (a .status))
-    → record { code = n; kept = a .checkpoints .kept } ≡ keepCode side dots kept name
+    → record { code = n; kept = a .checkpoints .kept } ≡ keepCode side dots knit kept name
 unfolding keepCode
-keep-coded side dots kept name a h n = rw (← h, n)
+keep-coded side dots knit kept name a h n = rw (← h, n)
 
-pub restore-coded : (side dots : ℕ) (kept : List ℕ) (name : ℕ) (g : List ℕ) (p : List ℤ) (s o : List ℕ)
+pub restore-coded : (side dots knit : ℕ) (kept : List ℕ) (name : ℕ) (g : List ℕ) (p : List ℤ) (s o : List ℕ)
     (a : CheckpointAnswer) {p′ : List ℤ} {s′ o′ : List ℕ}
     → record {
       progress = a .progress;
@@ -92,12 +116,12 @@ pub restore-coded : (side dots : ℕ) (kept : List ℕ) (name : ℕ) (g : List �
       serials = s′;
       order = o′;
     }
-    ≡ restoreOf plain (record { side = side; dots = dots }) (record { kept = kept }) name g p s o
+    ≡ restoreOf (record { side = side; dots = dots; knit = knit }) (record { kept = kept }) name g p s o
     → {n : ℕ} → n ≡ codeOf (checkpointSays (a .status))
     → record { code = n; dots = a .progress .dots; pyramid = p′; serials = s′; order = o′ }
-    ≡ restoreCode side dots kept name g p s o
+    ≡ restoreCode side dots knit kept name g p s o
 unfolding restoreCode
-restore-coded side dots kept name g p s o a h n = rw (← h, n)
+restore-coded side dots knit kept name g p s o a h n = rw (← h, n)
 
 pub levels-coded : (side : ℕ) (g s sums : List ℕ) (a : LevelsAnswer) → record { sums = a .sums; said = levelsSays (a .status) } ≡ levelsOf side g s
     → {stored : List ℕ} → stored ≡ sets sums 0 (a .sums) → {t : LevelsStatus} → a .status ≡ t → {n : ℕ} → n ≡ codeOf (levelsSays t)

@@ -20,7 +20,6 @@ use Rattle.definition.specs.Answers.{
   after,
 }
 use Rattle.definition.specs.Load.{loadOf}
-use Rattle.definition.specs.Diffusion.{plain}
 use Rattle.definition.specs.Advance.{advanceOf}
 use Rattle.definition.specs.Checkpoints.{keepOf, restoreOf}
 use Rattle.definition.specs.Survey.{tallyOf, levelsOf}
@@ -56,14 +55,23 @@ pub record LoadCode : Type 0 where
   pub code : ℕ
   pub side : ℕ
   pub dots : ℕ
+  pub knit : ℕ
   pub pyramid : List ℤ
   pub serials : List ℕ
   pub order : List ℕ
 
-unfoldable pub loadCode : ℕ → List ℕ → List ℤ → List ℕ → List ℕ → LoadCode
-loadCode side greys pyramid serials order =
-    let o = loadOf side greys pyramid serials order in
-    record { code = codeOf (o .said); side = o .progress .side; dots = o .progress .dots; pyramid = o .pyramid; serials = o .serials; order = o .order }
+unfoldable pub loadCode : ℕ → ℕ → List ℕ → List ℤ → List ℕ → List ℕ → LoadCode
+loadCode side knit greys pyramid serials order =
+    let o = loadOf side knit greys pyramid serials order in
+    record {
+      code = codeOf (o .said);
+      side = o .progress .side;
+      dots = o .progress .dots;
+      knit = o .progress .knit;
+      pyramid = o .pyramid;
+      serials = o .serials;
+      order = o .order;
+    }
 
 pub record AdvanceCode : Type 0 where
   pub code : ℕ
@@ -73,19 +81,26 @@ pub record AdvanceCode : Type 0 where
   pub serials : List ℕ
   pub order : List ℕ
 
-unfoldable pub advanceCode : ℕ → ℕ → ℕ → List ℤ → List ℕ → List ℕ → AdvanceCode
-advanceCode side dots budget pyramid serials order =
-    let o = advanceOf plain (record { side = side; dots = dots }) budget pyramid serials order in
-    record { code = codeOf (o .reply .said); dots = o .reply .progress .dots; made = o .reply .made; pyramid = o .pyramid; serials = o .serials; order = o .order }
+unfoldable pub advanceCode : ℕ → ℕ → ℕ → ℕ → List ℤ → List ℕ → List ℕ → AdvanceCode
+advanceCode side dots knit budget pyramid serials order =
+    let o = advanceOf (record { side = side; dots = dots; knit = knit }) budget pyramid serials order in
+    record {
+      code = codeOf (o .reply .said);
+      dots = o .reply .progress .dots;
+      made = o .reply .made;
+      pyramid = o .pyramid;
+      serials = o .serials;
+      order = o .order;
+    }
 
 -- Keep: the value is changed in place
 pub record KeepCode : Type 0 where
   pub code : ℕ
   pub kept : List ℕ
 
-unfoldable pub keepCode : ℕ → ℕ → List ℕ → ℕ → KeepCode
-keepCode side dots kept name =
-    let o = keepOf (record { side = side; dots = dots }) (record { kept = kept }) name in
+unfoldable pub keepCode : ℕ → ℕ → ℕ → List ℕ → ℕ → KeepCode
+keepCode side dots knit kept name =
+    let o = keepOf (record { side = side; dots = dots; knit = knit }) (record { kept = kept }) name in
     record { code = codeOf (o .said); kept = o .checkpoints .kept }
 
 -- Restore: the value is only read
@@ -97,9 +112,9 @@ pub record RestoreCode : Type 0 where
   pub order : List ℕ
 
 unfoldable pub restoreCode :
-    ℕ → ℕ → List ℕ → ℕ → List ℕ → List ℤ → List ℕ → List ℕ → RestoreCode
-restoreCode side dots kept name greys pyramid serials order =
-    let o = restoreOf plain (record { side = side; dots = dots }) (record { kept = kept }) name
+    ℕ → ℕ → ℕ → List ℕ → ℕ → List ℕ → List ℤ → List ℕ → List ℕ → RestoreCode
+restoreCode side dots knit kept name greys pyramid serials order =
+    let o = restoreOf (record { side = side; dots = dots; knit = knit }) (record { kept = kept }) name
     greys pyramid serials order in
     record {
       code = codeOf (o .said);

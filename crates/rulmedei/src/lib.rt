@@ -28,23 +28,38 @@ ghost use Rattle.rulmedei.specs.Codes.{codeOf, valueOf, loadCode, advanc
 ghost use Rattle.rulmedei.specs.Codes.{keepCode, restoreCode};
 ghost use Rattle.rulmedei.specs.Codes.{greysCode, textCode, compareCode, shelfCode, renewCode};
 
-// Load. The record is written to `progress_side` and `progress_dots`.
+// Load. The record is written to `progress_side`, `progress_dots` and `progress_knit`.
 #[no_mangle]
 pub extern "C" fn rulmedei_load(
     side: u32,
+    knit: u32,
     greys: &[u8],
     pyramid: &mut [i64],
     serials: &mut [u32],
     order: &mut [u32],
     progress_side: &mut u32,
     progress_dots: &mut u32,
+    progress_knit: &mut u32,
 ) -> u32
-    ensures { λ n. ⌜ record { code = n; side = now («progress_side» .exit); dots = now («progress_dots» .exit); pyramid = now (pyramid .exit); serials = now (serials .exit); order = now (order .exit) } ≡ loadCode side (now (greys .entry)) (now (pyramid .entry)) (now (serials .entry)) (now (order .entry)) ⌝ }
+    ensures { λ n. ⌜
+        record {
+          code = n;
+          side = now («progress_side» .exit);
+          dots = now («progress_dots» .exit);
+          knit = now («progress_knit» .exit);
+          pyramid = now (pyramid .exit);
+          serials = now (serials .exit);
+          order = now (order .exit);
+        }
+        ≡ loadCode side knit
+        (now (greys .entry)) (now (pyramid .entry)) (now (serials .entry)) (now (order .entry))
+        ⌝ }
 {
-    let answer = load::load(side, greys, pyramid, serials, order);
+    let answer = load::load(side, knit, greys, pyramid, serials, order);
     let progress = answer.progress;
     *progress_side = progress.side;
     *progress_dots = progress.dots;
+    *progress_knit = progress.knit;
     let status = answer.status;
     match status {
         LoadStatus::Loaded => 0,
@@ -52,11 +67,13 @@ pub extern "C" fn rulmedei_load(
     }
 }
 
-// Advance, with the record (side, dots). The holes afterwards are written to `after`, those made in this call to `made`.
+// Advance, with the record (side, dots, knit). The holes afterwards are written to `after`, those made in this call
+// to `made`.
 #[no_mangle]
 pub extern "C" fn rulmedei_advance(
     side: u32,
     dots: u32,
+    knit: u32,
     budget: u32,
     pyramid: &mut [i64],
     serials: &mut [u32],
@@ -64,9 +81,26 @@ pub extern "C" fn rulmedei_advance(
     after: &mut u32,
     made: &mut u32,
 ) -> u32
-    ensures { λ n. ⌜ record { code = n; dots = now (after .exit); made = now (made .exit); pyramid = now (pyramid .exit); serials = now (serials .exit); order = now (order .exit) } ≡ advanceCode side dots budget (now (pyramid .entry)) (now (serials .entry)) (now (order .entry)) ⌝ }
+    ensures { λ n. ⌜
+        record {
+          code = n;
+          dots = now (after .exit);
+          made = now (made .exit);
+          pyramid = now (pyramid .exit);
+          serials = now (serials .exit);
+          order = now (order .exit);
+        }
+        ≡ advanceCode side dots knit budget
+        (now (pyramid .entry)) (now (serials .entry)) (now (order .entry))
+        ⌝ }
 {
-    let answer = advance::advance(Progress { side, dots }, budget, pyramid, serials, order);
+    let answer = advance::advance(
+        Progress { side, dots, knit },
+        budget,
+        pyramid,
+        serials,
+        order,
+    );
     let progress = answer.progress;
     *after = progress.dots;
     *made = answer.made;
@@ -88,14 +122,21 @@ fn status_code(status: CheckpointStatus) -> u32
     }
 }
 
-// Keep, with the record (side, dots). The value is changed in place, and stays where it refuses.
+// Keep, with the record (side, dots, knit). The value is changed in place, and stays where it refuses.
 #[no_mangle]
-pub extern "C" fn rulmedei_keep(side: u32, dots: u32, kept: &mut [u64; 8], name: u32) -> u32
+pub extern "C" fn rulmedei_keep(
+    side: u32,
+    dots: u32,
+    knit: u32,
+    kept: &mut [u64; 8],
+    name: u32,
+) -> u32
     ensures { λ n. ⌜
-        record { code = n; kept = now (kept .exit) } ≡ keepCode side dots (now (kept .entry)) name
+        record { code = n; kept = now (kept .exit) } ≡ keepCode side dots knit (now (kept .entry)) name
         ⌝ }
 {
-    let answer = checkpoints::keep(Progress { side, dots }, Checkpoints { kept: *kept }, name);
+    let given = Progress { side, dots, knit };
+    let answer = checkpoints::keep(given, Checkpoints { kept: *kept }, name);
     let checkpoints = answer.checkpoints;
     let after = checkpoints.kept;
     *kept = after;
@@ -103,11 +144,12 @@ pub extern "C" fn rulmedei_keep(side: u32, dots: u32, kept: &mut [u64; 8], name:
     status_code(status)
 }
 
-// Restore, with the record (side, dots). The holes afterwards are written to `after`.
+// Restore, with the record (side, dots, knit). The holes afterwards are written to `after`.
 #[no_mangle]
 pub extern "C" fn rulmedei_restore(
     side: u32,
     dots: u32,
+    knit: u32,
     kept: &[u64; 8],
     name: u32,
     greys: &[u8],
@@ -124,12 +166,13 @@ pub extern "C" fn rulmedei_restore(
           serials = now (serials .exit);
           order = now (order .exit);
         }
-        ≡ restoreCode side dots (now (kept .entry)) name
+        ≡ restoreCode side dots knit (now (kept .entry)) name
         (now (greys .entry)) (now (pyramid .entry)) (now (serials .entry)) (now (order .entry))
         ⌝ }
 {
+    let before = Progress { side, dots, knit };
     let answer = checkpoints::restore(
-        Progress { side, dots },
+        before,
         Checkpoints { kept: *kept },
         name,
         greys,
@@ -236,20 +279,27 @@ fn text_code(answer: TextAnswer, length: &mut usize) -> u32
     }
 }
 
-// Drill List, with the record (side, dots). The list's length is written to `length`, 0 where it refuses.
+// Drill List, with the record (side, dots, knit). The list's length is written to `length`, 0 where it refuses.
 #[no_mangle]
 pub extern "C" fn rulmedei_drill_list(
     side: u32,
     dots: u32,
+    knit: u32,
     pyramid: &[i64],
     serials: &[u32],
     order: &[u32],
     out: &mut [u8],
     length: &mut usize,
 ) -> u32
-    ensures { λ n. ⌜ record { code = n; length = now (length .exit); output = now (out .exit) } ≡ textCode (drillListOf (record { side = side; dots = dots }) (now (pyramid .entry)) (now (serials .entry)) (now (order .entry)) (now (out .entry))) ⌝ }
+    ensures { λ n. ⌜
+        record { code = n; length = now (length .exit); output = now (out .exit) }
+        ≡ textCode
+        (drillListOf (record { side = side; dots = dots; knit = knit })
+        (now (pyramid .entry)) (now (serials .entry)) (now (order .entry)) (now (out .entry)))
+        ⌝ }
 {
-    let answer = drill_list::drill_list(Progress { side, dots }, pyramid, serials, order, out);
+    let progress = Progress { side, dots, knit };
+    let answer = drill_list::drill_list(progress, pyramid, serials, order, out);
     text_code(answer, length)
 }
 

@@ -1,8 +1,8 @@
 // Reads cases on standard input and writes what Load and then Advance, call after call, answer to each.
 // The input is lines of decimal numbers parted by commas. The first line is the count of cases. A case is: a line with
-// the side, a seed and the places to spare; a line with the greys, if the seed is 0; a line with the count of calls;
-// and a line for each of them: the budget, the three lengths lent (pyramid, serials, order), a place of the pyramid,
-// and what is added there and what is taken away before the call.
+// the side, the knit, a seed and the places to spare; a line with the greys, if the seed is 0; a line with the count of
+// calls; and a line for each of them: the budget, the three lengths lent (pyramid, serials, order), a place of the
+// pyramid, and what is added there and what is taken away before the call.
 use case_io::limit;
 use case_io::next;
 use definition::Progress;
@@ -73,11 +73,12 @@ fn run_calls(
     last.at
 }
 
-// Reads what follows a case's first three numbers, on the whole parts, and returns the place behind the case.
+// Reads what follows a case's first four numbers, on the whole parts, and returns the place behind the case.
 fn run(
     text: &[u8],
     from: usize,
     side: u32,
+    knit: u32,
     seed: u32,
     n: usize,
     greys: &mut [u8],
@@ -86,7 +87,7 @@ fn run(
     order: &mut [u32],
 ) -> usize {
     let calls = case_io::make_greys(text, from, seed, side, greys);
-    let answer = load::load(side, greys, pyramid, serials, order);
+    let answer = load::load(side, knit, greys, pyramid, serials, order);
     case_io::print_load(answer);
     let progress = answer.progress;
     let end = run_calls(text, calls, progress, pyramid, serials, order);
@@ -97,7 +98,8 @@ fn run(
 // Reads a case from a place on, writes its answers, and returns the place behind it.
 fn run_case(text: &[u8], from: usize) -> usize {
     let side = next(text, from);
-    let seed = next(text, side.at);
+    let knit = next(text, side.at);
+    let seed = next(text, knit.at);
     let spare = next(text, seed.at);
     let n = limit(side.value, 256);
     let more = limit(spare.value, 100);
@@ -112,6 +114,7 @@ fn run_case(text: &[u8], from: usize) -> usize {
         text,
         spare.at,
         side.value,
+        knit.value,
         seed.value,
         n,
         &mut greys[..cells],

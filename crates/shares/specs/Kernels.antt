@@ -9,7 +9,7 @@ use native.Mathlib.Nat.{div-add-mod}
 use lib.Dec.{T, leb, ltb, eqb, leb→le, ltb→lt, eqb→eq}
 use Rattle.definition.specs.Lists.{sumTo, allTo}
 use Rattle.definition.specs.Pyramid.{oneDot}
-use Rattle.definition.specs.Diffusion.{Kernel, plain}
+use Rattle.definition.specs.Diffusion.{Kernel, weightsOf, kernelOf}
 use Rattle.integers.specs.Tests.{T-and, T-or, allTo-at}
 
 -- The row (or column) next to a cell's own on one side: in the square; on the map only; off the map.
@@ -120,7 +120,9 @@ fit-of kernel h =
       hollow = eqb→eq (kernel .weight 4) 0 (v .1);
     }
 
--- document 01's weights
-pub plain-fit : Fit plain
-unfolding isFit allKindsFit kindFits kindWeight kindStays kindSides present inside touching ofThree allTo sumTo plain
-plain-fit = fit-of plain tt
+-- the weights of each knit: the test above, computed for one table and for the other
+pub knit-fit : (knit : ℕ) → Fit (kernelOf knit)
+unfolding isFit allKindsFit kindFits kindWeight kindStays kindSides present inside touching ofThree allTo sumTo
+    weightsOf kernelOf
+knit-fit zero = fit-of (kernelOf 0) tt
+knit-fit (suc n) = fit-of (kernelOf (suc n)) tt

@@ -30,12 +30,14 @@ pub record SheetLent (r pyramid serials order : ℕ) : Type 0 where
   pub serials-long : cellCount r ≤ serials
   pub order-long : cellCount r ≤ order
 
-module _ (r p s o : ℕ) where
-  pub sheet-lent : (sound : Bool) → advanceRefusal r p s o sound ≡ 0 → SheetLent r p s o × (sound ≡ true)
+module _ (r knit p s o : ℕ) where
+  pub sheet-lent : (sound : Bool) → advanceRefusal r knit p s o sound ≡ 0
+      → SheetLent r p s o × (knit ≤ 1) × (sound ≡ true)
   unfolding advanceRefusal
   sheet-lent sound e =
       let r₁ = lowest-none 1 (eqb r 0) _ (omega arith) e in
-      let r₂ = lowest-none 3 (ltb p (needed r)) _ (omega arith) (r₁ .1) in
+      let r₀ = lowest-none 11 (ltb 1 knit) _ (omega arith) (r₁ .1) in
+      let r₂ = lowest-none 3 (ltb p (needed r)) _ (omega arith) (r₀ .1) in
       let r₃ = lowest-none 4 (ltb s (cellCount r)) _ (omega arith) (r₂ .1) in
       let r₄ = lowest-none 4 (ltb o (cellCount r)) _ (omega arith) (r₃ .1) in
       let r₅ = lowest-none 5 (not sound) _ (omega arith) (r₄ .1) in (
@@ -45,25 +47,38 @@ module _ (r p s o : ℕ) where
           serials-long = ltb-false _ _ (r₃ .0);
           order-long = ltb-false _ _ (r₄ .0);
         },
+        ltb-false _ _ (r₀ .0),
         not-false sound (r₅ .0),
       )
 
   -- where the lengths are refused, soundness does not matter; where they are not, it alone does
-  pub lengths-first : (n : ℕ) → advanceRefusal r p s o true ≡ suc n → (sound : Bool) → advanceRefusal r p s o sound ≡ suc n
+  pub lengths-first : (n : ℕ) → advanceRefusal r knit p s o true ≡ suc n → (sound : Bool)
+      → advanceRefusal r knit p s o sound ≡ suc n
   unfolding advanceRefusal lowest
-  lengths-first n e sound = go (eqb r 0) (ltb p (needed r)) (ltb s (cellCount r)) (ltb o (cellCount r)) e
+  lengths-first n e sound =
+      go (eqb r 0) (ltb 1 knit) (ltb p (needed r)) (ltb s (cellCount r)) (ltb o (cellCount r)) e
     where
-      go : (a b c d : Bool) → cond a 1 (cond b 3 (cond c 4 (cond d 4 0))) ≡ suc n → cond a 1 (cond b 3 (cond c 4 (cond d 4 (cond (not sound) 5 0)))) ≡ suc n
-      go true b c d e = e
-      go false true c d e = e
-      go false false true d e = e
-      go false false false true e = e
-      go false false false false e = absurd (omega arith)
+      go : (a z b c d : Bool) → cond a 1 (cond z 11 (cond b 3 (cond c 4 (cond d 4 0)))) ≡ suc n
+          → cond a 1 (cond z 11 (cond b 3 (cond c 4 (cond d 4 (cond (not sound) 5 0))))) ≡ suc n
+      go true z b c d e = e
+      go false true b c d e = e
+      go false false true c d e = e
+      go false false false true d e = e
+      go false false false false true e = e
+      go false false false false false e = absurd (omega arith)
 
-  pub then-sound : SheetLent r p s o → (sound : Bool) → advanceRefusal r p s o sound ≡ cond sound 0 5
+  pub then-sound : SheetLent r p s o → knit ≤ 1 → (sound : Bool)
+      → advanceRefusal r knit p s o sound ≡ cond sound 0 5
   unfolding advanceRefusal lowest
-  then-sound h sound =
-      rw (ne-eqb r 0 (λ e. omega arith), le-ltb p (needed r) (h .pyramid-long), le-ltb s (cellCount r) (h .serials-long), le-ltb o (cellCount r) (h .order-long)) (go sound)
+  then-sound h known sound =
+      rw (
+        ne-eqb r 0 (λ e. omega arith),
+        le-ltb 1 knit known,
+        le-ltb p (needed r) (h .pyramid-long),
+        le-ltb s (cellCount r) (h .serials-long),
+        le-ltb o (cellCount r) (h .order-long),
+      )
+      (go sound)
     where
       go : (b : Bool) → _≡_ {A = ℕ} (cond (not b) 5 0) (cond b 0 5)
       go true = refl
@@ -75,11 +90,14 @@ pub record SheetAsked (r dots : ℕ) (p : List ℤ) (s o : List ℕ) : Type 0 wh
   pub lent : SheetLent r (length p) (length s) (length o)
   pub sound : isSound r (sheetIn r dots p s o) ≡ true
 
-pub sheet-asked : {r : ℕ} → r ≤ 8 → (dots : ℕ) (p : List ℤ) (s o : List ℕ) (check : Check)
-    → checked check ≡ advanceRefusal r (length p) (length s) (length o) (isSound r (sheetIn r dots p s o)) → check ≡ Passed → SheetAsked r dots p s o
-sheet-asked {r} small dots p s o check e passed =
-    let q = sheet-lent r (length p) (length s) (length o) (isSound r (sheetIn r dots p s o)) (passed-none check e passed) in
-    record { small = small; lent = q .0; sound = q .1 }
+pub sheet-asked : {r : ℕ} (knit : ℕ) → r ≤ 8 → (dots : ℕ) (p : List ℤ) (s o : List ℕ) (check : Check)
+    → checked check
+    ≡ advanceRefusal r knit (length p) (length s) (length o) (isSound r (sheetIn r dots p s o))
+    → check ≡ Passed → SheetAsked r dots p s o
+sheet-asked {r} knit small dots p s o check e passed =
+    let sound = isSound r (sheetIn r dots p s o) in
+    let q = sheet-lent r knit (length p) (length s) (length o) sound (passed-none check e passed) in
+    record { small = small; lent = q .0; sound = q .2 }
 
 -- ---- the test of a sheet; n and c are what the code has worked out for the needed length and the number of cells
 module _ {r : ℕ} (small : r ≤ 8) (p : List ℤ) (s o : List ℕ)
@@ -110,29 +128,44 @@ module _ {r : ℕ} (small : r ≤ 8) (p : List ℤ) (s o : List ℕ)
   unfolding sheetIn
   sound-is dots eb = eb ∙ rw (en, ec)
 
--- ---- the code's way: the lengths are checked first
-module _ {r : ℕ} (small : r ≤ 8) (p : List ℤ) (s o : List ℕ) (dots : ℕ) (lengths : Check)
-    (e : checked lengths ≡ advanceRefusal r (length p) (length s) (length o) true) where
+-- ---- the code's way: side, knit and lengths are checked first
+module _ {r : ℕ} (knit : ℕ) (small : r ≤ 8) (p : List ℤ) (s o : List ℕ) (dots : ℕ) (lengths : Check)
+    (e : checked lengths ≡ advanceRefusal r knit (length p) (length s) (length o) true) where
+  abbrev sound : Bool
+  sound = isSound r (sheetIn r dots p s o)
+
+  abbrev refusal : Bool → ℕ
+  refusal = advanceRefusal r knit (length p) (length s) (length o)
+
   pub lengths-failed : {why : Refusal} → lengths ≡ Failed why
-      → checked (Failed why) ≡ advanceRefusal r (length p) (length s) (length o) (isSound r (sheetIn r dots p s o))
+      → checked (Failed why)
+      ≡ advanceRefusal r knit (length p) (length s) (length o) (isSound r (sheetIn r dots p s o))
   unfolding checked
   lengths-failed {why} failed =
+      let number = failed-number lengths e why failed in
       number-positive why
-      ∙ sym
-      (lengths-first r (length p) (length s) (length o) (numberOf why - 1) (failed-number lengths e why failed)
-      (isSound r (sheetIn r dots p s o)))
+      ∙ sym (lengths-first r knit (length p) (length s) (length o) (numberOf why - 1) number sound)
 
   module _ (passed : lengths ≡ Passed) where
+    lent-and-known : SheetLent r (length p) (length s) (length o) × (knit ≤ 1)
+    lent-and-known =
+        let q = sheet-lent r knit (length p) (length s) (length o) true (passed-none lengths e passed) in
+        (q .0, q .1)
+
     pub lengths-passed : SheetLent r (length p) (length s) (length o)
-    lengths-passed = sheet-lent r (length p) (length s) (length o) true (passed-none lengths e passed) .0
+    lengths-passed = lent-and-known .0
+
+    then : (b : Bool) → refusal b ≡ cond b 0 5
+    then = then-sound r knit (length p) (length s) (length o) lengths-passed (lent-and-known .1)
 
     module _ {b : Bool} (eb : b ≡ isSound r (sheetIn r dots p s o)) where
       pub is-sound : b ≡ true
-          → checked Passed ≡ advanceRefusal r (length p) (length s) (length o) (isSound r (sheetIn r dots p s o))
+          → checked Passed
+          ≡ advanceRefusal r knit (length p) (length s) (length o) (isSound r (sheetIn r dots p s o))
       unfolding checked
-      is-sound yes′ = sym (rw (← eb, yes′) (then-sound r (length p) (length s) (length o) lengths-passed true))
+      is-sound yes′ = sym (rw (← eb, yes′) (then true))
 
       pub is-unsound : b ≡ false → checked (Failed SheetUnsound)
-          ≡ advanceRefusal r (length p) (length s) (length o) (isSound r (sheetIn r dots p s o))
+          ≡ advanceRefusal r knit (length p) (length s) (length o) (isSound r (sheetIn r dots p s o))
       unfolding checked numberOf
-      is-unsound no′ = sym (rw (← eb, no′) (then-sound r (length p) (length s) (length o) lengths-passed false))
+      is-unsound no′ = sym (rw (← eb, no′) (then false))

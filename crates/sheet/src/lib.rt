@@ -1,4 +1,4 @@
-// The check of the calls that take a sheet: refusals 1, 3, 4 and 5.
+// The check of the calls that take a sheet: refusals 1, 11, 3, 4 and 5.
 use checks::Check;
 use definition::Refusal;
 ghost use mathlib.Core.Path.{_≡_};
@@ -10,16 +10,19 @@ ghost use Rattle.definition.specs.Advance.{sheetIn, advanceRefusal};
 ghost use Rattle.checks.specs.Checks.{checked};
 ghost use Rattle.sheet.specs.Sheets.{SheetLent};
 
-// Refusals 1, 3, 4, from the side's power and the lengths lent.
-fn check_lengths(r: usize, pyramid: usize, serials: usize, order: usize) -> Check
+// Refusals 1, 11, 3, 4, from the side's power, the knit and the lengths lent.
+fn check_lengths(r: usize, knit: u32, pyramid: usize, serials: usize, order: usize) -> Check
     requires { ⌜ r ≤ 8 ⌝ }
-    ensures { λ c. ⌜ checked c ≡ advanceRefusal r pyramid serials order true ⌝ }
+    ensures { λ c. ⌜ checked c ≡ advanceRefusal r knit pyramid serials order true ⌝ }
 {
+    let cells = sizes::cell_count(r);
+    let needed = sizes::needed(r);
     if r == 0 {
         return Check::Failed(Refusal::SideUnknown);
     }
-    let cells = sizes::cell_count(r);
-    let needed = sizes::needed(r);
+    if 1 < knit {
+        return Check::Failed(Refusal::KnitUnknown);
+    }
     if pyramid < needed {
         return Check::Failed(Refusal::PyramidShort);
     }
@@ -50,17 +53,24 @@ pub fn sound_lent(r: usize, dots: u32, pyramid: &[i64], serials: &[u32], order: 
     )
 }
 
-// Refusals 1, 3, 4, 5: the lengths lent, then whether the sheet is sound.
-pub fn check_sheet(r: usize, dots: u32, pyramid: &[i64], serials: &[u32], order: &[u32]) -> Check
+// Refusals 1, 11, 3, 4, 5: side, knit and the lengths lent, then whether the sheet is sound.
+pub fn check_sheet(
+    r: usize,
+    dots: u32,
+    knit: u32,
+    pyramid: &[i64],
+    serials: &[u32],
+    order: &[u32],
+) -> Check
     requires { ⌜ r ≤ 8 ⌝ }
     ensures { λ c. ⌜
         checked c
-        ≡ advanceRefusal r
+        ≡ advanceRefusal r knit
         (length (now (pyramid .entry))) (length (now (serials .entry))) (length (now (order .entry)))
         (isSound r (sheetIn r dots (now (pyramid .entry)) (now (serials .entry)) (now (order .entry))))
         ⌝ }
 {
-    match check_lengths(r, pyramid.len(), serials.len(), order.len()) {
+    match check_lengths(r, knit, pyramid.len(), serials.len(), order.len()) {
         Check::Failed(why) => Check::Failed(why),
         Check::Passed => {
             if sound_lent(r, dots, pyramid, serials, order) {

@@ -1,14 +1,14 @@
 // Reads cases on standard input and writes what Load answers to each, and then Advance, Keep and Restore one after
 // another, with changes between them.
 // The input is lines of decimal numbers parted by commas. The first line is the count of cases. A case is: a line with
-// the side, a seed and the places to spare; a line with the greys, if the seed is 0; a line with the count of actions;
-// and a line of five numbers for each of them, a kind and a, b, c and d:
+// the side, the knit, a seed and the places to spare; a line with the greys, if the seed is 0; a line with the count of
+// actions; and a line of five numbers for each of them, a kind and a, b, c and d:
 // 0  Advance with the budget a, lent b, c and d places of pyramid, serials and order
 // 1  Keep with the name a
 // 2  Restore with the name a and all greys, lent b, c and d places of pyramid, serials and order
 // 3  place b of the value, or the last one, becomes a plus c times 2 to the power of 32
 // 4  grey b becomes a
-// 5  the record becomes (a, b)
+// 5  the record becomes (a, b, c)
 // 6  at place b of the pyramid c is added and d is taken away
 use case_io::end_line;
 use case_io::end_refused;
@@ -129,8 +129,7 @@ fn restore(
     let after = answer.progress;
     io::write_all(1, b"restore");
     field_u32(name);
-    field_u32(after.side);
-    field_u32(after.dots);
+    case_io::print_record(after);
     end_answer(answer)
 }
 
@@ -186,10 +185,10 @@ fn set_grey(greys: &mut [u8], place: usize, grey: u32) {
     }
 }
 
-fn with_record(held: Held, side: u32, dots: u32) -> Held {
+fn with_record(held: Held, side: u32, dots: u32, knit: u32) -> Held {
     let checkpoints = held.checkpoints;
     Held {
-        progress: Progress { side, dots },
+        progress: Progress { side, dots, knit },
         checkpoints,
     }
 }
@@ -213,7 +212,7 @@ fn act(
             set_grey(greys, action.b as usize, action.a);
             held
         }
-        5 => with_record(held, action.a, action.b),
+        5 => with_record(held, action.a, action.b, action.c),
         _ => {
             case_io::shift_entry(pyramid, action.b as usize, action.c, action.d);
             held
@@ -262,11 +261,12 @@ fn run_actions(
     at
 }
 
-// Reads what follows a case's first three numbers, on the whole parts, and returns the place behind the case.
+// Reads what follows a case's first four numbers, on the whole parts, and returns the place behind the case.
 fn run(
     text: &[u8],
     from: usize,
     side: u32,
+    knit: u32,
     seed: u32,
     n: usize,
     greys: &mut [u8],
@@ -275,7 +275,7 @@ fn run(
     order: &mut [u32],
 ) -> usize {
     let actions = case_io::make_greys(text, from, seed, side, greys);
-    let answer = load::load(side, greys, pyramid, serials, order);
+    let answer = load::load(side, knit, greys, pyramid, serials, order);
     case_io::print_load(answer);
     let progress = answer.progress;
     let end = run_actions(text, actions, progress, greys, pyramid, serials, order);
@@ -286,7 +286,8 @@ fn run(
 // Reads a case from a place on, writes its answers, and returns the place behind it.
 fn run_case(text: &[u8], from: usize) -> usize {
     let side = next(text, from);
-    let seed = next(text, side.at);
+    let knit = next(text, side.at);
+    let seed = next(text, knit.at);
     let spare = next(text, seed.at);
     let n = limit(side.value, 256);
     let more = limit(spare.value, 100);
@@ -301,6 +302,7 @@ fn run_case(text: &[u8], from: usize) -> usize {
         text,
         spare.at,
         side.value,
+        knit.value,
         seed.value,
         n,
         &mut greys[..cells],

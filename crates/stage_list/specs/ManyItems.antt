@@ -9,7 +9,6 @@ use lib.ListN.{length, replicate}
 use lib.IntN.{ℤ}
 use Rattle.definition.specs.Lists.{tabulateFrom, tabulate}
 use Rattle.definition.specs.Answers.{Said}
-use Rattle.definition.specs.Diffusion.{plain}
 use Rattle.definition.specs.Load.{loadOf}
 use Rattle.definition.specs.Stages.{Action, Caller, callerAtFirst, act, callerAfterAll}
 use Rattle.definition.specs.declared.Progress.{Progress}
@@ -22,18 +21,18 @@ use Rattle.stage_list.specs.Promise.{Promised, promised}
 
 -- ---- one call more
 caller-more : (g : List ℕ) (caller : Caller) (actions : List Action) (a : Action)
-    → callerAfterAll plain g caller (actions ++ (a ∷ [])) ≡ act plain g (callerAfterAll plain g caller actions) a
+    → callerAfterAll g caller (actions ++ (a ∷ [])) ≡ act g (callerAfterAll g caller actions) a
 unfolding callerAfterAll
 caller-more g caller [] a = refl
-caller-more g caller (b ∷ rest) a = caller-more g (act plain g caller b) rest a
+caller-more g caller (b ∷ rest) a = caller-more g (act g caller b) rest a
 
 module _ (g : List ℕ) (first : Caller) (f : ℕ → Action) where
-  before-all : first ≡ callerAfterAll plain g first (tabulate 0 f)
+  before-all : first ≡ callerAfterAll g first (tabulate 0 f)
   unfolding tabulateFrom callerAfterAll
   before-all = refl
 
-  after-one : (i : ℕ) {caller caller′ : Caller} → caller ≡ callerAfterAll plain g first (tabulate i f)
-      → caller′ ≡ act plain g caller (f i) → caller′ ≡ callerAfterAll plain g first (tabulate (i + 1) f)
+  after-one : (i : ℕ) {caller caller′ : Caller} → caller ≡ callerAfterAll g first (tabulate i f)
+      → caller′ ≡ act g caller (f i) → caller′ ≡ callerAfterAll g first (tabulate (i + 1) f)
   after-one i e q =
       q ∙ rw (e, add-one i, tabulate-more 0 i f, zero-add i) (sym (caller-more g first (tabulate i f) (f i)))
 
@@ -46,7 +45,7 @@ pub record Acted (g : List ℕ) (latest₀ : Latest) (p₀ : List ℤ) (s₀ o�
   pub same-serials : length s ≡ length s₀
   pub same-order : length o ≡ length o₀
   pub is : callerOf latest p s o
-      ≡ callerAfterAll plain g (callerOf latest₀ p₀ s₀ o₀)
+      ≡ callerAfterAll g (callerOf latest₀ p₀ s₀ o₀)
       (tabulate i (actionAt kinds numbers maps pyramids sheets orders))
 
 module _ (g : List ℕ) (latest₀ : Latest) (p₀ : List ℤ) (s₀ o₀ : List ℕ)
@@ -66,7 +65,7 @@ module _ (g : List ℕ) (latest₀ : Latest) (p₀ : List ℤ) (s₀ o₀ : List
     pub goes-on : i < length numbers → (item : Item) → item ≡ itemAt kinds numbers maps pyramids sheets orders i
         → (latest′ : Latest) (p′ : List ℤ) (s′ o′ : List ℕ)
         → length p′ ≡ length p → length s′ ≡ length s → length o′ ≡ length o
-        → callerOf latest′ p′ s′ o′ ≡ act plain g (callerOf latest p s o) (actionIn item)
+        → callerOf latest′ p′ s′ o′ ≡ act g (callerOf latest p s o) (actionIn item)
         → Acted g latest₀ p₀ s₀ o₀ kinds numbers maps pyramids sheets orders latest′ p′ s′ o′ (i + 1)
     goes-on lt item e latest′ p′ s′ o′ lp ls lo q =
         record {
@@ -76,34 +75,34 @@ module _ (g : List ℕ) (latest₀ : Latest) (p₀ : List ℤ) (s₀ o₀ : List
           same-order = lo ∙ h .same-order;
           is =
               after-one g (callerOf latest₀ p₀ s₀ o₀) (actionAt kinds numbers maps pyramids sheets orders) i
-              (h .is) (q ∙ ap (λ (x : Item). act plain g (callerOf latest p s o) (actionIn x)) e);
+              (h .is) (q ∙ ap (λ (x : Item). act g (callerOf latest p s o) (actionIn x)) e);
         }
 
     pub all-acted : length numbers ≤ i
         → callerOf latest p s o
-        ≡ callerAfterAll plain g (callerOf latest₀ p₀ s₀ o₀)
+        ≡ callerAfterAll g (callerOf latest₀ p₀ s₀ o₀)
         (actionsIn kinds numbers maps pyramids sheets orders)
     all-acted le = let z : i ≡ length numbers = omega (arith, h .within) in rw z at (h .is)
 
 -- ---- Load, then the calls
-pub loaded-first : (side : ℕ) (g : List ℕ) (p : List ℤ) (s o : List ℕ)
+pub loaded-first : (side knit : ℕ) (g : List ℕ) (p : List ℤ) (s o : List ℕ)
     {progress : Progress} {said : Said} {p′ : List ℤ} {s′ o′ : List ℕ} {none : Checkpoints}
     → record { progress = progress; said = said; pyramid = p′; serials = s′; order = o′ }
-    ≡ loadOf side g p s o
+    ≡ loadOf side knit g p s o
     → none ≡ record { kept = replicate 8 0 }
-    → callerOf (record { progress = progress; checkpoints = none }) p′ s′ o′ ≡ callerAtFirst side g p s o
+    → callerOf (record { progress = progress; checkpoints = none }) p′ s′ o′ ≡ callerAtFirst side knit g p s o
 unfolding callerAtFirst
-loaded-first side g p s o e en = rw (← loaded-held side g p s o e, en)
+loaded-first side knit g p s o e en = rw (← loaded-held side knit g p s o e, en)
 
-pub acted-on : (side : ℕ) (g : List ℕ) (p : List ℤ) (s o : List ℕ)
+pub acted-on : (side knit : ℕ) (g : List ℕ) (p : List ℤ) (s o : List ℕ)
     {progress : Progress} (said : Said) {p′ : List ℤ} {s′ o′ : List ℕ} {none : Checkpoints}
     (actions : List Action) (caller : Caller)
     → record { progress = progress; said = said; pyramid = p′; serials = s′; order = o′ }
-    ≡ loadOf side g p s o
+    ≡ loadOf side knit g p s o
     → none ≡ record { kept = replicate 8 0 }
     → caller
-    ≡ callerAfterAll plain g (callerOf (record { progress = progress; checkpoints = none }) p′ s′ o′) actions
-    → Promised side g p s o actions caller
-acted-on side g p s o said actions caller e en q =
-    promised side g p s o actions caller
-    (q ∙ ap (λ (c : Caller). callerAfterAll plain g c actions) (loaded-first side g p s o e en))
+    ≡ callerAfterAll g (callerOf (record { progress = progress; checkpoints = none }) p′ s′ o′) actions
+    → Promised side knit g p s o actions caller
+acted-on side knit g p s o said actions caller e en q =
+    promised side knit g p s o actions caller
+    (q ∙ ap (λ (c : Caller). callerAfterAll g c actions) (loaded-first side knit g p s o e en))

@@ -6,7 +6,6 @@ use native.Mathlib.Omega.{arith}
 use lib.ListN.{length, getD, take, drop}
 use lib.IntN.{ℤ}
 use Rattle.definition.specs.Answers.{Said}
-use Rattle.definition.specs.Diffusion.{plain}
 use Rattle.definition.specs.Calls.{callOf, heldAfter}
 use Rattle.definition.specs.Checkpoints.{keepOf, restoreOf}
 use Rattle.definition.specs.Stages.{advancing, keeping, returning, returnOf, callerAfter, act}
@@ -38,7 +37,7 @@ module _ (item : Item) (latest : Latest) (g : List ℕ) (p : List ℤ) (s o : Li
         serials = s′;
         order = o′;
       }
-      ≡ restoreOf plain (latest .progress) (latest .checkpoints) (item .number)
+      ≡ restoreOf (latest .progress) (latest .checkpoints) (item .number)
       (take ng g) (take np p) (take ns s) (take no o)
       → record {
         progress = progress;
@@ -48,7 +47,7 @@ module _ (item : Item) (latest : Latest) (g : List ℕ) (p : List ℤ) (s o : Li
         serials = s′ ++ drop ns s;
         order = o′ ++ drop no o;
       }
-      ≡ returnOf plain g (callerOf latest p s o) (returnIn item)
+      ≡ returnOf g (callerOf latest p s o) (returnIn item)
   unfolding returnOf
   return-made q =
       rw (
@@ -88,9 +87,9 @@ module _ (item : Item) (latest : Latest) (g : List ℕ) (p : List ℤ) (s o : Li
         serials = s′;
         order = o′;
       }
-      ≡ returnOf plain g (callerOf latest p s o) (returnIn item)
+      ≡ returnOf g (callerOf latest p s o) (returnIn item)
       → l ≡ record { progress = progress; checkpoints = kept }
-      → callerOf l p′ s′ o′ ≡ act plain g (callerOf latest p s o) (actionIn item)
+      → callerOf l p′ s′ o′ ≡ act g (callerOf latest p s o) (actionIn item)
   unfolding act callerAfter
   went-back lt e el = rw (is-return (item .kind) item lt, el, ← e)
 
@@ -99,14 +98,14 @@ module _ (item : Item) (latest : Latest) (g : List ℕ) (p : List ℤ) (s o : Li
       → record { progress = progress; checkpoints = kept; said = said }
       ≡ keepOf (latest .progress) (latest .checkpoints) (item .number)
       → l ≡ record { progress = progress; checkpoints = kept }
-      → callerOf l p s o ≡ act plain g (callerOf latest p s o) (actionIn item)
+      → callerOf l p s o ≡ act g (callerOf latest p s o) (actionIn item)
   unfolding act
   wrote-down one e el = rw (is-keep (item .kind) item one, el, ← e)
 
   pub went-on : item .kind ≡ 0 → {progress : Progress} {p′ : List ℤ} {s′ o′ : List ℕ}
       → record { progress = progress; pyramid = p′; serials = s′; order = o′ }
-      ≡ heldAfter (callOf plain (callerOf latest p s o .held) (callIn item))
+      ≡ heldAfter (callOf (callerOf latest p s o .held) (callIn item))
       → callerOf (record { progress = progress; checkpoints = latest .checkpoints }) p′ s′ o′
-      ≡ act plain g (callerOf latest p s o) (actionIn item)
+      ≡ act g (callerOf latest p s o) (actionIn item)
   unfolding act
   went-on none e = rw (is-advance (item .kind) item none, ← e)

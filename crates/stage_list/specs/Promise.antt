@@ -4,7 +4,6 @@ use mathlib.Core.List.{List}
 use Prim.Native.Nat.{ℕ}
 use lib.IntN.{ℤ}
 use Rattle.definition.specs.Blocks.{greyTotal}
-use Rattle.definition.specs.Diffusion.{plain}
 use Rattle.definition.specs.Refusals.{powerOf}
 use Rattle.definition.specs.Stages.{
   Action,
@@ -21,23 +20,24 @@ use Rattle.stages.specs.Promise.{StagesHold, Request7}
 use Rattle.stages.specs.Theorem.{request-7}
 
 -- What the caller holds after Load and a list of calls; and, if Load accepts, request 7 of it.
-pub record Promised (side : ℕ) (g : List ℕ) (p : List ℤ) (s o : List ℕ)
+pub record Promised (side knit : ℕ) (g : List ℕ) (p : List ℤ) (s o : List ℕ)
     (actions : List Action) (caller : Caller) : Type 0 where
-  pub caller-is : caller ≡ callerAfterAll plain g (callerAtFirst side g p s o) actions
-  pub promise : Accepted side g p s o
-      → StagesHold plain (powerOf side) (greyTotal (powerOf side) g) g p s o actions
-      (callerAtFirst side g p s o) caller (answersOf plain g (callerAtFirst side g p s o) actions)
-      (memoryAfterAll plain (powerOf side) (memoryAtFirst (powerOf side) g) actions)
-      (modelAnswers plain (powerOf side) (memoryAtFirst (powerOf side) g) actions)
+  pub caller-is : caller ≡ callerAfterAll g (callerAtFirst side knit g p s o) actions
+  pub promise : Accepted side knit g p s o
+      → StagesHold knit (powerOf side) (greyTotal (powerOf side) g) g p s o actions
+      (callerAtFirst side knit g p s o) caller (answersOf g (callerAtFirst side knit g p s o) actions)
+      (memoryAfterAll knit (powerOf side) (memoryAtFirst (powerOf side) g) actions)
+      (modelAnswers knit (powerOf side) (memoryAtFirst (powerOf side) g) actions)
 
-pub promised : (side : ℕ) (g : List ℕ) (p : List ℤ) (s o : List ℕ)
+pub promised : (side knit : ℕ) (g : List ℕ) (p : List ℤ) (s o : List ℕ)
     (actions : List Action) (caller : Caller)
-    → caller ≡ callerAfterAll plain g (callerAtFirst side g p s o) actions → Promised side g p s o actions caller
-promised side g p s o actions caller e =
-    record { caller-is = e; promise = λ accepted. rw e (request-7 side g p s o accepted actions) }
+    → caller ≡ callerAfterAll g (callerAtFirst side knit g p s o) actions
+    → Promised side knit g p s o actions caller
+promised side knit g p s o actions caller e =
+    record { caller-is = e; promise = λ accepted. rw e (request-7 side knit g p s o accepted actions) }
 
 -- By its fields: request 7, of the very list of calls that was made.
-pub promise-of-code : {side : ℕ} {g : List ℕ} {p : List ℤ} {s o : List ℕ}
+pub promise-of-code : {side knit : ℕ} {g : List ℕ} {p : List ℤ} {s o : List ℕ}
     {actions : List Action} {caller : Caller}
-    → Promised side g p s o actions caller → Accepted side g p s o → Request7 plain side g p s o actions
+    → Promised side knit g p s o actions caller → Accepted side knit g p s o → Request7 side knit g p s o actions
 promise-of-code k accepted = rw (k .caller-is) at (k .promise accepted)

@@ -7,7 +7,6 @@ ghost use mathlib.Core.Path.{_≡_};
 ghost use Prim.Native.Nat.{_<_};
 ghost use lib.ListN.{length, replicate};
 ghost use Rattle.definition.specs.Answers.{checkpointSays};
-ghost use Rattle.definition.specs.Diffusion.{plain};
 ghost use Rattle.definition.specs.Stages.{returnOf, act, callerAfterAll};
 ghost use Rattle.stage_list.specs.Items.{itemAt, returnIn, actionIn, actionsIn, callerOf};
 ghost use Rattle.stage_list.specs.Promise.{Promised};
@@ -82,7 +81,7 @@ fn restore_lent(
           serials = now (serials .exit);
           order = now (order .exit);
         }
-        ≡ returnOf plain (now (greys .entry))
+        ≡ returnOf (now (greys .entry))
         (callerOf latest (now (pyramid .entry)) (now (serials .entry)) (now (order .entry))) (returnIn item)
         ⌝ }
 {
@@ -126,7 +125,7 @@ fn one_action(
 ) -> Latest
     ensures { λ l. ⌜
         callerOf l (now (pyramid .exit)) (now (serials .exit)) (now (order .exit))
-        ≡ act plain (now (greys .entry))
+        ≡ act (now (greys .entry))
         (callerOf latest (now (pyramid .entry)) (now (serials .entry)) (now (order .entry))) (actionIn item)
         ⌝ }
 {
@@ -170,7 +169,7 @@ fn make_actions(
 ) -> Latest
     ensures { λ l. ⌜
         callerOf l (now (pyramid .exit)) (now (serials .exit)) (now (order .exit))
-        ≡ callerAfterAll plain (now (greys .entry))
+        ≡ callerAfterAll (now (greys .entry))
         (callerOf first (now (pyramid .entry)) (now (serials .entry)) (now (order .entry)))
         (actionsIn (now (kinds .entry)) (now (numbers .entry)) (now (maps .entry))
         (now (pyramids .entry)) (now (sheets .entry)) (now (orders .entry)))
@@ -189,6 +188,7 @@ fn make_actions(
 // Load, then these calls, on the greys and the buffers that Load was lent.
 pub fn run_stages(
     side: u32,
+    knit: u32,
     greys: &[u8],
     pyramid: &mut [i64],
     serials: &mut [u32],
@@ -201,14 +201,14 @@ pub fn run_stages(
     orders: &[usize],
 ) -> Latest
     ensures { λ l. ⌜
-        Promised side
+        Promised side knit
         (now (greys .entry)) (now (pyramid .entry)) (now (serials .entry)) (now (order .entry))
         (actionsIn (now (kinds .entry)) (now (numbers .entry)) (now (maps .entry))
         (now (pyramids .entry)) (now (sheets .entry)) (now (orders .entry)))
         (callerOf l (now (pyramid .exit)) (now (serials .exit)) (now (order .exit)))
         ⌝ }
 {
-    let loaded = load::load(side, greys, pyramid, serials, order);
+    let loaded = load::load(side, knit, greys, pyramid, serials, order);
     let progress = loaded.progress;
     let checkpoints = no_names();
     let first = Latest {

@@ -10,7 +10,7 @@ use lib.Signed.{_<ℤ_}
 use Rattle.definition.specs.Answers.{returned}
 use Rattle.definition.specs.Pyramid.{start}
 use Rattle.definition.specs.Blocks.{greySum, greyTotal, dotsIn, allDots}
-use Rattle.definition.specs.Diffusion.{plain}
+use Rattle.definition.specs.Diffusion.{kernelOf}
 use Rattle.definition.specs.Model.{topOf, modelStart, steps}
 use Rattle.definition.specs.Refusals.{powerOf}
 use Rattle.definition.specs.QuotePage.{quoteCap, figures}
@@ -35,8 +35,8 @@ use Rattle.guarantee.specs.Demand3.{Each, Accepted}
 use Rattle.stages.specs.Promise.{Request7}
 use Rattle.stages.specs.Theorem.{request-7}
 
-module _ (side : ℕ) (greys : List ℕ) (pyramid : List ℤ) (serials order : List ℕ)
-    (accepted : Accepted side greys pyramid serials order) (actions : List Action) where
+module _ (side knit : ℕ) (greys : List ℕ) (pyramid : List ℤ) (serials order : List ℕ)
+    (accepted : Accepted side knit greys pyramid serials order) (actions : List Action) where
   -- the power, N, and the sum of all greys
   abbrev r : ℕ
   r = powerOf side
@@ -49,10 +49,10 @@ module _ (side : ℕ) (greys : List ℕ) (pyramid : List ℤ) (serials order : L
 
   -- what the caller holds after Load with all names empty, and after these calls or others
   abbrev first : Caller
-  first = callerAtFirst side greys pyramid serials order
+  first = callerAtFirst side knit greys pyramid serials order
 
   abbrev after : List Action → Caller
-  after calls = callerAfterAll plain greys first calls
+  after calls = callerAfterAll greys first calls
 
   abbrev caller : Caller
   caller = after actions
@@ -62,10 +62,10 @@ module _ (side : ℕ) (greys : List ℕ) (pyramid : List ℤ) (serials order : L
 
   -- the model, fed with the same calls
   abbrev model : Memory
-  model = memoryAfterAll plain r (memoryAtFirst r greys) actions
+  model = memoryAfterAll knit r (memoryAtFirst r greys) actions
 
-  promise : Request7 plain side greys pyramid serials order actions
-  promise = request-7 side greys pyramid serials order accepted actions
+  promise : Request7 side knit greys pyramid serials order actions
+  promise = request-7 side knit greys pyramid serials order accepted actions
 
   -- buffers, record, value and answers are the model's
   pub pyramid-as-model : take ((4 ^ suc r - 1) / 3) (caller .held .pyramid) ≡ model .sheet .pyramid
@@ -78,14 +78,19 @@ module _ (side : ℕ) (greys : List ℕ) (pyramid : List ℤ) (serials order : L
   pub order-as-model : take (N * N) (caller .held .order) ≡ model .sheet .order
   order-as-model = promise .order
 
-  pub record-as-model : (caller .held .progress .side ≡ N) × (dots ≡ model .sheet .dots)
-  record-as-model = (ap (λ p. p .side) (promise .progress), ap (λ p. p .dots) (promise .progress))
+  pub record-as-model :
+      (caller .held .progress .side ≡ N) × (dots ≡ model .sheet .dots) × (caller .held .progress .knit ≡ knit)
+  record-as-model = (
+    ap (λ p. p .side) (promise .progress),
+    ap (λ p. p .dots) (promise .progress),
+    ap (λ p. p .knit) (promise .progress),
+  )
 
   pub value-as-model : caller .checkpoints .kept ≡ map countOf (model .names)
   unfolding countsOf
   value-as-model = ap (λ c. c .kept) (promise .checkpoints)
 
-  pub answers-as-model : answersOf plain greys first actions ≡ modelAnswers plain r (memoryAtFirst r greys) actions
+  pub answers-as-model : answersOf greys first actions ≡ modelAnswers knit r (memoryAtFirst r greys) actions
   answers-as-model = promise .answered
 
   -- past the needed lengths nothing has changed
@@ -100,7 +105,7 @@ module _ (side : ℕ) (greys : List ℕ) (pyramid : List ℤ) (serials order : L
   order-untouched = promise .order-rest
 
   -- the sheet is the model's with that many dots, as counted on the map, and they are at most the total
-  pub sheet-of-its-dots : model .sheet ≡ steps plain r dots (modelStart r greys)
+  pub sheet-of-its-dots : model .sheet ≡ steps (kernelOf knit) r dots (modelStart r greys)
   sheet-of-its-dots = promise .so-many
 
   pub within-the-total : dots ≤ (2 * G + 255) / 510
@@ -113,7 +118,7 @@ module _ (side : ℕ) (greys : List ℕ) (pyramid : List ℤ) (serials order : L
   pub as-last-kept : (before between : List Action) (b : Return)
       → actions ≡ (before ++ (keeping (b .name) ∷ between)) ++ (returning b ∷ [])
       → Each (λ a. a ≢ keeping (b .name)) between
-      → returnOf plain greys (after (before ++ (keeping (b .name) ∷ between))) b .said ≡ returned []
+      → returnOf greys (after (before ++ (keeping (b .name) ∷ between))) b .said ≡ returned []
       → caller .held ≡ after before .held
   as-last-kept = promise .last-kept
 
@@ -122,7 +127,7 @@ module _ (side : ℕ) (greys : List ℕ) (pyramid : List ℤ) (serials order : L
       → Each (λ a. a ≢ keeping (b .name)) between → 1 ≤ b .name → b .name ≤ 8
       → N * N ≤ b .greysLent → (4 ^ suc r - 1) / 3 ≤ b .pyramidLent
       → N * N ≤ b .serialsLent → N * N ≤ b .orderLent
-      → returnOf plain greys caller b .said ≡ returned []
+      → returnOf greys caller b .said ≡ returned []
   unfolding start
   can-return = promise .returns
 

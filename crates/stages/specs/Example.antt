@@ -1,5 +1,5 @@
--- An instance of request 7, so that it is seen to speak of something: P3 kept with no dot under name 1 and with one dot
--- under name 8, run to its end, and returned to. The buffers are one place longer than needed.
+-- An instance of request 7, so that it is seen to speak of something: P3 on ribbed cloth, kept with no dot under name 1
+-- and with one dot under name 8, run to its end, and returned to. The buffers are one place longer than needed.
 use mathlib.Core.Path.{_≡_, refl}
 use mathlib.Core.List.{List, [], _∷_}
 use Prim.Native.Nat.{ℕ}
@@ -31,7 +31,7 @@ use Rattle.definition.specs.Descent.{
   largest,
   descend,
 }
-use Rattle.definition.specs.Diffusion.{plain, within, onMap, weightAt, share, diffuse}
+use Rattle.definition.specs.Diffusion.{ribbed, weightsOf, kernelOf, within, onMap, weightAt, share, diffuse}
 use Rattle.definition.specs.Model.{topOf, modelStart, missing, placeDot, step, steps}
 use Rattle.definition.specs.Sound.{
   burntNear,
@@ -96,28 +96,30 @@ actions =
     keeping 1 ∷ advance 1 ∷ keeping 8 ∷ keeping 9 ∷ advance 5
     ∷ return 3 4 5 ∷ return 8 4 4 ∷ return 8 3 5 ∷ return 8 9 5 ∷ return 1 4 6 ∷ []
 
-accepted : Accepted 2 greys pyramid sheet sheet
+accepted : Accepted 2 ribbed greys pyramid sheet sheet
 unfolding loadOf loadRefusal loaded lowest powerOf powerUpTo start
 accepted =
     record { bytes = (omega arith, (omega arith, (omega arith, (omega arith, tt)))); said = refl }
 
-pub holds-here : Request7 plain 2 greys pyramid sheet sheet actions
-holds-here = request-7 2 greys pyramid sheet sheet accepted actions
+pub holds-here : Request7 2 ribbed greys pyramid sheet sheet actions
+holds-here = request-7 2 ribbed greys pyramid sheet sheet accepted actions
 
 -- what they answer, by computing
 abbrev made : ℕ → ℕ → Said → Answer
-made dots n said = replied (record { progress = record { side = 2; dots = dots }; made = n; said = said })
+made dots n said = replied
+    (record { progress = record { side = 2; dots = dots; knit = ribbed }; made = n; said = said })
 
 abbrev returns : ℕ → Said → Answer
-returns dots said = back (record { side = 2; dots = dots }) said
+returns dots said = back (record { side = 2; dots = dots; knit = ribbed }) said
 
-pub answers-here : answersOf plain greys (callerAtFirst 2 greys pyramid sheet sheet) actions
+pub answers-here : answersOf greys (callerAtFirst 2 ribbed greys pyramid sheet sheet) actions
     ≡ noted (returned []) ∷ made 1 1 more ∷ noted (returned []) ∷ noted (refused 10) ∷ made 2 1 finished
     ∷ returns 2 (refused 10) ∷ returns 2 (refused 3) ∷ returns 2 (refused 2) ∷ returns 1 (returned [])
     ∷ returns 0 (returned []) ∷ []
 unfolding sumTo allTo tabulateFrom eqZ start placeIn rowAt columnAt levelOf inLevel entry four coarser
     pyramidOver blockSum greyAt burnt burntAt greySum greyTotal candidate firstOfEquals lastOfEquals ofEquals
-    choiceOf better largest descend plain within onMap weightAt share diffuse topOf modelStart missing placeDot
+    choiceOf better largest descend weightsOf kernelOf within onMap weightAt share diffuse topOf modelStart missing
+    placeDot
     step steps burntNear everyEntry fewDots numbered counted unused summed bounded owing isSound powerUpTo
     powerOf lowest loadRefusal loaded loadOf dotsDue saidAt sheetIn advanceRefusal advanced advanceOf
     heldAfterLoad callOf heldAfter isName keptAt keepRefusal keepOf canRestore restoreRefusal restored restoreOf

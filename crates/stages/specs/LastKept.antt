@@ -8,23 +8,22 @@ use Prim.Native.Nat.{ℕ, _-_}
 use native.Mathlib.Omega.{arith}
 use lib.ListN.{length}
 use lib.Seq.{getD-set-same, getD-set-other}
-use Rattle.definition.specs.Diffusion.{Kernel}
 use Rattle.definition.specs.Checkpoints.{isName}
 use Rattle.definition.specs.Stages.{Action, advancing, keeping, returning, Memory, sheetAt, modelAct, memoryAfterAll}
 use Rattle.refusals.specs.Names.{at-least-one, at-most-eight}
 use Rattle.guarantee.specs.Demand3.{Each}
 
 -- lists of calls one after the other
-pub memory-more : (kernel : Kernel) (r : ℕ) (m : Memory) (first then : List Action)
-    → memoryAfterAll kernel r m (first ++ then) ≡ memoryAfterAll kernel r (memoryAfterAll kernel r m first) then
+pub memory-more : (knit r : ℕ) (m : Memory) (first then : List Action)
+    → memoryAfterAll knit r m (first ++ then) ≡ memoryAfterAll knit r (memoryAfterAll knit r m first) then
 unfolding memoryAfterAll
-memory-more kernel r m [] then = refl
-memory-more kernel r m (a ∷ rest) then = memory-more kernel r (modelAct kernel r m a) rest then
+memory-more knit r m [] then = refl
+memory-more knit r m (a ∷ rest) then = memory-more knit r (modelAct knit r m a) rest then
 
-module _ (kernel : Kernel) (r : ℕ) (name : ℕ) (is : isName name ≡ true) where
+module _ (knit r : ℕ) (name : ℕ) (is : isName name ≡ true) where
   -- keeping the name holds the sheet there
   pub just-kept : (m : Memory) → length (m .names) ≡ 8
-      → sheetAt (modelAct kernel r m (keeping name)) name ≡ some (m .sheet)
+      → sheetAt (modelAct knit r m (keeping name)) name ≡ some (m .sheet)
   unfolding modelAct sheetAt
   just-kept m eight =
       rw (is, modelAct)
@@ -33,11 +32,11 @@ module _ (kernel : Kernel) (r : ℕ) (name : ℕ) (is : isName name ≡ true) wh
 
   -- every other call leaves it
   other-kept : (m : Memory) (other : ℕ) → other ≢ name
-      → sheetAt (modelAct kernel r m (keeping other)) name ≡ sheetAt m name
+      → sheetAt (modelAct knit r m (keeping other)) name ≡ sheetAt m name
   unfolding modelAct sheetAt
   other-kept m other differ = go (isName other) refl
     where
-      go : (b : Bool) → isName other ≡ b → sheetAt (modelAct kernel r m (keeping other)) name ≡ sheetAt m name
+      go : (b : Bool) → isName other ≡ b → sheetAt (modelAct knit r m (keeping other)) name ≡ sheetAt m name
       go true e =
           rw (e, modelAct)
           (getD-set-other (m .names) (other - 1) (name - 1) (some (m .sheet)) none
@@ -45,15 +44,15 @@ module _ (kernel : Kernel) (r : ℕ) (name : ℕ) (is : isName name ≡ true) wh
       go false e = rw (e, modelAct)
 
   still-kept : (m : Memory) (a : Action) → a ≢ keeping name
-      → sheetAt (modelAct kernel r m a) name ≡ sheetAt m name
+      → sheetAt (modelAct knit r m a) name ≡ sheetAt m name
   unfolding modelAct sheetAt
   still-kept m (advancing call) differ = refl
   still-kept m (keeping other) differ = other-kept m other (λ q. differ (ap keeping q))
   still-kept m (returning b) differ = refl
 
   pub all-still-kept : (m : Memory) (between : List Action) → Each (λ a. a ≢ keeping name) between
-      → sheetAt (memoryAfterAll kernel r m between) name ≡ sheetAt m name
+      → sheetAt (memoryAfterAll knit r m between) name ≡ sheetAt m name
   unfolding memoryAfterAll
   all-still-kept m [] differ = refl
   all-still-kept m (a ∷ rest) differ =
-      all-still-kept (modelAct kernel r m a) rest (differ .1) ∙ still-kept m a (differ .0)
+      all-still-kept (modelAct knit r m a) rest (differ .1) ∙ still-kept m a (differ .0)

@@ -9,11 +9,11 @@ use native.Mathlib.Omega.{arith}
 use lib.Dec.{ltb}
 use lib.ListN.{length, set, take, drop, length-set, length-take, length-append, take-append-drop, List·getD-map}
 use lib.IntN.{ℤ}
-use borrow.Author.Tests.{ltb-false, le-leb, ne-eqb, not-false}
+use borrow.Author.Tests.{ltb-false, le-ltb, le-leb, ne-eqb, not-false}
 use Rattle.definition.specs.Answers.{returned, refused}
 use Rattle.definition.specs.Pyramid.{needed, cellCount}
 use Rattle.definition.specs.Blocks.{greyTotal, totalOf}
-use Rattle.definition.specs.Diffusion.{Kernel}
+use Rattle.definition.specs.Diffusion.{kernelOf}
 use Rattle.definition.specs.Model.{Halftone, modelStart, steps}
 use Rattle.definition.specs.Sound.{isSound}
 use Rattle.definition.specs.Refusals.{powerOf, lowest}
@@ -53,7 +53,6 @@ use Rattle.definition.specs.declared.Progress.{Progress}
 use Rattle.integers.specs.Tests.{true-T}
 use Rattle.refusals.specs.Lowest.{lowest-none}
 use Rattle.refusals.specs.Names.{both}
-use Rattle.shares.specs.Kernels.{Fit}
 use Rattle.dots.specs.Steps.{Sheet}
 use Rattle.dots.specs.SoundTest.{sound-test}
 use Rattle.guarantee.specs.Demand3.{Each}
@@ -79,10 +78,10 @@ kept-count : (m : Memory) (name : ℕ) → keptAt (countsOf m) name ≡ countOf 
 unfolding keptAt countsOf sheetAt countOf
 kept-count m name = List·getD-map countOf (m .names) (name - 1) none
 
-module _ (kernel : Kernel) (fit : Fit kernel) (r : ℕ) (big : 2 ≤ 2 ^ r) (power : powerOf (2 ^ r) ≡ r)
+module _ (knit : ℕ) (known : knit ≤ 1) (r : ℕ) (big : 2 ≤ 2 ^ r) (power : powerOf (2 ^ r) ≡ r)
     (greys : List ℕ) (bytes : Each (λ grey. grey ≤ 255) greys) (long : cellCount r ≤ length greys) where
   abbrev pub IsStage : Halftone → Type 0
-  IsStage = Stage kernel fit r big power greys bytes
+  IsStage = Stage knit known r big power greys bytes
 
   abbrev total : ℕ
   total = totalOf (greyTotal r greys)
@@ -99,7 +98,7 @@ module _ (kernel : Kernel) (fit : Fit kernel) (r : ℕ) (big : 2 ≤ 2 ^ r) (pow
     pub eight : length (m .names) ≡ 8
 
   sheet-of : (t : Halftone) → IsStage t → Sheet r t
-  sheet-of = stage-sheet kernel fit r big power greys bytes
+  sheet-of = stage-sheet knit known r big power greys bytes
 
   good-name : (m : Memory) → Good m → (name : ℕ) → StageOr (sheetAt m name)
   unfolding sheetAt
@@ -108,7 +107,7 @@ module _ (kernel : Kernel) (fit : Fit kernel) (r : ℕ) (big : 2 ≤ 2 ^ r) (pow
   module _ (p : List ℤ) (s o : List ℕ) where
     -- what the caller holds
     abbrev pub callerOf : Memory → Caller
-    callerOf m = record { held = heldOf r (m .sheet) p s o; checkpoints = countsOf m }
+    callerOf m = record { held = heldOf knit r (m .sheet) p s o; checkpoints = countsOf m }
 
     -- ---- a return
     module _ (m : Memory) (g : Good m) (b : Return) where
@@ -161,12 +160,12 @@ module _ (kernel : Kernel) (fit : Fit kernel) (r : ℕ) (big : 2 ≤ 2 ^ r) (pow
       abbrev kept : Option Halftone
       kept = sheetAt m (b .name)
 
-      abbrev known : Bool
-      known = isName (b .name) && isKept kept
+      abbrev named : Bool
+      named = isName (b .name) && isKept kept
 
-      kept-known : canRestore (countsOf m) (b .name) total ≡ known
+      kept-named : canRestore (countsOf m) (b .name) total ≡ named
       unfolding canRestore countOf isKept
-      kept-known = go (sheetAt m (b .name)) (good-name m g (b .name)) (kept-count m (b .name))
+      kept-named = go (sheetAt m (b .name)) (good-name m g (b .name)) (kept-count m (b .name))
         where
           go : (x : Option Halftone) → StageOr x → keptAt (countsOf m) (b .name) ≡ countOf x
               → canRestore (countsOf m) (b .name) total ≡ (isName (b .name) && isKept x)
@@ -174,7 +173,7 @@ module _ (kernel : Kernel) (fit : Fit kernel) (r : ℕ) (big : 2 ≤ 2 ^ r) (pow
           go (some u) h e =
               rw (e, canRestore)
               (ap (λ (z : Bool). isName (b .name) && z)
-              (le-leb (u .dots) total (stage-most kernel fit r big power greys bytes u h)))
+              (le-leb (u .dots) total (stage-most knit known r big power greys bytes u h)))
 
       -- it is refused exactly as the model refuses it
       abbrev can : Bool
@@ -182,7 +181,7 @@ module _ (kernel : Kernel) (fit : Fit kernel) (r : ℕ) (big : 2 ≤ 2 ^ r) (pow
 
       abbrev refusal : ℕ
       refusal =
-          restoreRefusal r (length lentGreys) (length lentPyramid) (length lentSerials) (length lentOrder)
+          restoreRefusal r knit (length lentGreys) (length lentPyramid) (length lentSerials) (length lentOrder)
           (isSound r lentSheet) can
 
       refusal-same : refusal ≡ modelReturnRefusal r m b
@@ -190,6 +189,7 @@ module _ (kernel : Kernel) (fit : Fit kernel) (r : ℕ) (big : 2 ≤ 2 ^ r) (pow
       refusal-same =
           rw (
             ne-eqb r 0 (λ z. omega (arith, ap (λ (n : ℕ). 2 ^ n) z)),
+            le-ltb 1 knit known,
             lent-test greys (b .greysLent) (cellCount r) long,
             lent-test (m .sheet .pyramid ++ p) (b .pyramidLent) (needed r)
                 (omega (arith, length-append (m .sheet .pyramid) p, sheet .sized .pyramid)),
@@ -207,7 +207,7 @@ module _ (kernel : Kernel) (fit : Fit kernel) (r : ℕ) (big : 2 ≤ 2 ^ r) (pow
               → (z : Bool) → ltb (b .orderLent) (cellCount r) ≡ z
               → _≡_ {A = ℕ}
               (cond w 2 (cond x 3 (cond y 4 (cond z 4 (cond (not (isSound r lentSheet)) 5 (cond (not can) 10 0))))))
-              (cond w 2 (cond x 3 (cond y 4 (cond z 4 (cond (not known) 10 0)))))
+              (cond w 2 (cond x 3 (cond y 4 (cond z 4 (cond (not named) 10 0)))))
           go true d x e y f z h = refl
           go false d true e y f z h = refl
           go false d false e true f z h = refl
@@ -216,9 +216,9 @@ module _ (kernel : Kernel) (fit : Fit kernel) (r : ℕ) (big : 2 ≤ 2 ^ r) (pow
               let sound : isSound r lentSheet ≡ true
               = ap (isSound r) (sheet-lent (ltb-false _ _ e) (ltb-false _ _ f) (ltb-false _ _ h))
               ∙ true-T (isSound r (m .sheet)) (sound-test r (m .sheet) (sheet .sound)) in
-              let same : can ≡ known
+              let same : can ≡ named
               = ap (λ (n : ℕ). canRestore (countsOf m) (b .name) (totalOf n)) (total-lent (ltb-false _ _ d))
-              ∙ kept-known in
+              ∙ kept-named in
               rw (sound, same)
 
       -- what the model does not refuse
@@ -236,13 +236,13 @@ module _ (kernel : Kernel) (fit : Fit kernel) (r : ℕ) (big : 2 ≤ 2 ^ r) (pow
           let r₃ = lowest-none 3 (ltb (b .pyramidLent) (needed r)) _ (omega arith) (r₂ .1) in
           let r₄ = lowest-none 4 (ltb (b .serialsLent) (cellCount r)) _ (omega arith) (r₃ .1) in
           let r₅ = lowest-none 4 (ltb (b .orderLent) (cellCount r)) _ (omega arith) (r₄ .1) in
-          let r₆ = lowest-none 10 (not known) _ (omega arith) (r₅ .1) in
+          let r₆ = lowest-none 10 (not named) _ (omega arith) (r₅ .1) in
           record {
             greys-long = ltb-false _ _ (r₂ .0);
             pyramid-long = ltb-false _ _ (r₃ .0);
             serials-long = ltb-false _ _ (r₄ .0);
             order-long = ltb-false _ _ (r₅ .0);
-            is-known = not-false known (r₆ .0);
+            is-known = not-false named (r₆ .0);
           }
 
       -- the kept count is that of the kept sheet, and makes it again
@@ -252,28 +252,30 @@ module _ (kernel : Kernel) (fit : Fit kernel) (r : ℕ) (big : 2 ≤ 2 ^ r) (pow
       abbrev count : ℕ
       count = keptAt (countsOf m) (b .name) - 1
 
-      again : known ≡ true → (count ≡ there .dots) × (steps kernel r count (modelStart r greys) ≡ there)
+      again : named ≡ true
+          → (count ≡ there .dots) × (steps (kernelOf knit) r count (modelStart r greys) ≡ there)
       unfolding countOf isKept orElse
       again = go (sheetAt m (b .name)) (good-name m g (b .name)) (kept-count m (b .name))
         where
           go : (x : Option Halftone) → StageOr x → keptAt (countsOf m) (b .name) ≡ countOf x
               → (isName (b .name) && isKept x) ≡ true
               → (keptAt (countsOf m) (b .name) - 1 ≡ orElse x (m .sheet) .dots)
-              × (steps kernel r (keptAt (countsOf m) (b .name) - 1) (modelStart r greys) ≡ orElse x (m .sheet))
+              × (steps (kernelOf knit) r (keptAt (countsOf m) (b .name) - 1) (modelStart r greys)
+              ≡ orElse x (m .sheet))
           go none h e k = absurd (true≢false (sym (both (isName (b .name)) false k .1)))
           go (some u) h e k =
               let n : keptAt (countsOf m) (b .name) - 1 ≡ u .dots = omega (arith, e) in
-              (n, rw n (stage-again kernel fit r big power greys bytes u h))
+              (n, rw n (stage-again knit known r big power greys bytes u h))
 
       abbrev given : Progress
-      given = record { side = 2 ^ r; dots = m .sheet .dots }
+      given = record { side = 2 ^ r; dots = m .sheet .dots; knit = knit }
 
       abbrev outcome : RestoreOutcome
-      outcome = restoreOf kernel given (countsOf m) (b .name) lentGreys lentPyramid lentSerials lentOrder
+      outcome = restoreOf given (countsOf m) (b .name) lentGreys lentPyramid lentSerials lentOrder
 
       outcome-taken : modelReturnRefusal r m b ≡ 0 → outcome
           ≡ record {
-            progress = record { side = 2 ^ r; dots = there .dots };
+            progress = record { side = 2 ^ r; dots = there .dots; knit = knit };
             checkpoints = countsOf m;
             said = returned [];
             pyramid = there .pyramid ++ drop (needed r) lentPyramid;
@@ -306,7 +308,7 @@ module _ (kernel : Kernel) (fit : Fit kernel) (r : ℕ) (big : 2 ≤ 2 ^ r) (pow
       abbrev expected : RestoreOutcome
       expected =
           record {
-            progress = record { side = 2 ^ r; dots = modelReturn r m b .dots };
+            progress = record { side = 2 ^ r; dots = modelReturn r m b .dots; knit = knit };
             checkpoints = countsOf m;
             said = saidOf (modelReturnRefusal r m b);
             pyramid = modelReturn r m b .pyramid ++ p;
@@ -314,17 +316,17 @@ module _ (kernel : Kernel) (fit : Fit kernel) (r : ℕ) (big : 2 ≤ 2 ^ r) (pow
             order = modelReturn r m b .order ++ o;
           }
 
-      pub return-same : returnOf kernel greys (callerOf m) b ≡ expected
+      pub return-same : returnOf greys (callerOf m) b ≡ expected
       return-same = go (modelReturnRefusal r m b) refl
         where
-          go : (k : ℕ) → modelReturnRefusal r m b ≡ k → returnOf kernel greys (callerOf m) b ≡ expected
+          go : (k : ℕ) → modelReturnRefusal r m b ≡ k → returnOf greys (callerOf m) b ≡ expected
           go zero e =
               let h = taken e in
               unfold returnOf saidOf in
               rw (outcome-taken e, return-taken e, e)
               (λ i.
               record {
-                progress = record { side = 2 ^ r; dots = there .dots };
+                progress = record { side = 2 ^ r; dots = there .dots; knit = knit };
                 checkpoints = countsOf m;
                 said = returned [];
                 pyramid =
@@ -364,7 +366,7 @@ module _ (kernel : Kernel) (fit : Fit kernel) (r : ℕ) (big : 2 ≤ 2 ^ r) (pow
     -- ---- a keep
     module _ (m : Memory) (name : ℕ) where
       abbrev record-now : Progress
-      record-now = record { side = 2 ^ r; dots = m .sheet .dots }
+      record-now = record { side = 2 ^ r; dots = m .sheet .dots; knit = knit }
 
       keep-row : keepRefusal r name ≡ lowest (nameUnknown (isName name) ∷ [])
       unfolding keepRefusal lowest
@@ -397,19 +399,19 @@ module _ (kernel : Kernel) (fit : Fit kernel) (r : ℕ) (big : 2 ≤ 2 ^ r) (pow
     -- ---- one call of the list
     abbrev same-act : Memory → Action → Type 0
     same-act m a =
-        (act kernel greys (callerOf m) a ≡ callerOf (modelAct kernel r m a))
-        × (answerOf kernel greys (callerOf m) a ≡ modelAnswer kernel r m a) × Good (modelAct kernel r m a)
+        (act greys (callerOf m) a ≡ callerOf (modelAct knit r m a))
+        × (answerOf greys (callerOf m) a ≡ modelAnswer knit r m a) × Good (modelAct knit r m a)
 
     pub act-same : (m : Memory) → Good m → (a : Action) → same-act m a
     unfolding act answerOf modelAct modelAnswer callerAfter countsOf saidOf lowest
     act-same m g (advancing call) =
         let h = sheet-of (m .sheet) (g .at-stage) in
-        let held = held-same kernel fit r big power (m .sheet) h p s o call in
-        let same = call-same kernel fit r big power (m .sheet) h p s o call in (
+        let held = held-same knit known r big power (m .sheet) h p s o call in
+        let same = call-same knit known r big power (m .sheet) h p s o call in (
           (λ i. record { held = held i; checkpoints = countsOf m }),
           ap (λ (out : AdvanceOutcome). replied (out .reply)) same,
           record {
-            at-stage = stage-call kernel fit r big power greys bytes (m .sheet) (g .at-stage) call;
+            at-stage = stage-call knit known r big power greys bytes (m .sheet) (g .at-stage) call;
             at-names = g .at-names;
             eight = g .eight;
           },
@@ -436,24 +438,24 @@ module _ (kernel : Kernel) (fit : Fit kernel) (r : ℕ) (big : 2 ≤ 2 ^ r) (pow
 
     -- ---- a list of them
     pub all-held : (actions : List Action) (m : Memory) → Good m
-        → callerAfterAll kernel greys (callerOf m) actions ≡ callerOf (memoryAfterAll kernel r m actions)
+        → callerAfterAll greys (callerOf m) actions ≡ callerOf (memoryAfterAll knit r m actions)
     unfolding callerAfterAll memoryAfterAll
     all-held [] m g = refl
     all-held (a ∷ rest) m g =
         let h = act-same m g a in
-        ap (λ (c : Caller). callerAfterAll kernel greys c rest) (h .0) ∙ all-held rest (modelAct kernel r m a) (h .2)
+        ap (λ (c : Caller). callerAfterAll greys c rest) (h .0) ∙ all-held rest (modelAct knit r m a) (h .2)
 
     pub all-answered : (actions : List Action) (m : Memory) → Good m
-        → answersOf kernel greys (callerOf m) actions ≡ modelAnswers kernel r m actions
+        → answersOf greys (callerOf m) actions ≡ modelAnswers knit r m actions
     unfolding answersOf modelAnswers
     all-answered [] m g = refl
     all-answered (a ∷ rest) m g =
         let h = act-same m g a in
         ap₂ _∷_ (h .1)
-        (ap (λ (c : Caller). answersOf kernel greys c rest) (h .0)
-        ∙ all-answered rest (modelAct kernel r m a) (h .2))
+        (ap (λ (c : Caller). answersOf greys c rest) (h .0)
+        ∙ all-answered rest (modelAct knit r m a) (h .2))
 
-    pub all-good : (actions : List Action) (m : Memory) → Good m → Good (memoryAfterAll kernel r m actions)
+    pub all-good : (actions : List Action) (m : Memory) → Good m → Good (memoryAfterAll knit r m actions)
     unfolding memoryAfterAll
     all-good [] m g = g
-    all-good (a ∷ rest) m g = all-good rest (modelAct kernel r m a) (act-same m g a .2)
+    all-good (a ∷ rest) m g = all-good rest (modelAct knit r m a) (act-same m g a .2)

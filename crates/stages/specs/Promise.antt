@@ -10,7 +10,7 @@ use lib.Signed.{_<ℤ_}
 use Rattle.definition.specs.Answers.{returned}
 use Rattle.definition.specs.Pyramid.{oneDot, halfDot, needed, cellCount}
 use Rattle.definition.specs.Blocks.{greyTotal, totalOf, allDots}
-use Rattle.definition.specs.Diffusion.{Kernel}
+use Rattle.definition.specs.Diffusion.{kernelOf}
 use Rattle.definition.specs.Model.{topOf, modelStart, steps}
 use Rattle.definition.specs.Refusals.{powerOf}
 use Rattle.definition.specs.Stages.{
@@ -34,14 +34,14 @@ use Rattle.guarantee.specs.Demand3.{Each, EachBlock, UnderCap, OverFloor, Quote
 
 -- What holds after a list of calls: of the buffers as Load was lent them, of what the caller held at first and then
 -- holds and was answered, and of the model's memory and answers. N = 2^r is the side, G the sum of the greys.
-pub record StagesHold (kernel : Kernel) (r G : ℕ) (greys : List ℕ)
+pub record StagesHold (knit r G : ℕ) (greys : List ℕ)
     (lentPyramid : List ℤ) (lentSerials lentOrder : List ℕ) (actions : List Action)
     (first caller : Caller) (answers : List Answer) (model : Memory) (modelled : List Answer) : Type 0 where
   -- the buffers, each over its needed length, the record and the value are the model's
   pub pyramid : take (needed r) (caller .held .pyramid) ≡ model .sheet .pyramid
   pub serials : take (cellCount r) (caller .held .serials) ≡ model .sheet .serials
   pub order : take (cellCount r) (caller .held .order) ≡ model .sheet .order
-  pub progress : caller .held .progress ≡ record { side = 2 ^ r; dots = model .sheet .dots }
+  pub progress : caller .held .progress ≡ record { side = 2 ^ r; dots = model .sheet .dots; knit = knit }
   pub checkpoints : caller .checkpoints ≡ countsOf model
   -- all answers, those of refused calls too, are the model's
   pub answered : answers ≡ modelled
@@ -50,7 +50,7 @@ pub record StagesHold (kernel : Kernel) (r G : ℕ) (greys : List ℕ)
   pub serials-rest : drop (cellCount r) (caller .held .serials) ≡ drop (cellCount r) lentSerials
   pub order-rest : drop (cellCount r) (caller .held .order) ≡ drop (cellCount r) lentOrder
   -- the sheet is the one that the model of these greys has with so many dots, and these are at most the total
-  pub so-many : model .sheet ≡ steps kernel r (caller .held .progress .dots) (modelStart r greys)
+  pub so-many : model .sheet ≡ steps (kernelOf knit) r (caller .held .progress .dots) (modelStart r greys)
   pub most : caller .held .progress .dots ≤ totalOf G
   pub all-dots : allDots r (caller .held .serials) ≡ caller .held .progress .dots
   -- a list that ends with a return that isn't refused: record and buffers, whole, are as they were when its name was
@@ -58,15 +58,15 @@ pub record StagesHold (kernel : Kernel) (r G : ℕ) (greys : List ℕ)
   pub last-kept : (before between : List Action) (b : Return)
       → actions ≡ (before ++ (keeping (b .name) ∷ between)) ++ (returning b ∷ [])
       → Each (λ a. a ≢ keeping (b .name)) between
-      → returnOf kernel greys
-      (callerAfterAll kernel greys first (before ++ (keeping (b .name) ∷ between))) b .said ≡ returned []
-      → caller .held ≡ callerAfterAll kernel greys first before .held
+      → returnOf greys
+      (callerAfterAll greys first (before ++ (keeping (b .name) ∷ between))) b .said ≡ returned []
+      → caller .held ≡ callerAfterAll greys first before .held
   -- and after a keep there is such a return: any that is lent enough
   pub returns : (before between : List Action) (b : Return) → actions ≡ before ++ (keeping (b .name) ∷ between)
       → Each (λ a. a ≢ keeping (b .name)) between → 1 ≤ b .name → b .name ≤ 8
       → cellCount r ≤ b .greysLent → needed r ≤ b .pyramidLent
       → cellCount r ≤ b .serialsLent → cellCount r ≤ b .orderLent
-      → returnOf kernel greys caller b .said ≡ returned []
+      → returnOf greys caller b .said ≡ returned []
   -- demand 3 of the dots then on the sheet: no cell twice, the cap of every aligned square, the floor once the map is
   -- finished, the quote page, and what is left at the top
   pub once : (i j : ℕ) → i < j → j < caller .held .progress .dots
@@ -77,11 +77,11 @@ pub record StagesHold (kernel : Kernel) (r G : ℕ) (greys : List ℕ)
   pub debt : pos (oneDot * caller .held .progress .dots) +ℤ topOf (caller .held .pyramid) ≡ pos (256 * G)
 
 -- The promise for one list of calls on the buffers that Load was lent.
-abbrev pub Request7 : Kernel → ℕ → List ℕ → List ℤ → List ℕ → List ℕ → List Action → Type 0
-Request7 kernel side greys pyramid serials order actions =
+abbrev pub Request7 : ℕ → ℕ → List ℕ → List ℤ → List ℕ → List ℕ → List Action → Type 0
+Request7 side knit greys pyramid serials order actions =
     let r = powerOf side in
-    let first = callerAtFirst side greys pyramid serials order in
+    let first = callerAtFirst side knit greys pyramid serials order in
     let memory = memoryAtFirst r greys in
-    StagesHold kernel r (greyTotal r greys) greys pyramid serials order actions
-    first (callerAfterAll kernel greys first actions) (answersOf kernel greys first actions)
-    (memoryAfterAll kernel r memory actions) (modelAnswers kernel r memory actions)
+    StagesHold knit r (greyTotal r greys) greys pyramid serials order actions
+    first (callerAfterAll greys first actions) (answersOf greys first actions)
+    (memoryAfterAll knit r memory actions) (modelAnswers knit r memory actions)

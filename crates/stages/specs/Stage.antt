@@ -5,18 +5,18 @@ use mathlib.Core.List.{List}
 use Prim.Native.Nat.{ℕ, _+_, _^_, _≤_, min}
 use native.Mathlib.Omega.{arith}
 use Rattle.definition.specs.Blocks.{greyTotal, totalOf}
-use Rattle.definition.specs.Diffusion.{Kernel}
+use Rattle.definition.specs.Diffusion.{kernelOf}
 use Rattle.definition.specs.Model.{Halftone, topOf, modelStart, steps}
 use Rattle.definition.specs.Refusals.{powerOf}
 use Rattle.definition.specs.Advance.{dotsDue}
 use Rattle.definition.specs.Calls.{Call, modelCall}
-use Rattle.shares.specs.Kernels.{Fit}
+use Rattle.shares.specs.Kernels.{knit-fit}
 use Rattle.dots.specs.Steps.{Sheet, steps-sheet, steps-made, steps-min, steps-add}
 use Rattle.guarantee.specs.Demand3.{Each}
 use Rattle.guarantee.specs.Start.{start-sheet, start-dots, start-due}
 use Rattle.guarantee.specs.ManyCalls.{call-keeps}
 
-module _ (kernel : Kernel) (fit : Fit kernel) (r : ℕ) (big : 2 ≤ 2 ^ r) (power : powerOf (2 ^ r) ≡ r)
+module _ (knit : ℕ) (known : knit ≤ 1) (r : ℕ) (big : 2 ≤ 2 ^ r) (power : powerOf (2 ^ r) ≡ r)
     (greys : List ℕ) (bytes : Each (λ grey. grey ≤ 255) greys) where
   abbrev fresh : Halftone
   fresh = modelStart r greys
@@ -32,20 +32,21 @@ module _ (kernel : Kernel) (fit : Fit kernel) (r : ℕ) (big : 2 ≤ 2 ^ r) (pow
 
   pub record Stage (t : Halftone) : Type 0 where
     pub made : ℕ
-    pub is : t ≡ steps kernel r made (modelStart r greys)
+    pub is : t ≡ steps (kernelOf knit) r made (modelStart r greys)
 
   pub stage-first : Stage (modelStart r greys)
   unfolding steps
   stage-first = record { made = 0; is = refl }
 
   pub stage-sheet : (t : Halftone) → Stage t → Sheet r t
-  stage-sheet t h = rw (h .is) (steps-sheet kernel fit r big (h .made) (modelStart r greys) fresh-sheet)
+  stage-sheet t h =
+      rw (h .is) (steps-sheet (kernelOf knit) (knit-fit knit) r big (h .made) (modelStart r greys) fresh-sheet)
 
-  pub dots-of : (n : ℕ) → steps kernel r n (modelStart r greys) .dots ≡ min n total
+  pub dots-of : (n : ℕ) → steps (kernelOf knit) r n (modelStart r greys) .dots ≡ min n total
   dots-of n =
       omega (
         arith,
-        steps-made kernel fit r big n (modelStart r greys) fresh-sheet,
+        steps-made (kernelOf knit) (knit-fit knit) r big n (modelStart r greys) fresh-sheet,
         due-total,
         start-dots r greys bytes,
       )
@@ -53,22 +54,23 @@ module _ (kernel : Kernel) (fit : Fit kernel) (r : ℕ) (big : 2 ≤ 2 ^ r) (pow
   pub stage-most : (t : Halftone) → Stage t → t .dots ≤ total
   stage-most t h = rw (h .is) (omega (arith, dots-of (h .made)))
 
-  pub stage-again : (t : Halftone) → Stage t → steps kernel r (t .dots) (modelStart r greys) ≡ t
+  pub stage-again : (t : Halftone) → Stage t → steps (kernelOf knit) r (t .dots) (modelStart r greys) ≡ t
   stage-again t h =
-      ap (λ (u : Halftone). steps kernel r (u .dots) (modelStart r greys)) (h .is)
-      ∙ ap (λ (n : ℕ). steps kernel r n (modelStart r greys)) (omega (arith, dots-of (h .made), due-total))
-      ∙ steps-min kernel fit r big (h .made) (modelStart r greys) fresh-sheet
+      ap (λ (u : Halftone). steps (kernelOf knit) r (u .dots) (modelStart r greys)) (h .is)
+      ∙ ap (λ (n : ℕ). steps (kernelOf knit) r n (modelStart r greys))
+      (omega (arith, dots-of (h .made), due-total))
+      ∙ steps-min (kernelOf knit) (knit-fit knit) r big (h .made) (modelStart r greys) fresh-sheet
       ∙ sym (h .is)
 
   -- an Advance call leads from stage to stage
-  pub stage-call : (t : Halftone) → Stage t → (call : Call) → Stage (modelCall kernel r t call)
-  stage-call t h call = call-keeps kernel fit r big power Stage t (stage-sheet t h) call h further
+  pub stage-call : (t : Halftone) → Stage t → (call : Call) → Stage (modelCall knit r t call)
+  stage-call t h call = call-keeps knit known r big power Stage t (stage-sheet t h) call h further
     where
-      further : Stage (steps kernel r (call .budget) t)
+      further : Stage (steps (kernelOf knit) r (call .budget) t)
       further =
           record {
             made = h .made + call .budget;
             is =
-                ap (steps kernel r (call .budget)) (h .is)
-                ∙ steps-add kernel r (h .made) (call .budget) (modelStart r greys);
+                ap (steps (kernelOf knit) r (call .budget)) (h .is)
+                ∙ steps-add (kernelOf knit) r (h .made) (call .budget) (modelStart r greys);
           }

@@ -1,4 +1,4 @@
--- Request 7, for every list of Advance, Keep and Restore calls after an accepted Load.
+-- Request 7, for either knit and every list of Advance, Keep and Restore calls after an accepted Load.
 use mathlib.Core.Path.{_≡_, refl, sym, ap, _∙_}
 use mathlib.Core.Logic.{_≢_}
 use mathlib.Core.Bool.{true}
@@ -14,7 +14,6 @@ use borrow.Author.Tests.{le-ltb}
 use Rattle.definition.specs.Answers.{returned}
 use Rattle.definition.specs.Pyramid.{needed, cellCount}
 use Rattle.definition.specs.Blocks.{greyTotal}
-use Rattle.definition.specs.Diffusion.{Kernel, plain}
 use Rattle.definition.specs.Model.{Halftone, modelStart}
 use Rattle.definition.specs.Refusals.{powerOf, lowest}
 use Rattle.definition.specs.Calls.{Call, Held, heldAfterLoad, heldAfterCalls, modelRefusal, modelAfterCalls}
@@ -42,14 +41,13 @@ use Rattle.definition.specs.Stages.{
   countsOf,
 }
 use Rattle.refusals.specs.Names.{both, one-to-eight}
-use Rattle.shares.specs.Kernels.{Fit, plain-fit}
 use Rattle.dots.specs.Steps.{Sheet}
 use Rattle.guarantee.specs.Demand3.{Each, Accepted, Demand3}
 use Rattle.guarantee.specs.Start.{Loaded, start-sheet, accepted-loaded, loaded-held}
 use Rattle.guarantee.specs.Lent.{heldOf}
 use Rattle.guarantee.specs.OneCall.{model-taken}
 use Rattle.guarantee.specs.ManyCalls.{calls-held}
-use Rattle.guarantee.specs.Theorem.{demand-3-for}
+use Rattle.guarantee.specs.Theorem.{demand-3}
 use Rattle.stages.specs.Promise.{StagesHold, Request7}
 use Rattle.stages.specs.Stage.{stage-first, stage-sheet, stage-most, stage-again}
 use Rattle.stages.specs.OneAction.{
@@ -82,14 +80,16 @@ unfolding saidOf
 said-done zero e = refl
 said-done (suc n) e = let z : _≡_ {A = ℕ} 0 1 = cc in absurd (omega arith)
 
-module _ (kernel : Kernel) (fit : Fit kernel)
-    (side : ℕ) (greys : List ℕ) (pyramid : List ℤ) (serials order : List ℕ)
-    (accepted : Accepted side greys pyramid serials order) where
+module _ (side knit : ℕ) (greys : List ℕ) (pyramid : List ℤ) (serials order : List ℕ)
+    (accepted : Accepted side knit greys pyramid serials order) where
   abbrev r : ℕ
   r = powerOf side
 
-  loaded : Loaded side greys pyramid serials order
-  loaded = accepted-loaded side greys pyramid serials order accepted
+  loaded : Loaded side knit greys pyramid serials order
+  loaded = accepted-loaded side knit greys pyramid serials order accepted
+
+  abbrev known : knit ≤ 1
+  known = loaded .lent .known
 
   big : 2 ≤ 2 ^ powerOf side
   big = pow-mono {i = 1} {j = powerOf side} (loaded .lent .power)
@@ -114,99 +114,99 @@ module _ (kernel : Kernel) (fit : Fit kernel)
   memory = memoryAtFirst r greys
 
   abbrev caller : Memory → Caller
-  caller = callerOf kernel fit r big power greys (accepted .bytes) long p s o
+  caller = callerOf knit known r big power greys (accepted .bytes) long p s o
 
-  empty : (n : ℕ) → Each (StageOr kernel fit r big power greys (accepted .bytes) long) (replicate n none)
+  empty : (n : ℕ) → Each (StageOr knit known r big power greys (accepted .bytes) long) (replicate n none)
   empty zero = tt
   empty (suc n) = (tt, empty n)
 
-  good : Good kernel fit r big power greys (accepted .bytes) long (memoryAtFirst r greys)
+  good : Good knit known r big power greys (accepted .bytes) long (memoryAtFirst r greys)
   unfolding memoryAtFirst
   good =
       record {
-        at-stage = stage-first kernel fit r big power greys (accepted .bytes);
+        at-stage = stage-first knit known r big power greys (accepted .bytes);
         at-names = empty 8;
         eight = refl;
       }
 
-  first-is : callerAtFirst side greys pyramid serials order ≡ caller (memoryAtFirst r greys)
+  first-is : callerAtFirst side knit greys pyramid serials order ≡ caller (memoryAtFirst r greys)
   unfolding callerAtFirst memoryAtFirst countsOf countOf
   first-is =
       λ i. record {
-        held = loaded-held side greys pyramid serials order loaded i;
+        held = loaded-held side knit greys pyramid serials order loaded i;
         checkpoints = record { kept = replicate 8 0 };
       }
 
   -- ---- a stage is what one Advance call leaves, so demand 3 speaks of it
-  module _ (t : Halftone) (h : IsStage kernel fit r big power greys (accepted .bytes) long t) where
-    one-call : heldAfterCalls kernel (heldAfterLoad side greys pyramid serials order) (whole r (t .dots) ∷ [])
-        ≡ heldOf r t p s o
+  module _ (t : Halftone) (h : IsStage knit known r big power greys (accepted .bytes) long t) where
+    one-call : heldAfterCalls (heldAfterLoad side knit greys pyramid serials order) (whole r (t .dots) ∷ [])
+        ≡ heldOf knit r t p s o
     one-call =
         let fresh = modelStart r greys in
         let sheet = start-sheet r greys (accepted .bytes) in
         let call = whole r (t .dots) in
-        let one : modelAfterCalls kernel r fresh (call ∷ []) ≡ t
+        let one : modelAfterCalls knit r fresh (call ∷ []) ≡ t
         = unfold modelAfterCalls in
-        model-taken kernel fit r big power fresh sheet p s o call (whole-taken r (t .dots))
-        ∙ stage-again kernel fit r big power greys (accepted .bytes) t h in
-        ap (λ (held : Held). heldAfterCalls kernel held (call ∷ []))
-        (loaded-held side greys pyramid serials order loaded)
-        ∙ calls-held kernel fit r big power p s o (call ∷ []) fresh sheet
-        ∙ ap (λ (u : Halftone). heldOf r u p s o) one
+        model-taken knit known r big power fresh sheet p s o call (whole-taken r (t .dots))
+        ∙ stage-again knit known r big power greys (accepted .bytes) t h in
+        ap (λ (held : Held). heldAfterCalls held (call ∷ []))
+        (loaded-held side knit greys pyramid serials order loaded)
+        ∙ calls-held knit known r big power p s o (call ∷ []) fresh sheet
+        ∙ ap (λ (u : Halftone). heldOf knit r u p s o) one
 
-    demand : Demand3 kernel side greys pyramid serials order (whole r (t .dots) ∷ [])
-    demand = demand-3-for kernel fit side greys pyramid serials order accepted (whole r (t .dots) ∷ [])
+    demand : Demand3 side knit greys pyramid serials order (whole r (t .dots) ∷ [])
+    demand = demand-3 side knit greys pyramid serials order accepted (whole r (t .dots) ∷ [])
 
   module _ (actions : List Action) where
     abbrev last : Memory
-    last = memoryAfterAll kernel r memory actions
+    last = memoryAfterAll knit r memory actions
 
-    last-good : Good kernel fit r big power greys (accepted .bytes) long last
-    last-good = all-good kernel fit r big power greys (accepted .bytes) long p s o actions memory good
+    last-good : Good knit known r big power greys (accepted .bytes) long last
+    last-good = all-good knit known r big power greys (accepted .bytes) long p s o actions memory good
 
     abbrev t : Halftone
     t = last .sheet
 
     sheet : Sheet r t
-    sheet = stage-sheet kernel fit r big power greys (accepted .bytes) t (last-good .at-stage)
+    sheet = stage-sheet knit known r big power greys (accepted .bytes) t (last-good .at-stage)
 
     -- ---- a return that isn't refused, after a last keep of its name
     module _ (before between : List Action) (b : Return) where
       abbrev until-keep : Memory
-      until-keep = memoryAfterAll kernel r memory before
+      until-keep = memoryAfterAll knit r memory before
 
       abbrev until-return : Memory
-      until-return = memoryAfterAll kernel r memory (before ++ (keeping (b .name) ∷ between))
+      until-return = memoryAfterAll knit r memory (before ++ (keeping (b .name) ∷ between))
 
-      return-good : Good kernel fit r big power greys (accepted .bytes) long until-return
+      return-good : Good knit known r big power greys (accepted .bytes) long until-return
       return-good =
-          all-good kernel fit r big power greys (accepted .bytes) long p s o
+          all-good knit known r big power greys (accepted .bytes) long p s o
           (before ++ (keeping (b .name) ∷ between)) memory good
 
-      keep-good : Good kernel fit r big power greys (accepted .bytes) long until-keep
-      keep-good = all-good kernel fit r big power greys (accepted .bytes) long p s o before memory good
+      keep-good : Good knit known r big power greys (accepted .bytes) long until-keep
+      keep-good = all-good knit known r big power greys (accepted .bytes) long p s o before memory good
 
       abbrev outcome : RestoreOutcome
       outcome =
-          returnOf kernel greys
-          (callerAfterAll kernel greys (caller memory) (before ++ (keeping (b .name) ∷ between))) b
+          returnOf greys
+          (callerAfterAll greys (caller memory) (before ++ (keeping (b .name) ∷ between))) b
 
       outcome-said : outcome .said ≡ saidOf (modelReturnRefusal r until-return b)
       outcome-said =
-          ap (λ (c : Caller). returnOf kernel greys c b .said)
-          (all-held kernel fit r big power greys (accepted .bytes) long p s o
+          ap (λ (c : Caller). returnOf greys c b .said)
+          (all-held knit known r big power greys (accepted .bytes) long p s o
           (before ++ (keeping (b .name) ∷ between)) memory good)
           ∙ ap (λ (out : RestoreOutcome). out .said)
-          (return-same kernel fit r big power greys (accepted .bytes) long p s o until-return return-good b)
+          (return-same knit known r big power greys (accepted .bytes) long p s o until-return return-good b)
 
       -- with the name kept last before `between`
       still : Each (λ a. a ≢ keeping (b .name)) between → isName (b .name) ≡ true
           → sheetAt until-return (b .name) ≡ some (until-keep .sheet)
       still differ is-name =
-          ap (λ (m : Memory). sheetAt m (b .name)) (memory-more kernel r memory before (keeping (b .name) ∷ between))
+          ap (λ (m : Memory). sheetAt m (b .name)) (memory-more knit r memory before (keeping (b .name) ∷ between))
           ∙ unfold memoryAfterAll in
-          all-still-kept kernel r (b .name) is-name (modelAct kernel r until-keep (keeping (b .name))) between differ
-          ∙ just-kept kernel r (b .name) is-name until-keep (keep-good .eight)
+          all-still-kept knit r (b .name) is-name (modelAct knit r until-keep (keeping (b .name))) between differ
+          ∙ just-kept knit r (b .name) is-name until-keep (keep-good .eight)
 
       module _ (split : actions ≡ (before ++ (keeping (b .name) ∷ between)) ++ (returning b ∷ []))
           (differ : Each (λ a. a ≢ keeping (b .name)) between) (done : outcome .said ≡ returned []) where
@@ -216,25 +216,25 @@ module _ (kernel : Kernel) (fit : Fit kernel)
         is-name : isName (b .name) ≡ true
         is-name =
             both (isName (b .name)) (isKept (sheetAt until-return (b .name)))
-            (taken kernel fit r big power greys (accepted .bytes) long p s o until-return return-good b none-refused
+            (taken knit known r big power greys (accepted .bytes) long p s o until-return return-good b none-refused
             .is-known)
             .0
 
         back-there : last .sheet ≡ until-keep .sheet
         back-there =
-            ap (λ (l : List Action). memoryAfterAll kernel r memory l .sheet) split
+            ap (λ (l : List Action). memoryAfterAll knit r memory l .sheet) split
             ∙ ap (λ (m : Memory). m .sheet)
-            (memory-more kernel r memory (before ++ (keeping (b .name) ∷ between)) (returning b ∷ []))
+            (memory-more knit r memory (before ++ (keeping (b .name) ∷ between)) (returning b ∷ []))
             ∙ unfold memoryAfterAll modelAct in
-            return-taken kernel fit r big power greys (accepted .bytes) long p s o until-return return-good b
+            return-taken knit known r big power greys (accepted .bytes) long p s o until-return return-good b
             none-refused
             ∙ unfold orElse in rw (still differ is-name, orElse)
 
-        as-then : heldOf r t p s o ≡ callerAfterAll kernel greys (caller memory) before .held
+        as-then : heldOf knit r t p s o ≡ callerAfterAll greys (caller memory) before .held
         as-then =
-            ap (λ (u : Halftone). heldOf r u p s o) back-there
+            ap (λ (u : Halftone). heldOf knit r u p s o) back-there
             ∙ ap (λ (c : Caller). c .held)
-            (sym (all-held kernel fit r big power greys (accepted .bytes) long p s o before memory good))
+            (sym (all-held knit known r big power greys (accepted .bytes) long p s o before memory good))
 
     -- ---- after a keep, a return to its name that is lent enough
     module _ (before between : List Action) (b : Return) (split : actions ≡ before ++ (keeping (b .name) ∷ between))
@@ -243,7 +243,7 @@ module _ (kernel : Kernel) (fit : Fit kernel)
         (ls : cellCount r ≤ b .serialsLent) (lo : cellCount r ≤ b .orderLent) where
       still-there : sheetAt last (b .name) ≡ some (until-keep before between b .sheet)
       still-there =
-          ap (λ (l : List Action). sheetAt (memoryAfterAll kernel r memory l) (b .name)) split
+          ap (λ (l : List Action). sheetAt (memoryAfterAll knit r memory l) (b .name)) split
           ∙ still before between b differ is-name
 
       none-applies : modelReturnRefusal r last b ≡ 0
@@ -258,15 +258,15 @@ module _ (kernel : Kernel) (fit : Fit kernel)
             still-there,
           )
 
-      is-done : returnOf kernel greys (caller last) b .said ≡ returned []
+      is-done : returnOf greys (caller last) b .said ≡ returned []
       unfolding saidOf
       is-done =
           ap (λ (out : RestoreOutcome). out .said)
-          (return-same kernel fit r big power greys (accepted .bytes) long p s o last last-good b)
+          (return-same knit known r big power greys (accepted .bytes) long p s o last last-good b)
           ∙ ap saidOf none-applies
 
-    holds : StagesHold kernel r (greyTotal r greys) greys pyramid serials order actions (caller memory) (caller last)
-        (modelAnswers kernel r memory actions) last (modelAnswers kernel r memory actions)
+    holds : StagesHold knit r (greyTotal r greys) greys pyramid serials order actions (caller memory) (caller last)
+        (modelAnswers knit r memory actions) last (modelAnswers knit r memory actions)
     holds =
         let one = one-call t (last-good .at-stage) in
         let d = demand t (last-good .at-stage) in
@@ -280,8 +280,8 @@ module _ (kernel : Kernel) (fit : Fit kernel)
           pyramid-rest = drop-at (t .pyramid) p (needed r) (sheet .sized .pyramid);
           serials-rest = drop-at (t .serials) s (cellCount r) (sheet .sized .serials);
           order-rest = drop-at (t .order) o (cellCount r) (sheet .sized .order);
-          so-many = sym (stage-again kernel fit r big power greys (accepted .bytes) t (last-good .at-stage));
-          most = stage-most kernel fit r big power greys (accepted .bytes) t (last-good .at-stage);
+          so-many = sym (stage-again knit known r big power greys (accepted .bytes) t (last-good .at-stage));
+          most = stage-most knit known r big power greys (accepted .bytes) t (last-good .at-stage);
           all-dots = rw one at (d .all-dots);
           last-kept = λ before between b split differ done. as-then before between b split differ done;
           returns = λ before between b split differ low high g lp ls lo.
@@ -293,17 +293,11 @@ module _ (kernel : Kernel) (fit : Fit kernel)
           debt = rw one at (d .debt);
         }
 
-    pub request-7-for : Request7 kernel side greys pyramid serials order actions
-    request-7-for =
+    pub request-7 : Request7 side knit greys pyramid serials order actions
+    request-7 =
         rw (
           first-is,
-          all-held kernel fit r big power greys (accepted .bytes) long p s o actions memory good,
-          all-answered kernel fit r big power greys (accepted .bytes) long p s o actions memory good,
+          all-held knit known r big power greys (accepted .bytes) long p s o actions memory good,
+          all-answered knit known r big power greys (accepted .bytes) long p s o actions memory good,
         )
         holds
-
--- for document 01's weights
-pub request-7 : (side : ℕ) (greys : List ℕ) (pyramid : List ℤ) (serials order : List ℕ)
-    → Accepted side greys pyramid serials order → (actions : List Action)
-    → Request7 plain side greys pyramid serials order actions
-request-7 = request-7-for plain plain-fit

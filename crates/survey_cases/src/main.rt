@@ -1,7 +1,7 @@
 // Reads cases on standard input and writes what Load, Tally and Levels answer to each.
-// The input is lines of decimal numbers parted by commas. The first line is the count of cases. A case is four lines: the side and the four
-// lengths lent (greys, pyramid, serials, order); the greys; the count of marks and the cells to mark; the count of tallies, and a level, row
-// and column for each.
+// The input is lines of decimal numbers parted by commas. The first line is the count of cases. A case is four
+// lines: the side, the knit and the four lengths lent (greys, pyramid, serials, order); the greys; the count of
+// marks and the cells to mark; the count of tallies, and a level, row and column for each.
 use case_io::end_line;
 use case_io::end_refused;
 use case_io::field;
@@ -91,12 +91,13 @@ fn tally_blocks(text: &[u8], from: usize, side: u32, serials: &[u32]) -> usize {
 // Loads the places lent, and writes the answer and all of these places.
 fn load_places(
     side: u32,
+    knit: u32,
     greys: &[u8],
     pyramid: &mut [i64],
     serials: &mut [u32],
     order: &mut [u32],
 ) {
-    case_io::print_load(load::load(side, greys, pyramid, serials, order));
+    case_io::print_load(load::load(side, knit, greys, pyramid, serials, order));
     io::write_all(1, b"pyramid");
     fields_i64(pyramid);
     io::write_all(1, b"serials");
@@ -110,13 +111,14 @@ fn run(
     text: &[u8],
     from: usize,
     side: u32,
+    knit: u32,
     greys: &mut [u8],
     pyramid: &mut [i64],
     serials: &mut [u32],
     order: &mut [u32],
 ) -> usize {
     let marks = case_io::read_bytes(text, from, greys);
-    load_places(side, greys, pyramid, serials, order);
+    load_places(side, knit, greys, pyramid, serials, order);
     let tallies = read_marks(text, marks, serials);
     let end = tally_blocks(text, tallies, side, serials);
     print_levels(survey::levels(side, greys, serials));
@@ -126,7 +128,8 @@ fn run(
 // Reads a case from a place on, writes its answers, and returns the place behind it.
 fn run_case(text: &[u8], from: usize) -> usize {
     let side = next(text, from);
-    let g = next(text, side.at);
+    let knit = next(text, side.at);
+    let g = next(text, knit.at);
     let p = next(text, g.at);
     let s = next(text, p.at);
     let o = next(text, s.at);
@@ -142,6 +145,7 @@ fn run_case(text: &[u8], from: usize) -> usize {
         text,
         o.at,
         side.value,
+        knit.value,
         &mut greys[..greys_lent],
         &mut pyramid[..pyramid_lent],
         &mut serials[..serials_lent],

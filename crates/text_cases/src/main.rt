@@ -1,8 +1,9 @@
-// Reads cases on standard input and writes what Map Text answers to each text, and what Drill List answers where a map was read.
-// The first line is the count of cases. A case is a line of four decimal numbers parted by commas: the text's length, the places lent of the
-// greys buffer and of the output, and a damage; and then the text itself, of just that length.
-// Damage 0 is none. Before Drill List 1 adds 1 to the pyramid's top; 2 says one hole more than were made, and 3 says side 3; 4, 5 and 6 lend one
-// place less of the pyramid, the serial sheet and the order list.
+// Reads cases on standard input and writes what Map Text answers to each text, and what Drill List answers where a
+// map was read. The first line is the count of cases. A case is a line of six decimal numbers parted by commas: the
+// text's length, the places lent of the greys buffer and of the output, a damage, the knit that Load is given and
+// the one that Drill List is given in its record; and then the text itself, of just that length. Damage 0 is none.
+// Before Drill List 1 adds 1 to the pyramid's top; 2 says one hole more than were made, and 3 says side 3; 4, 5 and
+// 6 lend one place less of the pyramid, the serial sheet and the order list.
 use case_io::end_line;
 use case_io::field;
 use case_io::field_u32;
@@ -13,6 +14,13 @@ use definition::MapTextAnswer;
 use definition::Progress;
 use definition::TextAnswer;
 ghost use Prim.Native.Nat.{_≤_};
+
+// What a case asks for: the damage, the knit of the load, and the knit that the record says afterwards.
+struct Asked {
+    damage: u32,
+    knit: u32,
+    said: u32,
+}
 
 // 1 for a place of the output that holds what it held before the call, or else 0.
 fn untouched(b: u8) -> usize
@@ -69,17 +77,23 @@ fn top_damage(damage: u32) -> u32 {
 }
 
 // The record that Drill List is given.
-fn damaged_record(damage: u32, record: Progress) -> Progress {
+fn damaged_record(damage: u32, said: u32, record: Progress) -> Progress {
     match damage {
         2 => Progress {
             side: record.side,
             dots: one_more(record.dots),
+            knit: said,
         },
         3 => Progress {
             side: 3,
             dots: record.dots,
+            knit: said,
         },
-        _ => record,
+        _ => Progress {
+            side: record.side,
+            dots: record.dots,
+            knit: said,
+        },
     }
 }
 
@@ -96,9 +110,10 @@ fn lent(whole: usize, damage: u32, of: u32) -> usize
     whole - 1
 }
 
-// Calls Drill List with the record and the lengths that the damage says.
+// Calls Drill List with the record and the lengths that the damage says, and the knit said.
 fn list_damaged(
     damage: u32,
+    said: u32,
     record: Progress,
     pyramid: &[i64],
     serials: &[u32],
@@ -109,7 +124,7 @@ fn list_damaged(
     let serials_lent = lent(serials.len(), damage, 5);
     let order_lent = lent(order.len(), damage, 6);
     drill_list::drill_list(
-        damaged_record(damage, record),
+        damaged_record(damage, said, record),
         &pyramid[..pyramid_lent],
         &serials[..serials_lent],
         &order[..order_lent],
@@ -120,12 +135,13 @@ fn list_damaged(
 // Loads a map and runs it to its end.
 fn run_map(
     side: u32,
+    knit: u32,
     greys: &[u8],
     pyramid: &mut [i64],
     serials: &mut [u32],
     order: &mut [u32],
 ) -> Progress {
-    let loaded = load::load(side, greys, pyramid, serials, order);
+    let loaded = load::load(side, knit, greys, pyramid, serials, order);
     let record = loaded.progress;
     let answer = advance::advance(record, 4294967295, pyramid, serials, order);
     answer.progress
@@ -133,7 +149,7 @@ fn run_map(
 
 // Runs a map on the places lent, and writes what Drill List answers.
 fn list_places(
-    damage: u32,
+    asked: Asked,
     side: u32,
     greys: &[u8],
     pyramid: &mut [i64],
@@ -141,14 +157,15 @@ fn list_places(
     order: &mut [u32],
     out: &mut [u8],
 ) {
-    let record = run_map(side, greys, pyramid, serials, order);
+    let damage = asked.damage;
+    let record = run_map(side, asked.knit, greys, pyramid, serials, order);
     case_io::shift_entry(pyramid, 0, top_damage(damage), 0);
-    let answer = list_damaged(damage, record, pyramid, serials, order, out);
+    let answer = list_damaged(damage, asked.said, record, pyramid, serials, order, out);
     print_answer(answer, out);
 }
 
 // The same on buffers of the needed lengths, for a side up to 16.
-fn list_map(damage: u32, side: u32, greys: &[u8], out: &mut [u8]) {
+fn list_map(asked: Asked, side: u32, greys: &[u8], out: &mut [u8]) {
     let r = sizes::power_of(side);
     let needed = least(sizes::needed(r), 341);
     let cells = least(sizes::cell_count(r), 256);
@@ -156,7 +173,7 @@ fn list_map(damage: u32, side: u32, greys: &[u8], out: &mut [u8]) {
     let mut serials = [9u32; 256];
     let mut order = [9u32; 256];
     list_places(
-        damage,
+        asked,
         side,
         greys,
         &mut pyramid[..needed],
@@ -178,12 +195,12 @@ fn print_side(side: u32) {
 }
 
 // Gives Map Text a text, and writes its answer, the greys buffer, and Drill List's answer where a map was read.
-fn run_text(text: &[u8], damage: u32, greys: &mut [u8], out: &mut [u8]) {
+fn run_text(text: &[u8], asked: Asked, greys: &mut [u8], out: &mut [u8]) {
     match map_text::map_text(text, greys) {
         MapTextAnswer::Side(side) => {
             print_side(side);
             print_greys(greys);
-            list_map(damage, side, greys, out);
+            list_map(asked, side, greys, out);
         }
         MapTextAnswer::Refused(why) => {
             case_io::print_refused(why);
@@ -193,14 +210,14 @@ fn run_text(text: &[u8], damage: u32, greys: &mut [u8], out: &mut [u8]) {
 }
 
 // The same with so many places lent of both buffers.
-fn run_lent(text: &[u8], damage: u32, g: u32, o: u32) {
+fn run_lent(text: &[u8], asked: Asked, g: u32, o: u32) {
     let greys_lent = limit(g, 300);
     let output_lent = limit(o, 4000);
     let mut greys = [9u8; 300];
     let mut out = [46u8; 4000];
     run_text(
         text,
-        damage,
+        asked,
         &mut greys[..greys_lent],
         &mut out[..output_lent],
     );
@@ -212,10 +229,17 @@ fn run_case(text: &[u8], from: usize) -> usize {
     let g = next(text, length.at);
     let o = next(text, g.at);
     let damage = next(text, o.at);
-    let start = least(damage.at, text.len());
+    let knit = next(text, damage.at);
+    let said = next(text, knit.at);
+    let start = least(said.at, text.len());
     let size = limit(length.value, text.len() - start);
     let end = start + size;
-    run_lent(&text[start..end], damage.value, g.value, o.value);
+    let asked = Asked {
+        damage: damage.value,
+        knit: knit.value,
+        said: said.value,
+    };
+    run_lent(&text[start..end], asked, g.value, o.value);
     end
 }
 

@@ -1,10 +1,13 @@
 //! The benchmark: side 256, the sample of seed 1, Load and one Advance to the end, by the library and by the team's own
-//! Rust. Runs alternate, every buffer is cleared before each, the median of nine is taken. Printed: both times, their
-//! ratio, and the time of the test for a sound sheet alone (an Advance of budget 0 on the loaded sheet).
+//! Rust, on plain cloth and then on ribbed. Runs alternate, every buffer is cleared before each, the median of nine is
+//! taken. Printed for each knit: both times, their ratio, and the time of the test for a sound sheet alone (an Advance
+//! of budget 0 on the loaded sheet).
 
 mod plain;
 
 use std::time::Instant;
+
+use rulmedei::{PLAIN, RIBBED};
 
 const POWER: usize = 8;
 const SIDE: u32 = 256;
@@ -36,14 +39,19 @@ struct Run {
 
 fn main() {
     let greys = sampled();
+    measure(PLAIN, "plain", &greys);
+    measure(RIBBED, "ribbed", &greys);
+}
+
+fn measure(knit: u32, name: &str, greys: &[u8]) {
     let (mut ours, mut theirs) = (Vec::new(), Vec::new());
     for _ in 0..RUNS {
-        let (library, rust) = (by_library(&greys), by_rust(&greys));
+        let (library, rust) = (by_library(knit, greys), by_rust(knit, greys));
         assert!(same(&library, &rust), "the two leave different sheets");
         ours.push(library);
         theirs.push(rust);
     }
-    println!("side {SIDE}, {} holes, median of {RUNS} alternating runs", ours[0].dots);
+    println!("side {SIDE}, {name}, {} holes, median of {RUNS} alternating runs", ours[0].dots);
     print_line("library, load and run", &ours, |run| run.load + run.run);
     print_line("rust, load and run", &theirs, |run| run.load + run.run);
     let ratio = median(&ours, |run| run.load + run.run) / median(&theirs, |run| run.load + run.run);
@@ -54,10 +62,10 @@ fn main() {
     print_line("rust, sound-sheet test alone", &theirs, |run| run.test);
 }
 
-fn by_library(greys: &[u8]) -> Run {
+fn by_library(knit: u32, greys: &[u8]) -> Run {
     let mut b = Buffers::cleared();
     let start = Instant::now();
-    let loaded = rulmedei::load(SIDE, greys, &mut b.pyramid, &mut b.serials, &mut b.order).expect("load");
+    let loaded = rulmedei::load(SIDE, knit, greys, &mut b.pyramid, &mut b.serials, &mut b.order).expect("load");
     let load = start.elapsed().as_secs_f64();
     let start = Instant::now();
     rulmedei::advance(loaded, 0, &mut b.pyramid, &mut b.serials, &mut b.order).expect("advance by 0");
@@ -68,16 +76,17 @@ fn by_library(greys: &[u8]) -> Run {
     Run { load, test, run, dots: end.progress.dots, buffers: b }
 }
 
-fn by_rust(greys: &[u8]) -> Run {
+fn by_rust(knit: u32, greys: &[u8]) -> Run {
+    let knit = knit as usize;
     let mut b = Buffers::cleared();
     let start = Instant::now();
     plain::load(POWER, greys, &mut b.pyramid, &mut b.serials, &mut b.order);
     let load = start.elapsed().as_secs_f64();
     let start = Instant::now();
-    plain::advance(POWER, 0, 0, &mut b.pyramid, &mut b.serials, &mut b.order).expect("advance by 0");
+    plain::advance(POWER, knit, 0, 0, &mut b.pyramid, &mut b.serials, &mut b.order).expect("advance by 0");
     let test = start.elapsed().as_secs_f64();
     let start = Instant::now();
-    let dots = plain::advance(POWER, 0, u32::MAX, &mut b.pyramid, &mut b.serials, &mut b.order).expect("advance");
+    let dots = plain::advance(POWER, knit, 0, u32::MAX, &mut b.pyramid, &mut b.serials, &mut b.order).expect("advance");
     let run = start.elapsed().as_secs_f64();
     Run { load, test, run, dots, buffers: b }
 }

@@ -1,10 +1,12 @@
-//! The team's own implementation in Rust of the same work: plain indexing, so every access is bounds-checked, and no
-//! unsafe code. Load fills the pyramid and makes all sums; Advance tests the sheet, then descends, burns, spreads, and
-//! renews the sums over the burnt cell and its neighbours, each once.
+//! The team's own implementation in Rust of the same work, for either knit: plain indexing, so every access is
+//! bounds-checked, and no unsafe code. Load fills the pyramid and makes all sums; Advance tests the sheet, then
+//! descends, burns, spreads, and renews the sums over the burnt cell and its neighbours, each once.
 
 const DOT: i64 = 65_280;
 const HALF_DOT: i64 = 32_640;
-const WEIGHTS: [[i64; 3]; 3] = [[1, 2, 1], [2, 0, 2], [1, 2, 1]];
+
+/// What the cells around a cell weigh, a table for each knit.
+const WEIGHTS: [[i64; 9]; 2] = [[1, 2, 1, 2, 0, 2, 1, 2, 1], [0, 1, 0, 1, 0, 1, 0, 1, 0]];
 
 fn level_start(level: usize) -> usize {
     ((1 << (2 * level)) - 1) / 3
@@ -62,6 +64,7 @@ fn four(level: usize, row: usize, column: usize, pyramid: &[i64]) -> i64 {
 /// sound.
 pub fn advance(
     power: usize,
+    knit: usize,
     dots: u32,
     budget: u32,
     pyramid: &mut [i64],
@@ -73,20 +76,20 @@ pub fn advance(
     }
     let mut made = 0;
     while made < budget && pyramid[0] >= HALF_DOT {
-        place_dot(power, dots + made, pyramid, serials, order);
+        place_dot(power, &WEIGHTS[knit], dots + made, pyramid, serials, order);
         made += 1;
     }
     Some(dots + made)
 }
 
 /// One hole.
-fn place_dot(power: usize, dots: u32, pyramid: &mut [i64], serials: &mut [u32], order: &mut [u32]) {
+fn place_dot(power: usize, weights: &[i64; 9], dots: u32, pyramid: &mut [i64], serials: &mut [u32], order: &mut [u32]) {
     let (row, column) = descend(power, i64::from(dots % 2), pyramid);
     let cell = (row << power) + column;
     let place = level_start(power) + cell;
     let lacking = DOT - pyramid[place];
     pyramid[place] = 0;
-    diffuse(power, row, column, lacking, &mut pyramid[level_start(power)..]);
+    diffuse(power, weights, row, column, lacking, &mut pyramid[level_start(power)..]);
     serials[cell] = dots + 1;
     order[dots as usize] = cell as u32;
     renew_over(power, row, column, pyramid);
@@ -112,24 +115,24 @@ fn entry(level: usize, (row, column): (usize, usize), pyramid: &[i64]) -> i64 {
 }
 
 /// The shares of the neighbours on the map, by running floors.
-fn diffuse(power: usize, row: usize, column: usize, lacking: i64, cells: &mut [i64]) {
-    let total: i64 = around(power, row, column).map(|(_, weight)| weight).sum();
-    let (mut weights, mut given) = (0, 0);
-    for (cell, weight) in around(power, row, column) {
-        weights += weight;
-        let until = lacking * weights / total;
+fn diffuse(power: usize, weights: &[i64; 9], row: usize, column: usize, lacking: i64, cells: &mut [i64]) {
+    let total: i64 = around(power, row, column).map(|(_, place)| weights[place]).sum();
+    let (mut weighed, mut given) = (0, 0);
+    for (cell, place) in around(power, row, column) {
+        weighed += weights[place];
+        let until = lacking * weighed / total;
         cells[cell] -= until - given;
         given = until;
     }
 }
 
-/// The neighbours on the map, by row and column, with their weights.
-fn around(power: usize, row: usize, column: usize) -> impl Iterator<Item = (usize, i64)> {
+/// The neighbours on the map, by row and column, with their places in the three by three around the cell.
+fn around(power: usize, row: usize, column: usize) -> impl Iterator<Item = (usize, usize)> {
     let side = 1 << power;
     (0..9).filter_map(move |n| {
         let (down, right) = (row + n / 3, column + n % 3);
         let inside = n != 4 && down >= 1 && down <= side && right >= 1 && right <= side;
-        inside.then(|| (((down - 1) << power) + right - 1, WEIGHTS[n / 3][n % 3]))
+        inside.then(|| (((down - 1) << power) + right - 1, n))
     })
 }
 

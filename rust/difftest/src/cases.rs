@@ -1,6 +1,6 @@
-//! The cases, by kind: every call answered; every call refused; loads; runs of calls with lent parts and damage between
-//! them; runs with names; sheets that no Load made; noise; the renewal by itself on wrong pyramids; samples one after
-//! another; plates compared, and shelves of plates; texts, and texts of two sides.
+//! The cases, by kind: every call answered, and every call refused, both on either knit; loads; runs of calls with lent
+//! parts and damage between them; runs with names; sheets that no Load made; noise; the renewal by itself on wrong
+//! pyramids; samples one after another; plates compared, and shelves of plates; texts, and texts of two sides.
 
 use reference::SIDES;
 
@@ -12,15 +12,17 @@ use crate::shelves::{compare_case, shelf_case};
 use crate::side_by_side::{Differs, SideBySide};
 use crate::stages::stage_case;
 use crate::texts::{mixed_text_case, text_case};
-use crate::tours::{refusals_case, tour_case};
+use crate::tours::{refusals_case, ribbed_refusals_case, ribbed_tour_case, tour_case};
 
 /// A case of a side.
 type Case = fn(&mut Random, &mut SideBySide, u32) -> Result<(), Differs>;
 
 /// The kinds of case, each made at every side by the sweep.
-const KINDS: [Case; 13] = [
+const KINDS: [Case; 15] = [
     tour_case,
+    ribbed_tour_case,
     refusals_case,
+    ribbed_refusals_case,
     load_case,
     run_case,
     stage_case,

@@ -1,33 +1,46 @@
-//! Which codes the calls returned at which of the eight sides, and what kinds of comparison, shelf, Keep and Restore
-//! there were.
+//! Which codes the calls returned at which of the eight sides, which of them on ribbed cloth, and what kinds of
+//! comparison, shelf, Keep, Restore and knit there were.
 
 use std::collections::BTreeSet;
 
 use reference::SIDES;
 
+use crate::knit_kinds;
 use crate::plate_kinds::{self, Kind};
 use crate::stage_kinds;
 
 /// The codes that each call can return at every side: those of its answers, then those of its refusals.
 const CODES: [(&str, &[u32]); 13] = [
-    ("load", &[0, 2, 3, 4]),
-    ("advance", &[0, 100, 3, 4, 5]),
+    ("load", &[0, 11, 2, 3, 4]),
+    ("advance", &[0, 100, 11, 3, 4, 5]),
     ("tally", &[0, 4, 6]),
     ("levels", &[0, 2, 4]),
     ("map_text", &[0, 2, 7]),
-    ("drill_list", &[0, 3, 4, 5, 8]),
+    ("drill_list", &[0, 11, 3, 4, 5, 8]),
     ("quote_page", &[0, 2, 4, 6, 8]),
     ("sample", &[0, 2]),
     ("compare", &[102, 103, 104, 105, 106, 4]),
     ("shelf", &[0, 4, 8]),
     ("keep", &[0, 10]),
-    ("restore", &[0, 2, 3, 4, 5, 10]),
+    ("restore", &[0, 11, 2, 3, 4, 5, 10]),
     ("renew", &[0, 101]),
 ];
 
+/// The codes that the calls that look at the knit can return at every side on ribbed cloth.
+const RIBBED_CODES: [(&str, &[u32]); 4] = [
+    ("load", &[0, 2, 3, 4]),
+    ("advance", &[0, 100, 3, 4, 5]),
+    ("drill_list", &[0, 3, 4, 5, 8]),
+    ("restore", &[0, 2, 3, 4, 5, 10]),
+];
+
+/// A call, a side and a code.
+type Seen = (&'static str, u32, u32);
+
 #[derive(Default)]
 pub struct Coverage {
-    seen: BTreeSet<(&'static str, u32, u32)>,
+    seen: BTreeSet<Seen>,
+    ribbed: BTreeSet<Seen>,
     kinds: BTreeSet<Kind>,
 }
 
@@ -36,21 +49,41 @@ impl Coverage {
         self.seen.insert((call, side, code));
     }
 
+    /// What a call on ribbed cloth returned.
+    pub fn note_ribbed(&mut self, call: &'static str, side: u32, code: u32) {
+        self.ribbed.insert((call, side, code));
+    }
+
     pub fn note_kinds(&mut self, kinds: Vec<Kind>) {
         self.kinds.extend(kinds);
     }
 
-    /// What has not been seen: the call, the side and the code.
-    pub fn missing(&self) -> Vec<(&'static str, u32, u32)> {
-        let of_call = |(call, codes): (&'static str, &'static [u32])| {
-            SIDES.into_iter().flat_map(move |side| codes.iter().map(move |code| (call, side, *code)))
-        };
-        CODES.into_iter().flat_map(of_call).filter(|wanted| !self.seen.contains(wanted)).collect()
+    /// What has not been seen.
+    pub fn missing(&self) -> Vec<Seen> {
+        not_seen(&CODES, &self.seen)
     }
 
-    /// The kinds of comparison, shelf, Keep and Restore that have not been seen.
+    /// What has not been seen on ribbed cloth.
+    pub fn missing_ribbed(&self) -> Vec<Seen> {
+        not_seen(&RIBBED_CODES, &self.ribbed)
+    }
+
+    /// Whether some kind has not been met yet; once all are, nobody asks of what kinds a call is. Only these are noted.
+    pub fn wants_kinds(&self) -> bool {
+        self.kinds.len() < plate_kinds::KINDS.len() + stage_kinds::KINDS.len() + knit_kinds::KINDS.len()
+    }
+
+    /// The kinds of comparison, shelf, Keep, Restore and knit that have not been seen.
     pub fn missing_kinds(&self) -> Vec<Kind> {
-        let kinds = plate_kinds::KINDS.into_iter().chain(stage_kinds::KINDS);
+        let kinds = plate_kinds::KINDS.into_iter().chain(stage_kinds::KINDS).chain(knit_kinds::KINDS);
         kinds.filter(|wanted| !self.kinds.contains(wanted)).collect()
     }
+}
+
+/// What a table has, at every side, and was not seen.
+fn not_seen(table: &[(&'static str, &[u32])], seen: &BTreeSet<Seen>) -> Vec<Seen> {
+    let of_call = |(call, codes): &(&'static str, &[u32])| -> Vec<Seen> {
+        SIDES.iter().flat_map(|side| codes.iter().map(|code| (*call, *side, *code))).collect()
+    };
+    table.iter().flat_map(of_call).filter(|wanted| !seen.contains(wanted)).collect()
 }

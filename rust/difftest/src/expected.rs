@@ -17,8 +17,15 @@ const SAME: u32 = 104;
 const AFTER_AT: u32 = 105;
 const AFTER: u32 = 106;
 
-pub fn load(side: u32, greys: &[u8], pyramid: &mut [i64], serials: &mut [u32], order: &mut [u32]) -> Outcome {
-    let answer = reference::load(side, greys, pyramid, serials, order);
+pub fn load(
+    side: u32,
+    knit: u32,
+    greys: &[u8],
+    pyramid: &mut [i64],
+    serials: &mut [u32],
+    order: &mut [u32],
+) -> Outcome {
+    let answer = reference::load(side, knit, greys, pyramid, serials, order);
     Outcome { code: code_of(answer.status), values: record(answer.progress) }
 }
 
@@ -35,7 +42,7 @@ pub fn advance(
         Ok(Ended::More) => MORE,
         Err(refusal) => refusal.number(),
     };
-    Outcome { code, values: vec![answer.progress.dots.into(), answer.made.into()] }
+    Outcome { code, values: [record(answer.progress), vec![answer.made.into()]].concat() }
 }
 
 pub fn tally(side: u32, serials: &[u32], [level, row, column]: [u32; 3]) -> Outcome {
@@ -109,7 +116,7 @@ pub fn renew(side: u32, [row, column]: [u32; 2], pyramid: &mut [i64]) -> Outcome
 }
 
 fn record(progress: Progress) -> Vec<u64> {
-    vec![progress.side.into(), progress.dots.into()]
+    vec![progress.side.into(), progress.dots.into(), progress.knit.into()]
 }
 
 fn code_of<T>(answer: Result<T, Refusal>) -> u32 {

@@ -10,11 +10,27 @@ pub struct Outcome {
     pub values: Vec<u64>,
 }
 
-pub fn load(side: u32, greys: &[u8], pyramid: &mut [i64], serials: &mut [u32], order: &mut [u32]) -> Outcome {
-    let (code, record) = codes::load(side, greys, pyramid, serials, order);
-    Outcome { code, values: vec![record.side.into(), record.dots.into()] }
+impl Outcome {
+    /// The record, of Load, Advance and Restore.
+    pub fn progress(&self) -> Progress {
+        let [side, dots, knit] = [0, 1, 2].map(|place| self.values[place] as u32);
+        Progress { side, dots, knit }
+    }
 }
 
+pub fn load(
+    side: u32,
+    knit: u32,
+    greys: &[u8],
+    pyramid: &mut [i64],
+    serials: &mut [u32],
+    order: &mut [u32],
+) -> Outcome {
+    let (code, record) = codes::load(side, knit, greys, pyramid, serials, order);
+    Outcome { code, values: numbers(record) }
+}
+
+/// The holes made stand behind the record.
 pub fn advance(
     progress: Progress,
     budget: u32,
@@ -23,7 +39,7 @@ pub fn advance(
     order: &mut [u32],
 ) -> Outcome {
     let (code, after, made) = codes::advance(ours(progress), budget, pyramid, serials, order);
-    Outcome { code, values: vec![after.dots.into(), made.into()] }
+    Outcome { code, values: [numbers(after), vec![made.into()]].concat() }
 }
 
 pub fn tally(side: u32, serials: &[u32], [level, row, column]: [u32; 3]) -> Outcome {
@@ -82,7 +98,7 @@ pub fn restore(
 ) -> Outcome {
     let value = rulmedei::Checkpoints { kept: checkpoints.kept };
     let (code, after) = codes::restore(ours(progress), &value, name, greys, pyramid, serials, order);
-    Outcome { code, values: [&[after.side.into(), after.dots.into()], &value.kept[..]].concat() }
+    Outcome { code, values: [numbers(after), value.kept.to_vec()].concat() }
 }
 
 pub fn renew(side: u32, [row, column]: [u32; 2], pyramid: &mut [i64]) -> Outcome {
@@ -91,5 +107,10 @@ pub fn renew(side: u32, [row, column]: [u32; 2], pyramid: &mut [i64]) -> Outcome
 
 /// The record as the library has it.
 fn ours(progress: Progress) -> rulmedei::Progress {
-    rulmedei::Progress { side: progress.side, dots: progress.dots }
+    rulmedei::Progress { side: progress.side, dots: progress.dots, knit: progress.knit }
+}
+
+/// The three numbers of a record.
+fn numbers(record: rulmedei::Progress) -> Vec<u64> {
+    vec![record.side.into(), record.dots.into(), record.knit.into()]
 }

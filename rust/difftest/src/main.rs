@@ -1,9 +1,10 @@
 //! The library and the reference side by side: `difftest CASES SEED` on so many cases, of which the first thousand make
-//! every call at every side, and `difftest vectors` on the maps of `vectors/runs.csv`.
+//! every call at every side, and `difftest vectors` on the maps of `vectors/runs.csv` and `vectors/ribbed.csv`.
 
 mod cases;
 mod coverage;
 mod expected;
+mod knit_kinds;
 mod library;
 mod parts;
 mod plate_kinds;
@@ -25,8 +26,8 @@ use coverage::Coverage;
 use random::Random;
 use side_by_side::SideBySide;
 
-/// Within so many cases every call has returned each of its codes at every side, and there was every kind of
-/// comparison, shelf, Keep and Restore.
+/// Within so many cases every call has returned each of its codes at every side, those that look at the knit on ribbed
+/// cloth too, and there was every kind of comparison, shelf, Keep, Restore and knit.
 const COVERED: u64 = 1000;
 
 fn main() -> ExitCode {
@@ -57,8 +58,8 @@ fn usage() -> String {
 }
 
 fn compare_vectors() -> Result<String, String> {
-    let lines = vectors::compare()?;
-    Ok(format!("vectors/runs.csv: the library gives the same {lines} lines"))
+    let [plain, ribbed] = vectors::compare()?;
+    Ok(format!("vectors: the library gives the same {plain} lines of runs.csv and {ribbed} of ribbed.csv"))
 }
 
 /// Compares the cases and prints the calls by name and code. Returns the last line.
@@ -69,10 +70,10 @@ fn compare_cases(cases: u64, seed: u64) -> Result<String, String> {
     for case in 1..=cases {
         cases::case(case - 1, &mut random, &mut calls)
             .map_err(|difference| format!("case {case} of seed {seed}, after {} calls: {difference}", calls.total()))?;
-        if codes.is_none() && calls.coverage.missing().is_empty() {
+        if codes.is_none() && calls.coverage.missing().is_empty() && calls.coverage.missing_ribbed().is_empty() {
             codes = Some(case);
         }
-        if kinds.is_none() && calls.coverage.missing_kinds().is_empty() {
+        if kinds.is_none() && !calls.coverage.wants_kinds() {
             kinds = Some(case);
         }
         if case == COVERED {
@@ -83,16 +84,22 @@ fn compare_cases(cases: u64, seed: u64) -> Result<String, String> {
         println!("{call},{code},{count}");
     }
     let [codes, kinds] = [codes, kinds].map(|covered| covered.unwrap_or(cases));
-    println!("each of the thirteen calls was answered, and gave each refusal, at all eight sides within {codes} cases");
-    println!("every kind of comparison, shelf, Keep and Restore was met within {kinds} cases");
+    println!(
+        "each of the thirteen calls was answered, and gave each refusal, at all eight sides within {codes} cases,"
+    );
+    println!("those that look at the knit on plain cloth and on ribbed");
+    println!("every kind of comparison, shelf, Keep, Restore and knit was met within {kinds} cases");
     Ok(format!("{} calls compared in {cases} cases of seed {seed}, no difference", calls.total()))
 }
 
 /// Whether all was seen that has to be; else what was not.
 fn covered(coverage: &Coverage) -> Result<(), String> {
-    let (codes, kinds) = (coverage.missing(), coverage.missing_kinds());
-    if codes.is_empty() && kinds.is_empty() {
+    let (codes, ribbed, kinds) = (coverage.missing(), coverage.missing_ribbed(), coverage.missing_kinds());
+    if codes.is_empty() && ribbed.is_empty() && kinds.is_empty() {
         return Ok(());
     }
-    Err(format!("not seen within {COVERED} cases (call, side, code): {codes:?}; of the kinds: {kinds:?}"))
+    Err(format!(
+        "not seen within {COVERED} cases (call, side, code): {codes:?}; on ribbed cloth: {ribbed:?}; \
+         of the kinds: {kinds:?}"
+    ))
 }

@@ -1,6 +1,6 @@
 //! What is lent to calls: sheets, greys and parts of them, damage, blocks, levels and budgets, drawn for a side.
 
-use reference::{cell_count, power, pyramid_length, Progress};
+use reference::{cell_count, power, pyramid_length, Progress, PLAIN, RIBBED};
 
 use crate::random::Random;
 use crate::side_by_side::{Lent, Sheet};
@@ -52,10 +52,20 @@ pub fn lent(random: &mut Random, side: u32, sheet: &Sheet) -> Lent {
     }
 }
 
+/// The other of the two knits.
+pub fn other_knit(knit: u32) -> u32 {
+    if knit == PLAIN {
+        RIBBED
+    } else {
+        PLAIN
+    }
+}
+
 /// Makes one bit of a sheet, or the record, another.
 pub fn damage(random: &mut Random, progress: &mut Progress, sheet: &mut Sheet) {
-    match random.below(8) {
+    match random.below(9) {
         0 => progress.side = random.side(),
+        8 => progress.knit = random.no_knit(),
         1 => progress.dots = progress.dots.wrapping_add(random.pick(&[1, u32::MAX, 2, 1 << 31])),
         2..=4 => {
             let place = random.below(sheet.pyramid.len());

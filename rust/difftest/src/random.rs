@@ -1,5 +1,7 @@
 //! Pseudo-random numbers from a seed (SplitMix64), and the draws that the cases are made of.
 
+use reference::{PLAIN, RIBBED};
+
 pub struct Random {
     state: u64,
 }
@@ -54,6 +56,25 @@ impl Random {
             return self.pick(&[0, 1, 3, 5, 6, 7, 9, 12, 24, 31, 33, 255, 257, 512, 1 << 31, u32::MAX, odd]);
         }
         self.good_side()
+    }
+
+    /// One of the two knits.
+    pub fn good_knit(&mut self) -> u32 {
+        self.pick(&[PLAIN, RIBBED])
+    }
+
+    /// A number that is no knit.
+    pub fn no_knit(&mut self) -> u32 {
+        let odd = self.next() as u32;
+        self.pick(&[2, 2, 3, 4, 255, 256, 257, 1 << 16, 1 << 31, u32::MAX, u32::MAX, odd.max(2)])
+    }
+
+    /// One of the two knits, or now and then another number.
+    pub fn knit(&mut self) -> u32 {
+        if self.once_in(12) {
+            return self.no_knit();
+        }
+        self.good_knit()
     }
 
     /// A length around a needed one, or now and then any small one.

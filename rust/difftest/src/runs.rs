@@ -3,7 +3,9 @@
 use reference::{renew_all, Progress};
 use rulmedei::page_length;
 
-use crate::parts::{blank, block, budget, damage, greys, last_level, lent, lent_greys, level, needed, noise, whole};
+use crate::parts::{
+    blank, block, budget, damage, greys, last_level, lent, lent_greys, level, needed, noise, other_knit, whole,
+};
 use crate::random::Random;
 use crate::side_by_side::{Differs, Lent, Sheet, SideBySide};
 
@@ -13,44 +15,46 @@ pub fn load_case(random: &mut Random, calls: &mut SideBySide, side: u32) -> Resu
     let greys = greys(random, count);
     let mut sheet = noise(random, side);
     let lent = lent(random, side, &sheet);
-    calls.load(side, &greys, &mut sheet, lent)?;
+    calls.load(side, random.knit(), &greys, &mut sheet, lent)?;
     Ok(())
 }
 
-/// A map loaded, then a list of calls.
+/// A map loaded, then a list of calls; now and then the record's knit becomes the other one between two of them.
 pub fn run_case(random: &mut Random, calls: &mut SideBySide, side: u32) -> Result<(), Differs> {
     let spare = random.below(3);
     let greys = greys(random, needed(side).0 + spare);
     let mut sheet = blank(side, spare);
     let all = whole(&sheet);
-    calls.load(side, &greys, &mut sheet, all)?;
-    let mut progress = Progress { side, dots: 0 };
+    let mut progress = calls.load(side, random.good_knit(), &greys, &mut sheet, all)?.progress();
     for _ in 0..1 + random.below(10) {
-        progress.dots = one_call(random, calls, progress, &greys, &mut sheet)?;
+        if random.once_in(16) {
+            progress.knit = other_knit(progress.knit);
+        }
+        progress = one_call(random, calls, progress, &greys, &mut sheet)?;
     }
     Ok(())
 }
 
-/// One call on a sheet that is sound, and stays so: what is damaged is damaged on a copy. Returns the holes afterwards.
+/// One call on a sheet that is sound, and stays so: what is damaged is damaged on a copy. Gives the record afterwards.
 fn one_call(
     random: &mut Random,
     calls: &mut SideBySide,
     progress: Progress,
     greys: &[u8],
     sheet: &mut Sheet,
-) -> Result<u32, Differs> {
-    let Progress { side, dots } = progress;
+) -> Result<Progress, Differs> {
+    let side = progress.side;
     let lent = lent(random, side, sheet);
     match random.below(13) {
-        0 => calls.tally(side, &sheet.serials[..lent.serials], block(random, side)).map(|_| dots),
-        1 => calls.levels(side, greys, &sheet.serials[..lent.serials]).map(|_| dots),
-        2 => list(random, calls, progress, sheet, lent).map(|_| dots),
-        3 => page(random, calls, side, greys, &sheet.serials[..lent.serials]).map(|_| dots),
-        4..=7 => on_damage(random, calls, progress, sheet, lent).map(|_| dots),
+        0 => calls.tally(side, &sheet.serials[..lent.serials], block(random, side)).map(|_| progress),
+        1 => calls.levels(side, greys, &sheet.serials[..lent.serials]).map(|_| progress),
+        2 => list(random, calls, progress, sheet, lent).map(|_| progress),
+        3 => page(random, calls, side, greys, &sheet.serials[..lent.serials]).map(|_| progress),
+        4..=7 => on_damage(random, calls, progress, sheet, lent).map(|_| progress),
         _ => {
             let budget = budget(random, side);
             let after = calls.advance(progress, budget, sheet, lent)?;
-            Ok(after.values[0] as u32)
+            Ok(after.progress())
         }
     }
 }
@@ -110,11 +114,10 @@ pub fn made_up_case(random: &mut Random, calls: &mut SideBySide, side: u32) -> R
     }
     renew_all(last_level(side), &mut pyramid);
     let mut sheet = Sheet { pyramid, serials: vec![0; cells], order: vec![0; cells] };
-    let mut progress = Progress { side, dots: 0 };
+    let mut progress = Progress { side, dots: 0, knit: random.good_knit() };
     for _ in 0..3 {
         let all = whole(&sheet);
-        let after = calls.advance(progress, budget(random, side), &mut sheet, all)?;
-        progress.dots = after.values[0] as u32;
+        progress = calls.advance(progress, budget(random, side), &mut sheet, all)?.progress();
     }
     list(random, calls, progress, &sheet, whole(&sheet))
 }
@@ -135,7 +138,7 @@ pub fn noise_case(random: &mut Random, calls: &mut SideBySide, side: u32) -> Res
     let count = random.length(cells);
     let greys = random.bytes(count);
     let mut sheet = noise(random, side);
-    let progress = Progress { side, dots: random.below(cells + 2) as u32 };
+    let progress = Progress { side, dots: random.below(cells + 2) as u32, knit: random.knit() };
     let lent = lent(random, side, &sheet);
     calls.tally(side, &sheet.serials[..lent.serials], block(random, side))?;
     calls.levels(side, &greys, &sheet.serials[..lent.serials])?;

@@ -4,10 +4,11 @@
 use std::collections::BTreeMap;
 use std::fmt::Debug;
 
-use reference::{Checkpoints, Progress};
+use reference::{Checkpoints, Progress, RIBBED};
 
 use crate::coverage::Coverage;
 use crate::expected;
+use crate::knit_kinds;
 use crate::library::{self, Outcome};
 use crate::plate_kinds;
 use crate::stage_kinds;
@@ -43,11 +44,19 @@ impl SideBySide {
         self.calls.values().sum()
     }
 
-    pub fn load(&mut self, side: u32, greys: &[u8], sheet: &mut Sheet, lent: Lent) -> Result<Outcome, Differs> {
+    pub fn load(
+        &mut self,
+        side: u32,
+        knit: u32,
+        greys: &[u8],
+        sheet: &mut Sheet,
+        lent: Lent,
+    ) -> Result<Outcome, Differs> {
         let before = sheet.clone();
         let mut other = sheet.clone();
         let ours = library::load(
             side,
+            knit,
             greys,
             &mut sheet.pyramid[..lent.pyramid],
             &mut sheet.serials[..lent.serials],
@@ -55,14 +64,18 @@ impl SideBySide {
         );
         let theirs = expected::load(
             side,
+            knit,
             greys,
             &mut other.pyramid[..lent.pyramid],
             &mut other.serials[..lent.serials],
             &mut other.order[..lent.order],
         );
-        let inputs = (side, greys, &before, lent);
+        let inputs = (side, knit, greys, &before, lent);
         self.agreed("load", &inputs, (&ours, &*sheet), (&theirs, &other))?;
-        self.counted("load", side, ours)
+        if self.coverage.wants_kinds() {
+            self.coverage.note_kinds(knit_kinds::of_load(side, knit, greys, lent, ours.code));
+        }
+        self.counted_on(knit, "load", side, ours)
     }
 
     pub fn advance(
@@ -90,9 +103,12 @@ impl SideBySide {
         );
         let inputs = (progress, budget, &before, lent);
         self.agreed("advance", &inputs, (&ours, &*sheet), (&theirs, &other))?;
+        if self.coverage.wants_kinds() {
+            self.coverage.note_kinds(knit_kinds::of_advance(progress, &before, lent, ours.code));
+        }
         // an answer without a hole made says little about a side, so it is noted under none
-        let idle = matches!(ours.code, 0 | 100) && ours.values[1] == 0;
-        self.counted("advance", if idle { 0 } else { progress.side }, ours)
+        let idle = matches!(ours.code, 0 | 100) && ours.values[3] == 0;
+        self.counted_on(progress.knit, "advance", if idle { 0 } else { progress.side }, ours)
     }
 
     pub fn tally(&mut self, side: u32, serials: &[u32], block: [u32; 3]) -> Result<Outcome, Differs> {
@@ -136,7 +152,10 @@ impl SideBySide {
         let theirs = expected::drill_list(progress, pyramid, serials, order, &mut other);
         let inputs = (progress, sheet, lent, before.len());
         self.agreed("drill_list", &inputs, (&ours, &*out), (&theirs, &other[..]))?;
-        self.counted("drill_list", progress.side, ours)
+        if self.coverage.wants_kinds() {
+            self.coverage.note_kinds(knit_kinds::of_list(progress, sheet, lent, before.len(), ours.code));
+        }
+        self.counted_on(progress.knit, "drill_list", progress.side, ours)
     }
 
     pub fn quote_page(
@@ -170,7 +189,7 @@ impl SideBySide {
         let ours = library::compare(side, left, right);
         let theirs = expected::compare(side, left, right);
         self.agreed("compare", &(side, left, right), &ours, &theirs)?;
-        if !self.coverage.missing_kinds().is_empty() {
+        if self.coverage.wants_kinds() {
             self.coverage.note_kinds(plate_kinds::of_compare(side, left, right, &ours));
         }
         self.counted("compare", side, ours)
@@ -190,7 +209,7 @@ impl SideBySide {
         let theirs = expected::shelf(side, n, plates, &mut other[..lent]);
         let inputs = (side, n, plates, &before, lent);
         self.agreed("shelf", &inputs, (&ours, &*list), (&theirs, &other[..]))?;
-        if !self.coverage.missing_kinds().is_empty() {
+        if self.coverage.wants_kinds() {
             self.coverage.note_kinds(plate_kinds::of_shelf(side, n, plates, &list[..lent], ours.code));
         }
         self.counted("shelf", side, ours)
@@ -203,8 +222,9 @@ impl SideBySide {
         let theirs = expected::keep(progress, before, name);
         self.agreed("keep", &(progress, before, name), &ours, &theirs)?;
         checkpoints.kept.copy_from_slice(&ours.values);
-        if !self.coverage.missing_kinds().is_empty() {
+        if self.coverage.wants_kinds() {
             self.coverage.note_kinds(stage_kinds::of_keep(progress, before, name, ours.code));
+            self.coverage.note_kinds(knit_kinds::of_keep(progress, ours.code));
         }
         self.counted("keep", progress.side, ours)
     }
@@ -240,11 +260,12 @@ impl SideBySide {
         );
         let inputs = (progress, checkpoints, name, greys, &before, lent);
         self.agreed("restore", &inputs, (&ours, &*sheet), (&theirs, &other))?;
-        if !self.coverage.missing_kinds().is_empty() {
+        if self.coverage.wants_kinds() {
             let top = before.pyramid.first().copied();
             self.coverage.note_kinds(stage_kinds::of_restore(progress, checkpoints, name, greys, top, ours.code));
+            self.coverage.note_kinds(knit_kinds::of_restore(progress, name, greys, &before, lent, ours.code));
         }
-        self.counted("restore", progress.side, ours)
+        self.counted_on(progress.knit, "restore", progress.side, ours)
     }
 
     pub fn renew(&mut self, side: u32, cell: [u32; 2], pyramid: &mut [i64], lent: usize) -> Result<Outcome, Differs> {
@@ -272,6 +293,14 @@ impl SideBySide {
         *self.calls.entry((call, outcome.code)).or_insert(0) += 1;
         self.coverage.note(call, side, outcome.code);
         Ok(outcome)
+    }
+
+    /// The same for a call that looks at the knit.
+    fn counted_on(&mut self, knit: u32, call: &'static str, side: u32, outcome: Outcome) -> Result<Outcome, Differs> {
+        if knit == RIBBED {
+            self.coverage.note_ribbed(call, side, outcome.code);
+        }
+        self.counted(call, side, outcome)
     }
 }
 

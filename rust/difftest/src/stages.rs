@@ -2,7 +2,7 @@
 
 use reference::{Checkpoints, Progress};
 
-use crate::parts::{blank, budget, damage, greys, lent, lent_greys, needed, total, whole};
+use crate::parts::{blank, budget, damage, greys, lent, lent_greys, needed, other_knit, total, whole};
 use crate::random::Random;
 use crate::side_by_side::{Differs, Lent, Sheet, SideBySide};
 
@@ -14,19 +14,21 @@ struct Stage {
     checkpoints: Checkpoints,
 }
 
-/// A map loaded, some holes made and kept, then a list of calls.
+/// A map loaded, some holes made and kept, then a list of calls; now and then the record's knit becomes the other one.
 pub fn stage_case(random: &mut Random, calls: &mut SideBySide, side: u32) -> Result<(), Differs> {
     let spare = random.below(3);
     let greys = greys(random, needed(side).0 + spare);
     let mut sheet = blank(side, spare);
     let all = whole(&sheet);
-    calls.load(side, &greys, &mut sheet, all)?;
-    let progress = Progress { side, dots: 0 };
+    let progress = calls.load(side, random.good_knit(), &greys, &mut sheet, all)?.progress();
     let mut stage = Stage { greys, sheet, progress, checkpoints: Checkpoints::default() };
     advance(random, calls, &mut stage)?;
     keep(random, calls, &mut stage)?;
     // on a large map each return takes long
     for _ in 0..1 + random.below(if side > 64 { 2 } else { 10 }) {
+        if random.once_in(16) {
+            stage.progress.knit = other_knit(stage.progress.knit);
+        }
         match random.below(8) {
             0 | 1 => advance(random, calls, &mut stage)?,
             2 | 3 => keep(random, calls, &mut stage)?,
@@ -41,7 +43,7 @@ fn advance(random: &mut Random, calls: &mut SideBySide, stage: &mut Stage) -> Re
     let side = stage.progress.side;
     let lent = lent(random, side, &stage.sheet);
     let answer = calls.advance(stage.progress, budget(random, side), &mut stage.sheet, lent)?;
-    stage.progress.dots = answer.values[0] as u32;
+    stage.progress = answer.progress();
     Ok(())
 }
 
@@ -70,6 +72,7 @@ fn keep(random: &mut Random, calls: &mut SideBySide, stage: &mut Stage) -> Resul
     let mut record = stage.progress;
     match random.below(12) {
         0 => record.side = random.side(),
+        2 => record.knit = random.no_knit(),
         1 => record.dots = random.pick(&[0, 1, 65_537, 1 << 31, u32::MAX]),
         _ => (),
     }
@@ -92,7 +95,7 @@ fn restore(random: &mut Random, calls: &mut SideBySide, stage: &mut Stage) -> Re
     let given = lent_greys(random, side, all_greys);
     let lent = lent(random, side, &stage.sheet);
     let answer = calls.restore(stage.progress, value, name, given, &mut stage.sheet, lent)?;
-    stage.progress.dots = answer.values[1] as u32;
+    stage.progress = answer.progress();
     Ok(())
 }
 
@@ -129,7 +132,7 @@ pub fn stages_tour(calls: &mut SideBySide, progress: Progress, greys: &[u8], fin
     let mut record = progress;
     let returns = [(5, greys), (1, &lighter), (8, greys)];
     for (name, greys) in returns.into_iter().take(if progress.side > 64 { 1 } else { 3 }) {
-        record.dots = calls.restore(record, checkpoints, name, greys, &mut sheet, all)?.values[1] as u32;
+        record = calls.restore(record, checkpoints, name, greys, &mut sheet, all)?.progress();
     }
     Ok(())
 }

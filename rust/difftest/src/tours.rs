@@ -1,28 +1,36 @@
-//! Two cases in which every call is made at a side whatever is drawn: once each call is answered, once each call gives
-//! every refusal that it gives on a known side.
+//! Two cases, each on either knit, in which every call is made at a side whatever is drawn: once each call is answered,
+//! once each call gives every refusal that it gives on a known side.
 
-use reference::{write_map_text, Progress};
+use reference::{write_map_text, Checkpoints, Progress, PLAIN, RIBBED};
 use rulmedei::{list_room, page_length};
 
-use crate::parts::{blank, last_level, needed, square, whole};
+use crate::knit_kinds;
+use crate::parts::{blank, last_level, needed, other_knit, square, whole};
 use crate::random::Random;
 use crate::shelves::{plates_tour, refused_plates};
 use crate::side_by_side::{Differs, Lent, Sheet, SideBySide};
 use crate::stages::{refused_stages, stages_tour};
 
+pub fn tour_case(random: &mut Random, calls: &mut SideBySide, side: u32) -> Result<(), Differs> {
+    tour(random, calls, side, PLAIN)
+}
+
+pub fn ribbed_tour_case(random: &mut Random, calls: &mut SideBySide, side: u32) -> Result<(), Differs> {
+    tour(random, calls, side, RIBBED)
+}
+
 /// A sample of at least two holes, its text read, the map loaded and run to its end in three calls, with Levels and
 /// Drill List after each. Then Tally and Quote Page at every level, Compare and Shelf on the plate and others, Keep and
 /// Restore, and the renewal of sums of which the top is wrong.
-pub fn tour_case(random: &mut Random, calls: &mut SideBySide, side: u32) -> Result<(), Differs> {
+fn tour(random: &mut Random, calls: &mut SideBySide, side: u32, knit: u32) -> Result<(), Differs> {
     let greys = sampled(random, calls, side)?;
     let mut read = vec![9; greys.len()];
     calls.map_text(side, &write_map_text(side, &greys), &mut read)?;
     let mut sheet = blank(side, 0);
     let all = whole(&sheet);
-    calls.load(side, &greys, &mut sheet, all)?;
-    let mut progress = Progress { side, dots: 0 };
+    let mut progress = calls.load(side, knit, &greys, &mut sheet, all)?.progress();
     for budget in [1, 50, u32::MAX] {
-        progress.dots = calls.advance(progress, budget, &mut sheet, all)?.values[0] as u32;
+        progress = calls.advance(progress, budget, &mut sheet, all)?.progress();
         calls.levels(side, &greys, &sheet.serials)?;
         calls.drill_list(progress, &sheet, all, &mut vec![46; list_room(side)])?;
     }
@@ -60,22 +68,30 @@ fn every_level(
     Ok(())
 }
 
-/// A map with some holes made, then the refusals one after another.
 pub fn refusals_case(random: &mut Random, calls: &mut SideBySide, side: u32) -> Result<(), Differs> {
+    refusals(random, calls, side, PLAIN)
+}
+
+pub fn ribbed_refusals_case(random: &mut Random, calls: &mut SideBySide, side: u32) -> Result<(), Differs> {
+    refusals(random, calls, side, RIBBED)
+}
+
+/// A map with some holes made, then the refusals one after another; at last the other knit.
+fn refusals(random: &mut Random, calls: &mut SideBySide, side: u32, knit: u32) -> Result<(), Differs> {
     let greys = sampled(random, calls, side)?;
     let mut sheet = blank(side, 0);
     let all = whole(&sheet);
-    calls.load(side, &greys, &mut sheet, all)?;
-    let start = Progress { side, dots: 0 };
-    let dots = calls.advance(start, 1 + random.below(50) as u32, &mut sheet, all)?.values[0] as u32;
-    let progress = Progress { side, dots };
+    let start = calls.load(side, knit, &greys, &mut sheet, all)?.progress();
+    let progress = calls.advance(start, 1 + random.below(50) as u32, &mut sheet, all)?.progress();
     refused_for_lengths(calls, progress, &greys, &mut sheet)?;
+    refused_for_knit(random, calls, progress, &greys, &mut sheet)?;
     refused_looks(random, calls, side, &greys, &sheet.serials)?;
     refused_lists(calls, progress, &sheet)?;
     refused_plates(calls, side, &sheet.serials)?;
     refused_stages(random, calls, progress, &greys, &mut sheet)?;
     refused_for_damage(random, calls, progress, &sheet)?;
-    refused_texts(random, calls, side, &greys)
+    refused_texts(random, calls, side, &greys)?;
+    on_other_knit(calls, progress, &greys, &mut sheet)
 }
 
 /// Load, Advance, Drill List, Sample and the renewal, each part one place short.
@@ -91,13 +107,72 @@ fn refused_for_lengths(
     for lent in
         [Lent { pyramid: pyramid - 1, ..all }, Lent { serials: serials - 1, ..all }, Lent { order: order - 1, ..all }]
     {
-        calls.load(side, greys, sheet, lent)?;
+        calls.load(side, progress.knit, greys, sheet, lent)?;
         calls.advance(progress, 5, sheet, lent)?;
         calls.drill_list(progress, sheet, lent, &mut vec![46; list_room(side)])?;
     }
-    calls.load(side, &greys[1..], sheet, all)?;
+    calls.load(side, progress.knit, &greys[1..], sheet, all)?;
     calls.sample(1, side, &mut greys.to_vec(), greys.len() - 1)?;
     calls.renew(side, [0, 0], &mut sheet.pyramid, pyramid - 1)?;
+    Ok(())
+}
+
+/// A number that is no knit: Load, Advance, Drill List and Restore refuse it by itself, and together with all that they
+/// look at later; a number that is no side comes before. Keep doesn't look at the knit.
+fn refused_for_knit(
+    random: &mut Random,
+    calls: &mut SideBySide,
+    progress: Progress,
+    greys: &[u8],
+    sheet: &mut Sheet,
+) -> Result<(), Differs> {
+    let all = whole(sheet);
+    let Lent { pyramid, serials, order } = all;
+    let record = Progress { knit: random.no_knit(), ..progress };
+    let no_side = Progress { side: progress.side + 1, ..record };
+    let unsound = Progress { dots: progress.dots + 1, ..record };
+    let mut value = Checkpoints { kept: [1, 0, 0, 0, 0, 0, 0, 2] };
+    let mut out = vec![46; list_room(progress.side)];
+    for (record, lent) in [
+        (record, all),
+        (no_side, all),
+        (record, Lent { pyramid: pyramid - 1, ..all }),
+        (record, Lent { serials: serials - 1, ..all }),
+        (record, Lent { order: order - 1, ..all }),
+        (unsound, all),
+    ] {
+        calls.load(record.side, record.knit, greys, sheet, lent)?;
+        calls.advance(record, 5, sheet, lent)?;
+        calls.drill_list(record, sheet, lent, &mut out)?;
+        calls.restore(record, value, 8, greys, sheet, lent)?;
+    }
+    calls.load(record.side, record.knit, &greys[1..], sheet, all)?;
+    calls.drill_list(record, sheet, all, &mut [])?;
+    calls.restore(record, value, 8, &greys[1..], sheet, all)?;
+    for name in [0, 2, 9] {
+        calls.restore(record, value, name, greys, sheet, all)?;
+        calls.keep(record, &mut value, name)?;
+    }
+    calls.keep(no_side, &mut value, 1)?;
+    Ok(())
+}
+
+/// The record's knit becomes the other one: Advance goes on with it on the same sheet, and Restore makes the sheet that
+/// the greys have on it.
+fn on_other_knit(calls: &mut SideBySide, progress: Progress, greys: &[u8], sheet: &mut Sheet) -> Result<(), Differs> {
+    let all = whole(sheet);
+    let other = Progress { knit: other_knit(progress.knit), ..progress };
+    let mut value = Checkpoints::default();
+    calls.keep(progress, &mut value, 2)?;
+    calls.drill_list(other, sheet, all, &mut vec![46; list_room(progress.side)])?;
+    let after = calls.advance(other, 5, sheet, all)?;
+    if progress.dots > 0 && after.progress().dots > progress.dots {
+        calls.coverage.note_kinds(knit_kinds::changed(progress.knit));
+    }
+    let back = calls.restore(after.progress(), value, 2, greys, sheet, all)?;
+    if back.code == 0 && back.progress().dots > 0 {
+        calls.coverage.note_kinds(knit_kinds::restored_changed());
+    }
     Ok(())
 }
 

@@ -1,5 +1,6 @@
-//! Makes a plate of each map text and prints the plates in the order of their shelf: the holes and the file of each,
-//! and whether it is the same as the one before it. All maps have to be of one side. From the repository's top:
+//! Makes a plate of each map text, on plain cloth, and prints the plates in the order of their shelf: the holes and the
+//! file of each, and whether it is the same as the one before it. All maps have to be of one side. From the
+//! repository's top:
 //!
 //!     cargo run -q --manifest-path rust/rulmedei/Cargo.toml --example shelf samples/*.map
 
@@ -8,7 +9,7 @@ use std::io::{self, Write};
 use std::process::ExitCode;
 use std::{env, fs};
 
-use rulmedei::{advance, cells, compare, load, map_text, pyramid_length, shelf, tally, Compared, Refusal};
+use rulmedei::{advance, cells, compare, load, map_text, pyramid_length, shelf, tally, Compared, Refusal, PLAIN};
 
 fn main() -> ExitCode {
     let files: Vec<String> = env::args().skip(1).collect();
@@ -43,7 +44,7 @@ fn plate_of(text: &[u8]) -> Result<(u32, Vec<u32>), Refusal> {
     let mut pyramid = vec![0; pyramid_length(side)];
     let mut serials = vec![0; cells(side)];
     let mut order = vec![0; cells(side)];
-    let start = load(side, &greys, &mut pyramid, &mut serials, &mut order)?;
+    let start = load(side, PLAIN, &greys, &mut pyramid, &mut serials, &mut order)?;
     advance(start, u32::MAX, &mut pyramid, &mut serials, &mut order)?;
     Ok((side, serials))
 }

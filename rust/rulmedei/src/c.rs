@@ -4,6 +4,7 @@
 extern "C" {
     pub fn rulmedei_load(
         side: u32,
+        knit: u32,
         greys: *const u8,
         greys_length: usize,
         pyramid: *mut i64,
@@ -14,11 +15,13 @@ extern "C" {
         order_length: usize,
         progress_side: *mut u32,
         progress_dots: *mut u32,
+        progress_knit: *mut u32,
     ) -> u32;
 
     pub fn rulmedei_advance(
         side: u32,
         dots: u32,
+        knit: u32,
         budget: u32,
         pyramid: *mut i64,
         pyramid_length: usize,
@@ -61,6 +64,7 @@ extern "C" {
     pub fn rulmedei_drill_list(
         side: u32,
         dots: u32,
+        knit: u32,
         pyramid: *const i64,
         pyramid_length: usize,
         serials: *const u32,
@@ -105,11 +109,12 @@ extern "C" {
         list_length: usize,
     ) -> u32;
 
-    pub fn rulmedei_keep(side: u32, dots: u32, kept: *mut [u64; 8], name: u32) -> u32;
+    pub fn rulmedei_keep(side: u32, dots: u32, knit: u32, kept: *mut [u64; 8], name: u32) -> u32;
 
     pub fn rulmedei_restore(
         side: u32,
         dots: u32,
+        knit: u32,
         kept: *const [u64; 8],
         name: u32,
         greys: *const u8,

@@ -14,12 +14,20 @@ const UNWRITTEN: u32 = u32::MAX;
 // and all memory of an x86-64 process is less than 2^63 bytes. The declarations are those of the header.
 
 /// The code, and the record.
-pub fn load(side: u32, greys: &[u8], pyramid: &mut [i64], serials: &mut [u32], order: &mut [u32]) -> (u32, Progress) {
-    let mut record = Progress { side: UNWRITTEN, dots: UNWRITTEN };
+pub fn load(
+    side: u32,
+    knit: u32,
+    greys: &[u8],
+    pyramid: &mut [i64],
+    serials: &mut [u32],
+    order: &mut [u32],
+) -> (u32, Progress) {
+    let mut record = Progress { side: UNWRITTEN, dots: UNWRITTEN, knit: UNWRITTEN };
     // SAFETY: each pointer and length is that of a slice, or a reference to a field of a local.
     let code = unsafe {
         c::rulmedei_load(
             side,
+            knit,
             greys.as_ptr(),
             greys.len(),
             pyramid.as_mut_ptr(),
@@ -30,6 +38,7 @@ pub fn load(side: u32, greys: &[u8], pyramid: &mut [i64], serials: &mut [u32], o
             order.len(),
             &mut record.side,
             &mut record.dots,
+            &mut record.knit,
         )
     };
     (code, record)
@@ -43,13 +52,14 @@ pub fn advance(
     serials: &mut [u32],
     order: &mut [u32],
 ) -> (u32, Progress, u32) {
-    let mut after = Progress { side: progress.side, dots: UNWRITTEN };
+    let mut after = Progress { dots: UNWRITTEN, ..progress };
     let mut made = UNWRITTEN;
     // SAFETY: each pointer and length is that of a slice, or a reference to a local or its field.
     let code = unsafe {
         c::rulmedei_advance(
             progress.side,
             progress.dots,
+            progress.knit,
             budget,
             pyramid.as_mut_ptr(),
             pyramid.len(),
@@ -106,6 +116,7 @@ pub fn drill_list(progress: Progress, pyramid: &[i64], serials: &[u32], order: &
         c::rulmedei_drill_list(
             progress.side,
             progress.dots,
+            progress.knit,
             pyramid.as_ptr(),
             pyramid.len(),
             serials.as_ptr(),
@@ -168,7 +179,7 @@ pub fn shelf(side: u32, n: u32, plates: &[u32], list: &mut [u32]) -> u32 {
 pub fn keep(progress: Progress, checkpoints: Checkpoints, name: u32) -> (u32, Checkpoints) {
     let mut after = checkpoints;
     // SAFETY: the pointer is a reference to a field of a local.
-    let code = unsafe { c::rulmedei_keep(progress.side, progress.dots, &mut after.kept, name) };
+    let code = unsafe { c::rulmedei_keep(progress.side, progress.dots, progress.knit, &mut after.kept, name) };
     (code, after)
 }
 
@@ -182,12 +193,13 @@ pub fn restore(
     serials: &mut [u32],
     order: &mut [u32],
 ) -> (u32, Progress) {
-    let mut after = Progress { side: progress.side, dots: UNWRITTEN };
+    let mut after = Progress { dots: UNWRITTEN, ..progress };
     // SAFETY: each pointer and length is that of a slice, or the pointer a reference to a field.
     let code = unsafe {
         c::rulmedei_restore(
             progress.side,
             progress.dots,
+            progress.knit,
             &checkpoints.kept,
             name,
             greys.as_ptr(),

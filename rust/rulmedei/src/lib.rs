@@ -1,5 +1,7 @@
 //! Grey maps to ordered lists of holes: the twelve calls of the proved library, on slices that the caller lends. No
 //! call asks anything of its arguments; what doesn't fit is refused, and a refused call leaves every buffer as it was.
+//! Each call below has the numbers of its refusals in the order in which it looks for them, and of several the first is
+//! told. That is by rising number, but for 11, which comes directly after 1; Map Text has an order of its own.
 //!
 //! Map Text reads a map, Load fills the buffers, Advance makes holes until it is finished, and Drill List writes them
 //! down (`examples/list.rs`). Tally, Levels and Quote Page look at what was made. Sample makes a map from a seed.
@@ -19,11 +21,21 @@ pub use refusal::Refusal;
 
 use refusal::{did, refused, AFTER, AFTER_AT, BEFORE, BEFORE_AT, MORE, SAME};
 
-/// The record that goes from call to call: the side and the holes made so far.
+/// The knit of plain cloth. A hole is mostly more than its cell asks for, and the rest is taken from the cells around
+/// it: here from those above, below and beside it twice as much as from those at its corners.
+pub const PLAIN: u32 = 0;
+
+/// The knit of ribbed cloth: the rest is taken from the cells above, below and beside the hole alone, from each as
+/// much.
+pub const RIBBED: u32 = 1;
+
+/// The record that goes from call to call: the side, the holes made so far, and the knit, `PLAIN` or `RIBBED`. Any
+/// numbers may be handed in.
 #[derive(Clone, Copy, Debug, PartialEq, Eq)]
 pub struct Progress {
     pub side: u32,
     pub dots: u32,
+    pub knit: u32,
 }
 
 /// What Advance answers: the new record, the holes made in this call, and whether none are due any more.
@@ -87,22 +99,25 @@ pub fn list_room(side: u32) -> usize {
     cells(side).saturating_add(1).saturating_mul(14)
 }
 
-/// Load: fills the pyramid from the greys and sets the cells of serials and order to 0. Refusals: 1, 2, 3, 4.
+/// Load: fills the pyramid from the greys and sets the cells of serials and order to 0. The knit goes into the record,
+/// and plays no part in this. Refusals: 1, 11, 2, 3, 4.
 pub fn load(
     side: u32,
+    knit: u32,
     greys: &[u8],
     pyramid: &mut [i64],
     serials: &mut [u32],
     order: &mut [u32],
 ) -> Result<Progress, Refusal> {
-    let (code, record) = codes::load(side, greys, pyramid, serials, order);
+    let (code, record) = codes::load(side, knit, greys, pyramid, serials, order);
     did(code)?;
     Ok(record)
 }
 
 /// Advance: makes the holes that are due, at most `budget` of them, from the record that the call before returned, on
 /// the same buffers. Of equal quarters a hole with an odd serial goes to the first, by row then column, and one with
-/// an even serial to the last. Refusals: 1, 3, 4, 5.
+/// an even serial to the last. The record's knit says what the cells around a hole bear, and stays.
+/// Refusals: 1, 11, 3, 4, 5.
 pub fn advance(
     progress: Progress,
     budget: u32,
@@ -144,7 +159,7 @@ pub fn map_text(text: &[u8], greys: &mut [u8]) -> Result<u32, Refusal> {
 
 /// Drill List: writes the number of holes and the side on a first line, and then the serial, row and column of each
 /// hole, a line for each as they were made; commas part the numbers. Returns the number of bytes; those past it stay.
-/// Refusals: 1, 3, 4, 5, 8.
+/// The list is the same for either knit. Refusals: 1, 11, 3, 4, 5, 8.
 pub fn drill_list(
     progress: Progress,
     pyramid: &[i64],
@@ -160,8 +175,8 @@ pub fn drill_list(
 /// Quote Page: writes for each aligned square of a level, by row then column, a line with the square's row (3 wide),
 /// column (3), grey sum (8), holes (5) and cap (5), right aligned, with one space between; returns the number of bytes,
 /// which is `page_length(level)`. Those past it stay. The cap of a square with s cells along its side is
-/// (3 × grey sum + 764 + 1,020 × s) / 765, rounded down, and at most s². The holes are at most the cap where Load and
-/// Advance made the serials from these greys. Refusals: 1, 2, 4, 6, 8.
+/// (3 × grey sum + 764 + 1,020 × s) / 765, rounded down, and at most s². The holes are at most the cap where Load
+/// and Advance made the serials from these greys. Refusals: 1, 2, 4, 6, 8.
 pub fn quote_page(side: u32, greys: &[u8], serials: &[u32], level: u32, out: &mut [u8]) -> Result<usize, Refusal> {
     let (code, length) = codes::quote_page(side, greys, serials, level, out);
     did(code)?;
@@ -218,7 +233,8 @@ pub fn shelf(side: u32, n: u32, plates: &[u32], list: &mut [u32]) -> Result<(), 
 }
 
 /// Keep: writes the holes of the record down under a name from 1 to 8, over what was kept there, and returns the counts
-/// so changed. No sheet is looked at, and the record may have any number of holes. Refusals: 1, 10.
+/// so changed. Neither a sheet nor the knit is looked at: the record may have any number of holes, and any knit.
+/// Refusals: 1, 10.
 pub fn keep(progress: Progress, checkpoints: Checkpoints, name: u32) -> Result<Checkpoints, Refusal> {
     let (code, after) = codes::keep(progress, checkpoints, name);
     did(code)?;
@@ -226,19 +242,20 @@ pub fn keep(progress: Progress, checkpoints: Checkpoints, name: u32) -> Result<C
 }
 
 /// Restore, the return to a name: makes the sheet what Load makes of the greys, and then Advance with the name's count
-/// of holes as its budget; returns its record. With the greys that were loaded this is the sheet on which the name was
-/// kept, if only Advance, and Restore with these greys, have written to it since the load. The counts all stay, so that
-/// one can go back, and to a later stage forwards again. With other greys the sheet is theirs.
+/// of holes as its budget, on the record's knit; returns its record. With the greys and the knit that were loaded this
+/// is the sheet on which the name was kept, if only Advance, and Restore with these greys, have written to it since the
+/// load, all with that knit. The counts all stay, so that one can go back, and to a later stage forwards again. With
+/// other greys, or the other knit, the sheet is theirs.
 ///
-/// Refusals: 1, 2, 3, 4, 5 (though the sheet is then made anew), 10 (also for an empty name, and for more holes than
-/// the total, (2 × the sum of the N² greys + 255) / 510 rounded down).
+/// Refusals: 1, 11, 2, 3, 4, 5 (though the sheet is then made anew), 10 (also for an empty name, and for more holes
+/// than the total, (2 × the sum of the N² greys + 255) / 510 rounded down).
 ///
 /// ```
-/// use rulmedei::{advance, keep, load, restore, Checkpoints};
+/// use rulmedei::{advance, keep, load, restore, Checkpoints, PLAIN};
 ///
 /// let greys = [128; 4];
 /// let (mut pyramid, mut serials, mut order) = ([0; 5], [0; 4], [0; 4]);
-/// let start = load(2, &greys, &mut pyramid, &mut serials, &mut order)?;
+/// let start = load(2, PLAIN, &greys, &mut pyramid, &mut serials, &mut order)?;
 /// let stage = advance(start, 1, &mut pyramid, &mut serials, &mut order)?.progress;
 /// let checkpoints = keep(stage, Checkpoints::default(), 3)?;
 /// let end = advance(stage, u32::MAX, &mut pyramid, &mut serials, &mut order)?.progress;

@@ -16,7 +16,7 @@ pub(crate) const AFTER: u32 = 106;
 /// The enum, the list of its cases and their words, from one table of names, numbers and words.
 macro_rules! refusals {
     ($($name:ident = $number:literal: $words:literal,)*) => {
-        /// Why a call says no: document 01's table, row by row, and document 02's further one.
+        /// Why a call says no: document 01's table, row by row, and document 02's further ones.
         #[derive(Clone, Copy, Debug, PartialEq, Eq)]
         pub enum Refusal {
             $(#[doc = $words] $name = $number,)*
@@ -46,6 +46,7 @@ refusals! {
     OutputShort = 8: "the output is shorter than the list or page, or a shelf's list than n places",
     InputLong = 9: "the input is longer than 4,099 bytes: the program plate only, none of the calls",
     NameUnknown = 10: "the name is none of 1 to 8; for a return also: empty, or past the map's total",
+    KnitUnknown = 11: "the knit is neither 0 nor 1",
 }
 
 impl Refusal {

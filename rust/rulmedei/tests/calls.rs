@@ -1,9 +1,10 @@
-//! The calls on document 01's example, a map of side 2 with four greys of 128, and each refusal once; those of Quote
-//! Page and Sample in their order. Samples of sides 2 and 4. And the renewal by itself.
+//! The calls on document 01's example, a map of side 2 with four greys of 128, on plain cloth and on ribbed, and each
+//! refusal once; those of Quote Page and Sample in their order, and the one for the knit among the others. Samples of
+//! sides 2 and 4. And the renewal by itself.
 
 use rulmedei::{
-    advance, cells, drill_list, levels, list_room, load, map_text, page_length, pyramid_length, quote_page, renew,
-    sample, tally, Advanced, Progress, Refusal,
+    advance, cells, codes, drill_list, levels, list_room, load, map_text, page_length, pyramid_length, quote_page,
+    renew, sample, tally, Advanced, Progress, Refusal, PLAIN, RIBBED,
 };
 
 const GREYS: [u8; 4] = [128; 4];
@@ -26,8 +27,8 @@ impl Sheet {
         Sheet { pyramid: [9; 6], serials: [9; 5], order: [9; 5] }
     }
 
-    fn load(&mut self) -> Result<Progress, Refusal> {
-        load(2, &GREYS, &mut self.pyramid, &mut self.serials, &mut self.order)
+    fn load(&mut self, knit: u32) -> Result<Progress, Refusal> {
+        load(2, knit, &GREYS, &mut self.pyramid, &mut self.serials, &mut self.order)
     }
 
     fn advance(&mut self, progress: Progress, budget: u32) -> Result<Advanced, Refusal> {
@@ -40,30 +41,32 @@ impl Sheet {
 }
 
 fn record(dots: u32) -> Progress {
-    Progress { side: 2, dots }
+    Progress { side: 2, dots, knit: PLAIN }
 }
 
 /// The example with its two holes made.
 fn finished() -> Sheet {
     let mut sheet = Sheet::new();
-    let start = sheet.load().unwrap();
+    let start = sheet.load(PLAIN).unwrap();
     assert_eq!(sheet.advance(start, u32::MAX), Ok(Advanced { progress: record(2), made: 2, finished: true }));
     sheet
 }
 
 #[test]
 fn load_fills_the_buffers() {
-    let mut sheet = Sheet::new();
-    assert_eq!(sheet.load(), Ok(record(0)));
-    assert_eq!(sheet.pyramid, [131072, 32768, 32768, 32768, 32768, 9]);
-    assert_eq!(sheet.serials, [0, 0, 0, 0, 9]);
-    assert_eq!(sheet.order, [0, 0, 0, 0, 9]);
+    for knit in [PLAIN, RIBBED] {
+        let mut sheet = Sheet::new();
+        assert_eq!(sheet.load(knit), Ok(Progress { knit, ..record(0) }));
+        assert_eq!(sheet.pyramid, [131072, 32768, 32768, 32768, 32768, 9]);
+        assert_eq!(sheet.serials, [0, 0, 0, 0, 9]);
+        assert_eq!(sheet.order, [0, 0, 0, 0, 9]);
+    }
 }
 
 #[test]
 fn advance_says_more_until_it_is_finished() {
     let mut sheet = Sheet::new();
-    let start = sheet.load().unwrap();
+    let start = sheet.load(PLAIN).unwrap();
     let first = sheet.advance(start, 1).unwrap();
     assert_eq!(first, Advanced { progress: record(1), made: 1, finished: false });
     let second = sheet.advance(first.progress, 1).unwrap();
@@ -71,6 +74,39 @@ fn advance_says_more_until_it_is_finished() {
     assert_eq!(sheet.advance(second.progress, 1), Ok(Advanced { progress: record(2), made: 0, finished: true }));
     assert_eq!(sheet.serials, [1, 0, 0, 2, 9]);
     assert_eq!(sheet.order, [0, 3, 0, 0, 9]);
+}
+
+/// The same on ribbed cloth: a half of what the first hole makes too much is taken from either cell beside it.
+#[test]
+fn advance_on_ribbed_cloth() {
+    let mut sheet = Sheet::new();
+    let start = sheet.load(RIBBED).unwrap();
+    let ribbed = |dots| Progress { knit: RIBBED, ..record(dots) };
+    assert_eq!(sheet.advance(start, 1), Ok(Advanced { progress: ribbed(1), made: 1, finished: false }));
+    assert_eq!(sheet.pyramid, [65_792, 0, 16_512, 16_512, 32_768, 9]);
+    assert_eq!(sheet.advance(ribbed(1), 9), Ok(Advanced { progress: ribbed(2), made: 1, finished: true }));
+    assert_eq!(sheet.pyramid, [512, 0, 256, 256, 0, 9]);
+    let mut out = [9; 20];
+    let length = sheet.list(ribbed(2), &mut out).unwrap();
+    assert_eq!(&out[..length], LIST);
+}
+
+/// Inside a map of side 4, on its side and in its corner: a fourth, a third and a half of 65,280 - 32,768.
+#[test]
+fn ribbed_cells_by_place() {
+    for (cell, debts) in [
+        (5, [0, -8_128, 0, 0, -8_128, 0, -8_128, 0, 0, -8_128, 0, 0, 0, 0, 0, 0]),
+        (1, [-10_837, 0, -10_837, 0, 0, -10_838, 0, 0, 0, 0, 0, 0, 0, 0, 0, 0]),
+        (15, [0, 0, 0, 0, 0, 0, 0, 0, 0, 0, 0, -16_256, 0, 0, -16_256, 0]),
+    ] {
+        let mut greys = [0; 16];
+        greys[cell] = 128;
+        let (mut pyramid, mut serials, mut order) = ([0; 21], [0; 16], [0; 16]);
+        let start = load(4, RIBBED, &greys, &mut pyramid, &mut serials, &mut order).unwrap();
+        let end = advance(start, u32::MAX, &mut pyramid, &mut serials, &mut order).unwrap();
+        assert_eq!((end.made, end.finished), (1, true));
+        assert_eq!(pyramid[5..], debts);
+    }
 }
 
 #[test]
@@ -188,15 +224,40 @@ fn lengths_are_the_header_s() {
 fn each_refusal() {
     let sheet = finished();
     let mut out = [9; 15];
-    assert_eq!(load(3, &GREYS, &mut [], &mut [], &mut []), Err(Refusal::SideUnknown));
-    assert_eq!(load(2, &GREYS[1..], &mut [], &mut [], &mut []), Err(Refusal::GreysShort));
-    assert_eq!(load(2, &GREYS, &mut [0; 4], &mut [], &mut []), Err(Refusal::PyramidShort));
-    assert_eq!(load(2, &GREYS, &mut [0; 5], &mut [0; 4], &mut [0; 3]), Err(Refusal::SheetShort));
+    assert_eq!(load(3, PLAIN, &GREYS, &mut [], &mut [], &mut []), Err(Refusal::SideUnknown));
+    assert_eq!(load(2, PLAIN, &GREYS[1..], &mut [], &mut [], &mut []), Err(Refusal::GreysShort));
+    assert_eq!(load(2, PLAIN, &GREYS, &mut [0; 4], &mut [], &mut []), Err(Refusal::PyramidShort));
+    assert_eq!(load(2, PLAIN, &GREYS, &mut [0; 5], &mut [0; 4], &mut [0; 3]), Err(Refusal::SheetShort));
     assert_eq!(sheet.list(record(1), &mut out), Err(Refusal::SheetUnsound));
     assert_eq!(tally(2, &sheet.serials, 1, 0, 2), Err(Refusal::BlockUnknown));
     assert_eq!(map_text(b"2\n1,20\n256,0\n", &mut [0; 4]), Err(Refusal::TextMalformed));
     assert_eq!(sheet.list(record(2), &mut out), Err(Refusal::OutputShort));
+    assert_eq!(sheet.list(Progress { knit: 2, ..record(2) }, &mut out), Err(Refusal::KnitUnknown));
     assert_eq!(out, [9; 15]);
+}
+
+/// Numbers that are no knit: after the side, and before all lengths, the sheet and the output.
+#[test]
+fn the_knit_is_looked_at_directly_after_the_side() {
+    for knit in [2, 3, 255, 256, 1 << 31, u32::MAX] {
+        assert_eq!(Sheet::new().load(knit), Err(Refusal::KnitUnknown));
+        for (side, number) in [(3, 1), (2, 11), (4, 11)] {
+            let nothing = Progress { side: 0, dots: 0, knit: 0 };
+            assert_eq!(codes::load(side, knit, &[], &mut [], &mut [], &mut []), (number, nothing));
+            assert_eq!(codes::load(side, knit, &GREYS, &mut [0; 5], &mut [0; 4], &mut [0; 4]), (number, nothing));
+            let mut sheet = finished();
+            let serials = sheet.serials;
+            for dots in [2, 1, u32::MAX] {
+                let given = Progress { side, dots, knit };
+                let answer = codes::advance(given, 1, &mut sheet.pyramid, &mut sheet.serials, &mut sheet.order);
+                assert_eq!(answer, (number, given, 0));
+                assert_eq!(codes::advance(given, 1, &mut [], &mut [], &mut []), (number, given, 0));
+                assert_eq!(sheet.list(given, &mut [0; 20]).map_err(Refusal::number), Err(number));
+                assert_eq!(codes::drill_list(given, &[], &[], &[], &mut []), (number, 0));
+            }
+            assert_eq!(sheet.serials, serials);
+        }
+    }
 }
 
 #[test]

@@ -1,7 +1,9 @@
 //! Keep and Restore: stages of document 01's example, each refusal in its order, values that no Keep made, and finished
-//! maps taken back.
+//! maps taken back, on plain cloth and on ribbed.
 
-use rulmedei::{advance, cells, codes, keep, load, pyramid_length, restore, sample, Checkpoints, Progress, Refusal};
+use rulmedei::{
+    advance, cells, codes, keep, load, pyramid_length, restore, sample, Checkpoints, Progress, Refusal, PLAIN, RIBBED,
+};
 
 /// The buffers of a side, each one place longer than needed; that place is 9, and stays.
 #[derive(Clone, Debug, PartialEq)]
@@ -13,8 +15,12 @@ struct Sheet {
 }
 
 impl Sheet {
-    /// Greys loaded, and so many holes made.
+    /// Greys loaded on plain cloth, and so many holes made.
     fn new(side: u32, greys: &[u8], dots: u32) -> (Sheet, Progress) {
+        Sheet::on(PLAIN, side, greys, dots)
+    }
+
+    fn on(knit: u32, side: u32, greys: &[u8], dots: u32) -> (Sheet, Progress) {
         let (n, p) = (cells(side), pyramid_length(side));
         let mut sheet = Sheet {
             greys: [greys, &[255]].concat(),
@@ -22,7 +28,7 @@ impl Sheet {
             serials: vec![9; n + 1],
             order: vec![9; n + 1],
         };
-        let start = load(side, &sheet.greys, &mut sheet.pyramid, &mut sheet.serials, &mut sheet.order).unwrap();
+        let start = load(side, knit, &sheet.greys, &mut sheet.pyramid, &mut sheet.serials, &mut sheet.order).unwrap();
         let progress = sheet.advance(start, dots);
         (sheet, progress)
     }
@@ -88,8 +94,11 @@ fn keep_writes_one_place() {
         for name in 1..=8 {
             let mut expected = before;
             expected.kept[name as usize - 1] = u64::from(dots) + 1;
-            let after = keep(Progress { side: 4, dots }, before, name).unwrap();
+            let after = keep(Progress { side: 4, dots, knit: PLAIN }, before, name).unwrap();
             assert_eq!(after, expected);
+            for knit in [RIBBED, 2, u32::MAX] {
+                assert_eq!(codes::keep(Progress { side: 4, dots, knit }, before, name), (0, expected));
+            }
             assert_eq!(after.dots(name), Some(dots.into()));
         }
     }
@@ -98,15 +107,18 @@ fn keep_writes_one_place() {
 #[test]
 fn keep_refuses_in_order() {
     let before = Checkpoints { kept: [1, 2, 3, 4, 5, 6, 7, 8] };
-    for name in [0, 9, 256, 257, 1 << 31, u32::MAX] {
-        assert_eq!(keep(Progress { side: 2, dots: 3 }, before, name), Err(Refusal::NameUnknown));
-        // what a refused call leaves of the value
-        assert_eq!(codes::keep(Progress { side: 2, dots: 3 }, before, name), (10, before));
-    }
-    for side in [0, 1, 3, 512, u32::MAX] {
-        for name in [0, 1, 9] {
-            assert_eq!(keep(Progress { side, dots: 3 }, before, name), Err(Refusal::SideUnknown));
-            assert_eq!(codes::keep(Progress { side, dots: 3 }, before, name), (1, before));
+    for knit in [PLAIN, RIBBED, 2, u32::MAX] {
+        let given = Progress { side: 2, dots: 3, knit };
+        for name in [0, 9, 256, 257, 1 << 31, u32::MAX] {
+            assert_eq!(keep(given, before, name), Err(Refusal::NameUnknown));
+            // what a refused call leaves of the value
+            assert_eq!(codes::keep(given, before, name), (10, before));
+        }
+        for side in [0, 1, 3, 512, u32::MAX] {
+            for name in [0, 1, 9] {
+                assert_eq!(keep(Progress { side, ..given }, before, name), Err(Refusal::SideUnknown));
+                assert_eq!(codes::keep(Progress { side, ..given }, before, name), (1, before));
+            }
         }
     }
 }
@@ -118,9 +130,19 @@ fn restore_refuses_in_order() {
     let checkpoints = Checkpoints { kept: [3, 0, 14, 15, 0, 0, 0, u64::MAX] };
     let no_side = Progress { side: 5, ..progress };
     let unsound = Progress { dots: 6, ..progress };
+    let no_knit = Progress { knit: 2, ..progress };
     for (record, less, number) in [
         (no_side, [2, 2, 2, 2], 1),
         (no_side, [0, 0, 0, 0], 1),
+        (Progress { knit: 2, ..no_side }, [0, 0, 0, 0], 1),
+        (no_knit, [0, 0, 0, 0], 11),
+        (Progress { knit: u32::MAX, ..progress }, [0, 0, 0, 0], 11),
+        (Progress { knit: 2, ..unsound }, [0, 0, 0, 0], 11),
+        (no_knit, [2, 2, 2, 2], 11),
+        (no_knit, [2, 0, 0, 0], 11),
+        (no_knit, [0, 2, 0, 0], 11),
+        (no_knit, [0, 0, 2, 0], 11),
+        (no_knit, [0, 0, 0, 2], 11),
         (unsound, [2, 2, 2, 2], 2),
         (progress, [2, 0, 0, 0], 2),
         (unsound, [0, 2, 2, 2], 3),
@@ -142,16 +164,16 @@ fn restore_refuses_in_order() {
         assert_eq!(sheet.restore(progress, checkpoints, name), Err(Refusal::NameUnknown));
         assert_eq!(sheet, before);
     }
-    assert_eq!(sheet.restore(progress, checkpoints, 3), Ok(Progress { side: 4, dots: 13 }));
-    let two = Progress { side: 4, dots: 2 };
-    assert_eq!(sheet.restore_less(Progress { side: 4, dots: 13 }, checkpoints, 1, [1; 4]), Ok(two));
+    let [two, thirteen] = [2, 13].map(|dots| Progress { side: 4, dots, knit: PLAIN });
+    assert_eq!(sheet.restore(progress, checkpoints, 3), Ok(thirteen));
+    assert_eq!(sheet.restore_less(thirteen, checkpoints, 1, [1; 4]), Ok(two));
 }
 
 #[test]
 fn a_refused_restore_writes_the_record_given() {
     let mut buffers = (vec![0; 5], vec![0; 4], vec![0; 4]);
-    for (side, dots, number) in [(3, 7, 1), (2, 7, 5), (2, 0, 10)] {
-        let record = Progress { side, dots };
+    for (side, dots, knit, number) in [(3, 7, 7, 1), (2, 7, 7, 11), (2, 7, RIBBED, 5), (2, 0, RIBBED, 10)] {
+        let record = Progress { side, dots, knit };
         let (pyramid, serials, order) = (&mut buffers.0, &mut buffers.1, &mut buffers.2);
         let answer = codes::restore(record, &Checkpoints::default(), 1, &[0; 4], pyramid, serials, order);
         assert_eq!(answer, (number, record));
@@ -185,13 +207,27 @@ fn other_greys() {
     assert_eq!(sheet.restore(record, only(12), 4), Err(Refusal::NameUnknown));
 }
 
+/// The record's knit need not be the one loaded: the sheet is then that of the greys on the record's.
+#[test]
+fn the_other_knit() {
+    let mut greys = [0; 64];
+    sample(1, 8, &mut greys).unwrap();
+    for (loaded, asked) in [(PLAIN, RIBBED), (RIBBED, PLAIN)] {
+        let (mut sheet, progress) = Sheet::on(loaded, 8, &greys, 20);
+        let (expected, record) = Sheet::on(asked, 8, &greys, 20);
+        assert_ne!(sheet, expected);
+        assert_eq!(sheet.restore(Progress { knit: asked, ..progress }, only(21), 4), Ok(record));
+        assert_eq!(sheet, expected);
+    }
+}
+
 /// Samples run to their end, with names on the way, and taken back to each; the largest side once.
 #[test]
 fn finished_maps() {
-    for side in [8, 32, 256] {
+    for (side, knit) in [(8, PLAIN), (8, RIBBED), (32, PLAIN), (64, RIBBED), (256, PLAIN)] {
         let mut greys = vec![0; cells(side)];
         sample(1, side, &mut greys).unwrap();
-        let (mut sheet, mut progress) = Sheet::new(side, &greys, 0);
+        let (mut sheet, mut progress) = Sheet::on(knit, side, &greys, 0);
         let mut checkpoints = Checkpoints::default();
         let mut stages = Vec::new();
         for (name, budget) in [(2, 0), (7, 5), (1, side), (8, u32::MAX)] {

@@ -5,7 +5,7 @@ use rulmedei::Refusal;
 const HEADER: &str = include_str!("../../../include/rulmedei.h");
 const EXAMPLE: &str = include_str!("../../../include/example.c");
 
-const REFUSALS: [Refusal; 10] = [
+const REFUSALS: [Refusal; 11] = [
     Refusal::SideUnknown,
     Refusal::GreysShort,
     Refusal::PyramidShort,
@@ -16,6 +16,7 @@ const REFUSALS: [Refusal; 10] = [
     Refusal::OutputShort,
     Refusal::InputLong,
     Refusal::NameUnknown,
+    Refusal::KnitUnknown,
 ];
 
 /// The name, number and words of a line `#define RULMEDEI_NAME number /* words */`, where the number is a refusal's.
@@ -47,8 +48,8 @@ fn the_header_has_the_same_refusals() {
 }
 
 #[test]
-fn the_numbers_are_1_to_10() {
-    assert_eq!(REFUSALS.map(Refusal::number), [1, 2, 3, 4, 5, 6, 7, 8, 9, 10]);
+fn the_numbers_are_1_to_11() {
+    assert_eq!(REFUSALS.map(Refusal::number), [1, 2, 3, 4, 5, 6, 7, 8, 9, 10, 11]);
 }
 
 #[test]

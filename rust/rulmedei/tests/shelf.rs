@@ -1,7 +1,7 @@
 //! Compare and Shelf: each answer, each refusal in its order, and finished maps on a shelf.
 
 use rulmedei::Compared::{self, After, Before, Same};
-use rulmedei::{advance, cells, codes, compare, load, pyramid_length, sample, shelf, Refusal};
+use rulmedei::{advance, cells, codes, compare, load, pyramid_length, sample, shelf, Refusal, PLAIN};
 
 const HEADER: &str = include_str!("../../../include/rulmedei.h");
 
@@ -118,7 +118,7 @@ fn plate(side: u32, light: usize) -> Vec<u32> {
     greys[..light].fill(0);
     let (mut pyramid, mut serials, mut order) =
         (vec![0; pyramid_length(side)], vec![0; cells(side)], vec![0; cells(side)]);
-    let start = load(side, &greys, &mut pyramid, &mut serials, &mut order).unwrap();
+    let start = load(side, PLAIN, &greys, &mut pyramid, &mut serials, &mut order).unwrap();
     advance(start, u32::MAX, &mut pyramid, &mut serials, &mut order).unwrap();
     serials
 }

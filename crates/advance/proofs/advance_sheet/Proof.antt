@@ -18,11 +18,21 @@ advance-sheet-spec =
     (λ c. search needs)
     (λ c. search (order-part, needs))
     (λ c κs. search (run-asked, needs))
-    (λ c. let s = c .before .before .before .before .before .before .before .before .before .before .before .before .before in top-there _ _ _ (s .pre) (c .before .before .before .before .before .before .before .before .before .before .needed .ensures) (c .before .before .before .before .before .before .before .before .before .cell-count .ensures) _ (c .before .before .before .before .before .run .ensures))
+    (λ c.
+    let ran = c .before .before .before .before .before in
+    let cells = ran .before .before .before .before in
+    let start = cells .before .before .before .before in
+    top-there _ _ _ (start .pre) (cells .before .needed .ensures) (cells .cell-count .ensures) _ _ (ran .run .ensures))
     (λ c κs. search needs)
     (λ c. search (dots-fit, needs))
     (λ c κs. search needs)
     (λ c. search needs)
     (λ c. search needs)
     (λ c. search needs)
-    (λ c. let s = c .before .before .before .before .before .before .before .before .before .before .before .before .before .before .before .before in advanced-is _ _ _ (s .pre) (c .before .before .before .before .before .before .before .before .before .before .before .before .before .needed .ensures) (c .before .before .before .before .before .before .before .before .before .before .before .before .cell-count .ensures) _ (c .before .before .before .before .before .before .before .before .run .ensures) (s .args .progress) _ refl (search needs) (c .before .ended .ensures) (c .answer .ensures)))
+    (λ c.
+    let ran = c .before .before .before .before .before .before .before .before in
+    let cells = ran .before .before .before .before in
+    let start = cells .before .before .before .before in
+    advanced-is _ _ _ (start .pre) (cells .before .needed .ensures) (cells .cell-count .ensures) _ _
+    (ran .run .ensures) (start .args .progress) _ refl refl (search needs) (c .before .ended .ensures)
+    (c .answer .ensures)))

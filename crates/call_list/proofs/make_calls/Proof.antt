@@ -14,6 +14,14 @@ Inv-loop pyramid₀ serials₀ order₀ budgets pyramids sheets orders progress�
 abbrev μ-loop : tie.MeasureT-loop
 μ-loop pyramid₀ serials₀ order₀ budgets pyramids sheets orders progress₀ i₀ pyramid serials order progress i = length budgets - i
 
+-- a length is a number of 64 bits: what is known of the slice `budgets`
+in-range : tie.Need-add-i Inv-loop μ-loop
+in-range c =
+    let called = c .before .before .before .before .before .before .before .before .before .before in
+    let at-loop = called .before .before .before .before in
+    let start = at-loop .before .before .before .before .before .before .before in
+    omega (arith, start .good .1 .1 .1 .1 .0 .0)
+
 pub make-calls-spec : {M : Type 1} → statement M
 make-calls-spec =
     tie.close
@@ -27,9 +35,14 @@ make-calls-spec =
     (λ c. omega arith)
     (λ c. omega arith)
     (λ c κs. search needs)
+    in-range
     (λ c. omega arith)
-    (λ c. omega arith)
-    (λ c. let t = c .before .before .before .before .before .before .before .before .before .before in goes-on _ _ _ _ _ _ _ _ _ _ _ _ _ (t .before .before .before .before .loop .inv) (t .before .before .before .loop-test .taken) (t .before .before .at .ensures) (t .before .at2 .ensures) (t .at3 .ensures) _ _ _ _ (search needs) (search needs) (search needs) (c .before .before .before .before .before .one-call .ensures))
+    (λ c.
+    let t = c .before .before .before .before .before .before .before .before .before .before in
+    let called = c .before .before .before .before .before in
+    goes-on _ _ _ _ _ _ _ _ _ _ _ _ _ (t .before .before .before .before .loop .inv)
+    (t .before .before .before .loop-test .taken) (t .before .before .at .ensures) (t .before .at2 .ensures)
+    (t .at3 .ensures) _ _ _ _ (search needs) (search needs) (search needs) (called .one-call .ensures))
     (λ c. search needs)
     (λ c. search needs)
     (λ c. search needs)

@@ -13,4 +13,7 @@ run-calls-spec =
     (λ c. search needs)
     (λ c. search needs)
     (λ c. search needs)
-    (λ c. promised _ _ _ _ _ _ _ _ (c .before .before .before .before .before .before .before .before .before .before .before .before .before .before .before .load .ensures) (c .before .before .before .before .before .make-calls .ensures)))
+    (λ c.
+    let called = c .before .before .before .before .before in
+    let loaded = called .before .before .before .before .before .before .before .before .before .before in
+    promised _ _ _ _ _ _ _ _ _ (loaded .load .ensures) (called .make-calls .ensures)))

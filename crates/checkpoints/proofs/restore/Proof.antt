@@ -21,7 +21,7 @@ counted c κs =
     let t = c .before .before in
     let u = t .before .before .before .before in
     let a = u .before .before .before .before .args in
-    count-asked (a .checkpoints) (a .name) (a .greys .now) (a .pyramid .now) (a .serials .now) (a .order .now)
+    count-asked _ (a .checkpoints) (a .name) (a .greys .now) (a .pyramid .now) (a .serials .now) (a .order .now)
     (power-small (a .progress .side) (u .power-of .ensures)) _ _ (t .check-restore .ensures) (c .enum-told .given .1)
     (λ i. omega (arith, u .before .before .before .shared-slice-known .given i))
 
@@ -31,7 +31,7 @@ lent c κs =
     let t = e .before .before in
     let u = t .before .before .before .before in
     let a = u .before .before .before .before .args in
-    anew-asked (a .checkpoints) (a .name) (a .greys .now) (a .pyramid .now) (a .serials .now) (a .order .now)
+    anew-asked _ (a .checkpoints) (a .name) (a .greys .now) (a .pyramid .now) (a .serials .now) (a .order .now)
     (power-small (a .progress .side) (u .power-of .ensures)) _ _ (t .check-restore .ensures) (e .enum-told .given .1)
     (λ i. omega (arith, u .before .before .before .shared-slice-known .given i))
 

@@ -7,10 +7,11 @@ use Rattle.diffusion.proofs.diffuse.Statement.{statement}
 use Rattle.diffusion.proofs.diffuse.Tie as tie
 
 abbrev Inv-loop : tie.InvT-loop
-Inv-loop cells₀ r row column d all before₀ p₀ cells before p = Turns cells₀ r row column d cells before p
+Inv-loop cells₀ knit r row column d all before₀ p₀ cells before p =
+    Turns cells₀ knit r row column d cells before p
 
 abbrev μ-loop : tie.MeasureT-loop
-μ-loop cells₀ r row column d all before₀ p₀ cells before p = 9 - p
+μ-loop cells₀ knit r row column d all before₀ p₀ cells before p = 9 - p
 
 pub diffuse-spec : {M : Type 1} → statement M
 diffuse-spec =

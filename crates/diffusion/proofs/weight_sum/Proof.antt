@@ -4,16 +4,16 @@ use Prim.Native.Nat.{_≤_, _-_}
 use native.Mathlib.Omega.{arith}
 use borrow.Author.Needs.{needs}
 use Rattle.definition.specs.Lists.{sumTo}
-use Rattle.definition.specs.Diffusion.{plain, weightAt}
+use Rattle.definition.specs.Diffusion.{kernelOf, weightAt}
 use Rattle.diffusion.specs.Weights.{sum-none, sum-more, sum-fits}
 use Rattle.diffusion.proofs.weight_sum.Statement.{statement}
 use Rattle.diffusion.proofs.weight_sum.Tie as tie
 
 abbrev Inv-loop : tie.InvT-loop
-Inv-loop r row column sum₀ p₀ sum p = (p ≤ 9) × (sum ≡ sumTo p (weightAt plain r row column))
+Inv-loop knit r row column sum₀ p₀ sum p = (p ≤ 9) × (sum ≡ sumTo p (weightAt (kernelOf knit) r row column))
 
 abbrev μ-loop : tie.MeasureT-loop
-μ-loop r row column sum₀ p₀ sum p = 9 - p
+μ-loop knit r row column sum₀ p₀ sum p = 9 - p
 
 pub weight-sum-spec : {M : Type 1} → statement M
 weight-sum-spec =

@@ -17,6 +17,10 @@ use Rattle.dot.specs.Placed.{
 use Rattle.dot.proofs.place_dot.Statement.{statement}
 use Rattle.dot.proofs.place_dot.Tie as tie
 
+-- the sheet is the one that the definition's step leaves
+stepped : tie.Need-returns
+stepped c = search (placed, needs)
+
 pub place-dot-spec : {M : Type 1} → statement M
 place-dot-spec =
     tie.close
@@ -36,4 +40,4 @@ place-dot-spec =
     (λ c. search needs)
     (λ c. search needs)
     (λ c. search needs)
-    (λ c. search (placed, needs)))
+    stepped)

@@ -18,10 +18,11 @@ use Rattle.dot_run.proofs.run.Statement.{statement}
 use Rattle.dot_run.proofs.run.Tie as tie
 
 abbrev Inv-loop : tie.InvT-loop
-Inv-loop pyramid₀ serials₀ order₀ r dots budget made₀ pyramid serials order made = Going r pyramid₀ serials₀ order₀ dots budget pyramid serials order made
+Inv-loop pyramid₀ serials₀ order₀ knit r dots budget made₀ pyramid serials order made =
+    Going knit r pyramid₀ serials₀ order₀ dots budget pyramid serials order made
 
 abbrev μ-loop : tie.MeasureT-loop
-μ-loop pyramid₀ serials₀ order₀ r dots budget made₀ pyramid serials order made = budget - made
+μ-loop pyramid₀ serials₀ order₀ knit r dots budget made₀ pyramid serials order made = budget - made
 
 -- past the test a dot is due
 due : tie.Need-place-dot-requires Inv-loop μ-loop

@@ -1,6 +1,7 @@
 -- `fresh_sheet::check_load`: each row that does not apply is passed over; the first that does gives its number.
+use native.Mathlib.Omega.{arith}
 use borrow.Author.Needs.{needs}
-use borrow.Author.Tests.{eq-eqb, ne-eqb}
+use borrow.Author.Tests.{eq-eqb, ne-eqb, lt-ltb, le-ltb}
 use Rattle.definition.specs.Answers.{numberOf}
 use Rattle.definition.specs.Refusals.{lowest}
 use Rattle.definition.specs.Load.{loadRefusal}
@@ -8,16 +9,25 @@ use Rattle.checks.specs.Checks.{checked, short, enough}
 use Rattle.fresh_sheet.proofs.check_load.Statement.{statement}
 use Rattle.fresh_sheet.proofs.check_load.Tie as tie
 
--- past the tests nothing is too short
-all-enough : tie.Need-returns-6
+-- a knit above 1 gives 11
+no-knit : tie.Need-returns-2
+unfolding checked numberOf lowest loadRefusal
+no-knit c =
+    let knit = c .before .before .before .before .args .knit in
+    simp (ne-eqb _ 0 (c .before .if1 .left), lt-ltb 1 knit (omega arith))
+
+-- past the tests nothing is amiss
+all-enough : tie.Need-returns-7
 unfolding checked numberOf lowest loadRefusal
 all-enough c =
     simp (
-      ne-eqb _ 0 (c .before .before .before .before .before .before .if1 .left),
-      enough (c .before .before .before .before .before .cell-count .ensures) (c .before .before .before .if2 .left),
-      enough (c .before .before .before .before .needed .ensures) (c .before .before .if3 .left),
-      enough (c .before .before .before .before .before .cell-count .ensures) (c .before .if4 .left),
-      enough (c .before .before .before .before .before .cell-count .ensures) (c .if5 .left),
+      ne-eqb _ 0 (c .before .before .before .before .before .if1 .left),
+      le-ltb 1 _ (c .before .before .before .before .if2 .left),
+      enough (c .before .before .before .before .before .before .before .cell-count .ensures)
+          (c .before .before .before .if3 .left),
+      enough (c .before .before .before .before .before .before .needed .ensures) (c .before .before .if4 .left),
+      enough (c .before .before .before .before .before .before .before .cell-count .ensures) (c .before .if5 .left),
+      enough (c .before .before .before .before .before .before .before .cell-count .ensures) (c .if6 .left),
     )
 
 pub check-load-spec : {M : Type 1} → statement M
@@ -25,11 +35,39 @@ unfolding checked numberOf lowest loadRefusal
 check-load-spec =
     tie.close
     (tie.spec
+    (λ c κs. search needs)
+    (λ c κs. search needs)
     (λ c. simp (eq-eqb _ 0 (c .if1 .taken)))
-    (λ c κs. search needs)
-    (λ c κs. search needs)
-    (λ c. simp (ne-eqb _ 0 (c .before .before .before .if1 .left), short (c .before .before .cell-count .ensures) (c .if2 .taken)))
-    (λ c. simp (ne-eqb _ 0 (c .before .before .before .before .if1 .left), enough (c .before .before .before .cell-count .ensures) (c .before .if2 .left), short (c .before .before .needed .ensures) (c .if3 .taken)))
-    (λ c. simp (ne-eqb _ 0 (c .before .before .before .before .before .if1 .left), enough (c .before .before .before .before .cell-count .ensures) (c .before .before .if2 .left), enough (c .before .before .before .needed .ensures) (c .before .if3 .left), short (c .before .before .before .before .cell-count .ensures) (c .if4 .taken)))
-    (λ c. simp (ne-eqb _ 0 (c .before .before .before .before .before .before .if1 .left), enough (c .before .before .before .before .before .cell-count .ensures) (c .before .before .before .if2 .left), enough (c .before .before .before .before .needed .ensures) (c .before .before .if3 .left), enough (c .before .before .before .before .before .cell-count .ensures) (c .before .if4 .left), short (c .before .before .before .before .before .cell-count .ensures) (c .if5 .taken)))
+    no-knit
+    (λ c.
+    simp (
+      ne-eqb _ 0 (c .before .before .if1 .left),
+      le-ltb 1 _ (c .before .if2 .left),
+      short (c .before .before .before .before .cell-count .ensures) (c .if3 .taken),
+    ))
+    (λ c.
+    simp (
+      ne-eqb _ 0 (c .before .before .before .if1 .left),
+      le-ltb 1 _ (c .before .before .if2 .left),
+      enough (c .before .before .before .before .before .cell-count .ensures) (c .before .if3 .left),
+      short (c .before .before .before .before .needed .ensures) (c .if4 .taken),
+    ))
+    (λ c.
+    simp (
+      ne-eqb _ 0 (c .before .before .before .before .if1 .left),
+      le-ltb 1 _ (c .before .before .before .if2 .left),
+      enough (c .before .before .before .before .before .before .cell-count .ensures) (c .before .before .if3 .left),
+      enough (c .before .before .before .before .before .needed .ensures) (c .before .if4 .left),
+      short (c .before .before .before .before .before .before .cell-count .ensures) (c .if5 .taken),
+    ))
+    (λ c.
+    simp (
+      ne-eqb _ 0 (c .before .before .before .before .before .if1 .left),
+      le-ltb 1 _ (c .before .before .before .before .if2 .left),
+      enough (c .before .before .before .before .before .before .before .cell-count .ensures)
+          (c .before .before .before .if3 .left),
+      enough (c .before .before .before .before .before .before .needed .ensures) (c .before .before .if4 .left),
+      enough (c .before .before .before .before .before .before .before .cell-count .ensures) (c .before .if5 .left),
+      short (c .before .before .before .before .before .before .before .cell-count .ensures) (c .if6 .taken),
+    ))
     all-enough)

@@ -1,7 +1,7 @@
 -- `load::load`: what the check says, told apart.
 use borrow.Author.Needs.{needs}
 use Rattle.refusals.specs.Powers.{power-small}
-use Rattle.load.specs.Loading.{refused-is, fill-lent, loaded-is}
+use Rattle.load.specs.Loading.{refused-is, room, loaded-is}
 use Rattle.load.proofs.load.Statement.{statement}
 use Rattle.load.proofs.load.Tie as tie
 
@@ -18,7 +18,7 @@ load-spec =
     (λ c. search needs)
     (λ c κs. search needs)
     (λ c. search needs)
-    (λ c κs. search (fill-lent, needs))
+    (λ c κs. search (room, needs))
     (λ c κs. search needs)
     left-alone
     (λ c. search needs)

@@ -8,14 +8,14 @@ use Rattle.stage_cases.proofs.run_actions.Statement.{statement}
 use Rattle.stage_cases.proofs.run_actions.Tie as tie
 
 abbrev Inv-loop : tie.InvT-loop
-Inv-loop text from greys₀ pyramid₀ serials₀ order₀ actions at₀ held₀ j₀ greys pyramid serials order at held j =
-    (length greys ≡ length greys₀)
+Inv-loop text from g₀ pyramid₀ serials₀ order₀ actions at₀ held₀ j₀ g pyramid serials order at held j =
+    (length g ≡ length g₀)
     × (length pyramid ≡ length pyramid₀)
     × (length serials ≡ length serials₀)
     × (length order ≡ length order₀)
 
 abbrev μ-loop : tie.MeasureT-loop
-μ-loop text from greys₀ pyramid₀ serials₀ order₀ actions at₀ held₀ j₀ greys pyramid serials order at held j =
+μ-loop text from g₀ pyramid₀ serials₀ order₀ actions at₀ held₀ j₀ g pyramid serials order at held j =
     actions - j
 
 pub run-actions-spec : {M : Type 1} → statement M

@@ -9,7 +9,7 @@ all-of-it c =
     let t = c .before .before .before .before .before in
     let u = t .before .before .before .before in
     let v = u .before .before .before .before .before .before .before in
-    acted-on _ _ _ _ _ _ _ _ (v .load .ensures) (u .no-names .ensures) (t .make-actions .ensures)
+    acted-on _ _ _ _ _ _ _ _ _ (v .load .ensures) (u .no-names .ensures) (t .make-actions .ensures)
 
 pub run-stages-spec : {M : Type 1} → statement M
 run-stages-spec =
