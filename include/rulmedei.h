@@ -112,8 +112,9 @@ uint32_t rulmedei_load(uint32_t side,
  * Refusals: 1, 11, 3, 4, 5.
  *
  * A hole goes down from the whole map to the quarter that asks for most, again and again. Of equal quarters a hole with
- * an odd serial takes the first by row then column, and one with an even serial the last. A sheet that was loaded when
- * the first was always taken goes on by this rule.
+ * an odd serial takes the first by row then column, and one with an even serial the last. What a hole is worth beyond
+ * its cell's need goes to the neighbours on the map by their weights, in sums rounded down: over those at the corners
+ * by row then column, then up, left, right and down. A sheet made by an earlier rule for either goes on by these.
  */
 uint32_t rulmedei_advance(uint32_t side,
                           uint32_t dots,

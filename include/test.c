@@ -961,7 +961,7 @@ static void test_ribbed_places(void)
 /* The record's knit decides: a first hole on plain cloth, a second as on ribbed, then back to the first of ribbed. */
 static void test_other_knit(void)
 {
-    static const int64_t two_holes[5] = {512, 0, 257, 255, 0}, one_hole[5] = {65792, 0, 16512, 16512, 32768};
+    static const int64_t two_holes[5] = {512, 0, 256, 256, 0}, one_hole[5] = {65792, 0, 16512, 16512, 32768};
     struct map m = map_of(2, RULMEDEI_PLAIN);
     struct part value = no_names();
     memset(m.greys.places, 128, 4);
@@ -1034,7 +1034,7 @@ static void test_small_plates(void)
 
 static void test_small_stages(void)
 {
-    static const int64_t one_hole[5] = {65792, 0, 19764, 19763, 26265}, no_hole[5] = {0, 0, 0, 0, 0};
+    static const int64_t one_hole[5] = {65792, 0, 19763, 19763, 26266}, no_hole[5] = {0, 0, 0, 0, 0};
     static const uint32_t serials[4] = {1, 0, 0, 0};
     struct map m = map_of(2, RULMEDEI_PLAIN);
     struct part value = no_names();

@@ -3,7 +3,7 @@
 use crate::answers::Progress;
 use crate::knit::{weights_of, Weights};
 use crate::pyramid::renew_over;
-use crate::shape::{entry, neighbours, DOT, HALF_DOT};
+use crate::shape::{entry, neighbours_in_turn, DOT, HALF_DOT};
 
 /// The cell that the dot with this serial goes to, as row and column: from the top, level by level, to a largest of
 /// the four entries below. Among equal ones an odd serial takes the first by row, an even one the last.
@@ -63,7 +63,7 @@ pub fn place(
     let error = DOT - pyramid[at];
     pyramid[at] = 0;
 
-    let near = neighbours(side, row, column);
+    let near = neighbours_in_turn(side, row, column);
     let mut changed = vec![(row, column)];
     for (neighbour, share) in near.iter().zip(shares(error, &weights_of(weights, &near))) {
         pyramid[entry(power, neighbour.row, neighbour.column)] -= share;

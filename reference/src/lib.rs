@@ -51,7 +51,7 @@ pub use quote_page::quote_page;
 pub use renewal::renew;
 pub use run::{Buffers, Run};
 pub use sample::{sample, sample_text};
-pub use shape::{cell_count, entry, level_start, neighbours, power, pyramid_length};
+pub use shape::{cell_count, entry, level_start, neighbours, neighbours_in_turn, power, pyramid_length};
 pub use shape::{Neighbour, DOT, HALF_DOT, SIDES};
 pub use shelf::{compare, in_order, shelf};
 pub use sound::sound;

@@ -48,7 +48,7 @@ pub struct Neighbour {
     pub place: (usize, usize),
 }
 
-/// "Run through the neighbours by row, then column."
+/// The neighbours of a cell by row, then column.
 pub fn neighbours(side: u32, row: usize, column: usize) -> Vec<Neighbour> {
     let on_map = |place: usize| place >= 1 && place <= side as usize;
     let mut found = Vec::new();
@@ -63,4 +63,12 @@ pub fn neighbours(side: u32, row: usize, column: usize) -> Vec<Neighbour> {
         }
     }
     found
+}
+
+/// The neighbours in the order in which an error is diffused: first those at the cell's corners, then those that share
+/// a side with it; within either, by row, then column.
+pub fn neighbours_in_turn(side: u32, row: usize, column: usize) -> Vec<Neighbour> {
+    let shares_a_side = |neighbour: &Neighbour| neighbour.row == row || neighbour.column == column;
+    let (straight, diagonal): (Vec<_>, Vec<_>) = neighbours(side, row, column).into_iter().partition(shares_a_side);
+    [diagonal, straight].concat()
 }

@@ -1,5 +1,6 @@
-//! "Plates to check by hand": P1 to P12 of document 01, with its own figures; and stages, quote pages and ribbed plates
-//! worked by hand from document 02. Without a word on it, the cloth is plain.
+//! The plates of document 01, P1 to P12, six of them (3, 6, 7, 8, 9, 11) worked anew for the order of
+//! document 02; and stages, quote pages and ribbed plates worked by hand from document 02. Where no knit is named, the
+//! cloth is plain.
 
 use reference::*;
 
@@ -30,9 +31,9 @@ fn finished_on(knit: u32, side: u32, greys: &[u8]) -> (Buffers, Progress) {
     (buffers, answer.progress)
 }
 
-/// The shares of an error around a cell.
+/// The shares of an error around a cell, in their order.
 fn shares_at(knit: u32, side: u32, row: usize, column: usize, error: i64) -> Vec<i64> {
-    shares(error, &weights_of(weights(knit).unwrap(), &neighbours(side, row, column)))
+    shares(error, &weights_of(weights(knit).unwrap(), &neighbours_in_turn(side, row, column)))
 }
 
 #[test]
@@ -60,7 +61,7 @@ fn turns_among_equals() {
     let second = buffers.advance(first.progress, 1);
     assert_eq!(buffers.pyramid[1..], [-6_246, 46_541, 0, -7_015]);
     let third = buffers.advance(second.progress, 9);
-    assert_eq!(buffers.pyramid, [-32_000, -13_741, 0, -3_748, -14_511]);
+    assert_eq!(buffers.pyramid, [-32_000, -13_742, 0, -3_747, -14_511]);
     assert_eq!((third.made, third.status), (1, Ok(Ended::Finished)));
     assert_eq!(buffers.order, [0, 2, 1, 0]);
 }
@@ -76,13 +77,15 @@ fn turns_among_equal_quarters() {
     assert_eq!(buffers.order[..4], [0, 15, 3, 12]);
 }
 
+/// Of the missing 32,512 the diagonal cell bears a fifth, 6,502, and with the next one three fifths, 19,507. Of the
+/// missing 39,014 after that, these are 7,802 and 23,408.
 #[test]
 fn p3_two_dots() {
     let (mut buffers, progress) = loaded(2, &P3_GREYS);
     let first = buffers.advance(progress, 1);
-    assert_eq!(buffers.pyramid[1..], [0, 19_764, 19_763, 26_265]);
+    assert_eq!(buffers.pyramid[1..], [0, 19_763, 19_763, 26_266]);
     let second = buffers.advance(first.progress, 1);
-    assert_eq!(buffers.pyramid, [512, -7_803, 4_158, 4_157, 0]);
+    assert_eq!(buffers.pyramid, [512, -7_802, 4_157, 4_157, 0]);
     assert_eq!(second.status, Ok(Ended::Finished));
     assert_eq!(buffers.order, [0, 3, 0, 0]);
 }
@@ -109,22 +112,56 @@ fn p5_less_than_half_a_dot() {
 fn p6_half_a_dot() {
     let (buffers, progress) = finished(2, &[128, 0, 0, 0]);
     assert_eq!(progress.dots, 1);
-    assert_eq!(buffers.pyramid[1..], [0, -13_004, -13_005, -6_503]);
+    assert_eq!(buffers.pyramid[1..], [0, -13_005, -13_005, -6_502]);
 }
 
+/// The running sums of the weights are 1, 2, 3, 4, 6, 8, 10, 12 of 12.
 #[test]
 fn p7_shares_inside() {
-    assert_eq!(shares_at(PLAIN, 4, 1, 1, 13), [1, 2, 1, 2, 2, 1, 2, 2]);
+    assert_eq!(shares_at(PLAIN, 4, 1, 1, 13), [1, 1, 1, 1, 2, 2, 2, 3]);
 }
 
+/// 1, 2, 4, 6, 8 of 8.
 #[test]
 fn p8_shares_on_the_top_side() {
-    assert_eq!(shares_at(PLAIN, 4, 0, 1, 7), [1, 2, 1, 2, 1]);
+    assert_eq!(shares_at(PLAIN, 4, 0, 1, 7), [0, 1, 2, 2, 2]);
 }
 
+/// 1, 3, 5 of 5.
 #[test]
 fn p9_shares_in_the_top_left_corner() {
-    assert_eq!(shares_at(PLAIN, 2, 0, 0, 4), [1, 2, 1]);
+    assert_eq!(shares_at(PLAIN, 2, 0, 0, 4), [0, 2, 2]);
+}
+
+/// Document 02, request 9, worked by hand: what each cell around cell (1, 1) bears of a small error. No two cells bear
+/// the same of all of these.
+#[test]
+fn shares_by_place() {
+    let by_row = |error: i64| {
+        let mut cells = [0; 16];
+        let near = neighbours_in_turn(4, 1, 1);
+        for (neighbour, share) in near.iter().zip(shares_at(PLAIN, 4, 1, 1, error)) {
+            cells[neighbour.row * 4 + neighbour.column] = share;
+        }
+        [cells[0], cells[1], cells[2], cells[4], cells[6], cells[8], cells[9], cells[10]]
+    };
+    // above left, up, above right; left, right; below left, down, below right
+    assert_eq!(by_row(1), [0, 0, 0, 0, 0, 0, 1, 0]);
+    assert_eq!(by_row(2), [0, 1, 0, 0, 0, 0, 1, 0]);
+    assert_eq!(by_row(3), [0, 0, 0, 1, 0, 0, 1, 1]);
+    assert_eq!(by_row(4), [0, 1, 0, 0, 1, 1, 1, 0]);
+    assert_eq!(by_row(6), [0, 1, 1, 1, 1, 0, 1, 1]);
+    assert_eq!(by_row(12), [1, 2, 1, 2, 2, 1, 2, 1]);
+}
+
+/// One dark cell inside: of the missing 32,512 = 12 × 2,709 + 4 the four odd units go below left, up, right and down.
+#[test]
+fn plain_errors_by_place() {
+    let mut greys = [0; 16];
+    greys[5] = 128;
+    let row = |numbers: [i64; 4]| numbers.to_vec();
+    let left = [row([-2_709, -5_419, -2_709, 0]), row([-5_418, 0, -5_419, 0]), row([-2_710, -5_419, -2_709, 0])];
+    assert_eq!(finished(4, &greys).0.pyramid[5..17], left.concat());
 }
 
 #[test]
@@ -171,8 +208,8 @@ fn stages_of_p3() {
 
     let stages = [
         (1, 0, [131_072, 32_768, 32_768, 32_768, 32_768], [0, 0, 0, 0], [0, 0, 0, 0]),
-        (8, 1, [65_792, 0, 19_764, 19_763, 26_265], [1, 0, 0, 0], [0, 0, 0, 0]),
-        (4, 2, [512, -7_803, 4_158, 4_157, 0], [1, 0, 0, 2], [0, 3, 0, 0]),
+        (8, 1, [65_792, 0, 19_763, 19_763, 26_266], [1, 0, 0, 0], [0, 0, 0, 0]),
+        (4, 2, [512, -7_802, 4_157, 4_157, 0], [1, 0, 0, 2], [0, 3, 0, 0]),
     ];
     let mut progress = second;
     for stage in [0, 1, 2, 1, 0, 2, 0, 0] {
@@ -186,16 +223,16 @@ fn stages_of_p3() {
     }
 }
 
-/// Ribbed shares, by running sums as on plain cloth; D is 4, 3 and 2. Inside, the sums 0, 1, 1, 2, 3, 3, 4, 4 of the
-/// weights give 0, 3, 3, 6, 9, 9, 13, 13 of an error of 13. Below 0 the floor goes down too: a fourth of -1 is -1.
+/// Ribbed shares, by running sums as on plain cloth; D is 4, 3 and 2. Inside, the sums 0, 0, 0, 0, 1, 2, 3, 4 of the
+/// weights give 0, 0, 0, 0, 3, 6, 9, 13 of an error of 13. Below 0 the floor goes down too: a fourth of -1 is -1.
 #[test]
 fn ribbed_shares() {
-    assert_eq!(shares_at(RIBBED, 4, 1, 1, 13), [0, 3, 0, 3, 3, 0, 4, 0]);
-    assert_eq!(shares_at(RIBBED, 4, 0, 1, 7), [2, 2, 0, 3, 0]);
-    assert_eq!(shares_at(RIBBED, 4, 2, 3, 7), [0, 2, 2, 0, 3]);
-    assert_eq!(shares_at(RIBBED, 2, 0, 0, 5), [2, 3, 0]);
+    assert_eq!(shares_at(RIBBED, 4, 1, 1, 13), [0, 0, 0, 0, 3, 3, 3, 4]);
+    assert_eq!(shares_at(RIBBED, 4, 0, 1, 7), [0, 0, 2, 2, 3]);
+    assert_eq!(shares_at(RIBBED, 4, 2, 3, 7), [0, 0, 2, 2, 3]);
+    assert_eq!(shares_at(RIBBED, 2, 0, 0, 5), [0, 2, 3]);
     assert_eq!(shares_at(RIBBED, 2, 1, 1, 5), [0, 2, 3]);
-    assert_eq!(shares_at(RIBBED, 4, 1, 1, -1), [0, -1, 0, 0, 0, 0, 0, 0]);
+    assert_eq!(shares_at(RIBBED, 4, 1, 1, -1), [0, 0, 0, 0, -1, 0, 0, 0]);
 }
 
 /// The greys of P3 on ribbed cloth: of the missing 32,512 each straight neighbour bears a half, and the diagonal one,
@@ -245,13 +282,13 @@ fn ribbed_errors_by_place() {
 }
 
 /// The knit changed in the record between two calls: P3's first dot plain, its second ribbed. Of the missing 65,280 -
-/// 26,265 = 39,015 the cells above and to the left bear 19,507 and 19,508.
+/// 26,266 = 39,014 the cells above and to the left bear 19,507 each.
 #[test]
 fn p3_plain_then_ribbed() {
     let (mut buffers, progress) = loaded(2, &P3_GREYS);
     let first = buffers.advance(progress, 1).progress;
     let second = buffers.advance(Progress { knit: RIBBED, ..first }, 1);
-    assert_eq!(buffers.pyramid, [512, 0, 257, 255, 0]);
+    assert_eq!(buffers.pyramid, [512, 0, 256, 256, 0]);
     assert_eq!(second.progress, Progress { side: 2, dots: 2, knit: RIBBED });
 }
 

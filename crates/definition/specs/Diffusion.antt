@@ -26,9 +26,13 @@ unfoldable pub weightsOf : ℕ → List ℕ
 weightsOf zero = 1 ∷ 2 ∷ 1 ∷ 2 ∷ 0 ∷ 2 ∷ 1 ∷ 2 ∷ 1 ∷ []
 weightsOf (suc n) = 0 ∷ 1 ∷ 0 ∷ 1 ∷ 0 ∷ 1 ∷ 0 ∷ 1 ∷ 0 ∷ []
 
--- On either cloth the spread runs through the places by row, then column (document 01, Spread).
+-- On either cloth the spread runs through the diagonal neighbours by row and column, then through those up, left, right
+-- and down (document 02, request 9). The cell itself, which weighs nothing, is named last.
+unfoldable pub placesInTurn : List ℕ
+placesInTurn = 0 ∷ 2 ∷ 6 ∷ 8 ∷ 1 ∷ 3 ∷ 5 ∷ 7 ∷ 4 ∷ []
+
 unfoldable pub kernelOf : ℕ → Kernel
-kernelOf knit = record { weight = λ p. getD (weightsOf knit) p 0; turn = λ n. n }
+kernelOf knit = record { weight = λ p. getD (weightsOf knit) p 0; turn = λ n. getD placesInTurn n 4 }
 
 -- Place p of the nine around cell (row, column) has these, counted from one before the map, so that no number is negative.
 abbrev pub rowNear : ℕ → ℕ → ℕ

@@ -30,10 +30,10 @@ serials4 =
 
 unfoldable pub pyramid4 : List ℤ
 pyramid4 =
-    negsuc 2815 ∷ pos 835 ∷ negsuc 11037 ∷ pos 12117 ∷ negsuc 4729 ∷ pos 13295
-    ∷ negsuc 9204 ∷ pos 0 ∷ negsuc 7376 ∷ pos 434 ∷ negsuc 3688 ∷ pos 7798
-    ∷ negsuc 11458 ∷ negsuc 497 ∷ negsuc 9272 ∷ negsuc 16868 ∷ pos 0 ∷ pos 21888
-    ∷ pos 0 ∷ pos 21266 ∷ negsuc 9126
+    negsuc 2815 ∷ pos 837 ∷ negsuc 11041 ∷ pos 12117 ∷ negsuc 4727 ∷ pos 13295
+    ∷ negsuc 9204 ∷ pos 0 ∷ negsuc 7376 ∷ pos 435 ∷ negsuc 3687 ∷ pos 7795
+    ∷ negsuc 11459 ∷ negsuc 496 ∷ negsuc 9273 ∷ negsuc 16867 ∷ pos 0 ∷ pos 21888
+    ∷ pos 0 ∷ pos 21267 ∷ negsuc 9126
     ∷ []
 
 unfoldable pub levels4 : List ℕ
@@ -90,20 +90,20 @@ serials8 =
 
 unfoldable pub pyramid8 : List ℤ
 pyramid8 =
-    negsuc 14335 ∷ negsuc 4095 ∷ negsuc 7156 ∷ pos 9663 ∷ negsuc 12745 ∷ pos 11376
-    ∷ negsuc 13599 ∷ pos 3104 ∷ pos 12992 ∷ negsuc 9775 ∷ pos 7904 ∷ negsuc 18356
-    ∷ negsuc 4895 ∷ pos 2496 ∷ negsuc 5706 ∷ pos 8721 ∷ negsuc 16876 ∷ pos 17152
-    ∷ negsuc 4277 ∷ negsuc 10503 ∷ pos 5914 ∷ pos 7680 ∷ pos 0 ∷ negsuc 1343
+    negsuc 14335 ∷ negsuc 4094 ∷ negsuc 7157 ∷ pos 9664 ∷ negsuc 12746 ∷ pos 11376
+    ∷ negsuc 13599 ∷ pos 3104 ∷ pos 12992 ∷ negsuc 9775 ∷ pos 7905 ∷ negsuc 18357
+    ∷ negsuc 4895 ∷ pos 2496 ∷ negsuc 5705 ∷ pos 8720 ∷ negsuc 16875 ∷ pos 17152
+    ∷ negsuc 4277 ∷ negsuc 10505 ∷ pos 5915 ∷ pos 7680 ∷ pos 0 ∷ negsuc 1343
     ∷ pos 0 ∷ negsuc 11071 ∷ pos 9216 ∷ pos 12442 ∷ pos 0 ∷ pos 7840
     ∷ negsuc 4143 ∷ pos 4576 ∷ negsuc 16831 ∷ negsuc 5919 ∷ pos 10880 ∷ pos 15629
     ∷ negsuc 15078 ∷ pos 0 ∷ negsuc 4383 ∷ pos 11008 ∷ negsuc 3209 ∷ negsuc 12309
-    ∷ negsuc 1929 ∷ pos 15232 ∷ pos 0 ∷ negsuc 10847 ∷ pos 5456 ∷ negsuc 3711
-    ∷ pos 3818 ∷ pos 0 ∷ negsuc 4116 ∷ negsuc 8671 ∷ negsuc 11455 ∷ negsuc 6271
-    ∷ negsuc 191 ∷ negsuc 1279 ∷ negsuc 9503 ∷ pos 2752 ∷ pos 18144 ∷ negsuc 4927
-    ∷ pos 0 ∷ pos 2560 ∷ pos 6400 ∷ pos 2304 ∷ pos 2773 ∷ negsuc 3787
-    ∷ negsuc 8386 ∷ negsuc 4716 ∷ negsuc 7231 ∷ pos 17920 ∷ pos 3072 ∷ pos 12384
-    ∷ negsuc 13013 ∷ negsuc 9314 ∷ pos 0 ∷ negsuc 4248 ∷ pos 0 ∷ negsuc 3839
-    ∷ pos 0 ∷ negsuc 3647 ∷ pos 0 ∷ negsuc 3851 ∷ pos 2663 ∷ negsuc 3660
+    ∷ negsuc 1930 ∷ pos 15232 ∷ pos 0 ∷ negsuc 10847 ∷ pos 5456 ∷ negsuc 3711
+    ∷ pos 3819 ∷ pos 0 ∷ negsuc 4116 ∷ negsuc 8671 ∷ negsuc 11455 ∷ negsuc 6271
+    ∷ negsuc 191 ∷ negsuc 1279 ∷ negsuc 9503 ∷ pos 2751 ∷ pos 18145 ∷ negsuc 4927
+    ∷ pos 0 ∷ pos 2560 ∷ pos 6400 ∷ pos 2304 ∷ pos 2774 ∷ negsuc 3787
+    ∷ negsuc 8387 ∷ negsuc 4715 ∷ negsuc 7231 ∷ pos 17920 ∷ pos 3072 ∷ pos 12384
+    ∷ negsuc 13013 ∷ negsuc 9315 ∷ pos 0 ∷ negsuc 4248 ∷ pos 0 ∷ negsuc 3839
+    ∷ pos 0 ∷ negsuc 3647 ∷ pos 0 ∷ negsuc 3852 ∷ pos 2663 ∷ negsuc 3659
     ∷ pos 13824
     ∷ []
 
@@ -137,8 +137,8 @@ serialsFlat4 =
 
 unfoldable pub pyramidFlat4 : List ℤ
 pyramidFlat4 =
-    pos 3840 ∷ negsuc 12542 ∷ pos 43260 ∷ negsuc 14704 ∷ negsuc 12171 ∷ negsuc 4361
-    ∷ negsuc 1037 ∷ negsuc 5179 ∷ pos 0 ∷ negsuc 912 ∷ negsuc 6229 ∷ pos 53398
+    pos 3840 ∷ negsuc 12544 ∷ pos 43262 ∷ negsuc 14704 ∷ negsuc 12171 ∷ negsuc 4363
+    ∷ negsuc 1036 ∷ negsuc 5178 ∷ pos 0 ∷ negsuc 912 ∷ negsuc 6230 ∷ pos 53399
     ∷ negsuc 4957 ∷ negsuc 6724 ∷ pos 0 ∷ negsuc 5763 ∷ pos 0 ∷ negsuc 913
     ∷ negsuc 7065 ∷ negsuc 1962 ∷ negsuc 4444
     ∷ []

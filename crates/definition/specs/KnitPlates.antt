@@ -43,7 +43,7 @@ use Rattle.definition.specs.Expected.{
 }
 use Rattle.definition.specs.declared.Progress.{Progress}
 
--- the weights of the nine places around a cell of side 4, by row then column, and the sum of them
+-- the weights of the nine places around a cell of side 4, in the order of the spread, and the sum of them
 abbrev weights : ℕ → ℕ → List ℕ
 weights row column = tabulateFrom 0 9 (weightAt (kernelOf ribbed) 2 row column)
 
@@ -66,9 +66,9 @@ otherCell = 0 ∷ 100 ∷ 160 ∷ 128 ∷ []
 unfoldable pub knitPlates : List Row
 knitPlates =
     -- the weights inside, on the top side and in the top left corner; and what they sum to, for either knit
-    (90, same (weights 1 1) (0 ∷ 1 ∷ 0 ∷ 1 ∷ 0 ∷ 1 ∷ 0 ∷ 1 ∷ 0 ∷ []))
-    ∷ (90, same (weights 0 1) (replicate 3 0 ++ 1 ∷ 0 ∷ 1 ∷ 0 ∷ 1 ∷ 0 ∷ []))
-    ∷ (90, same (weights 0 0) (replicate 5 0 ++ 1 ∷ 0 ∷ 1 ∷ 0 ∷ []))
+    (90, same (weights 1 1) (replicate 4 0 ++ 1 ∷ 1 ∷ 1 ∷ 1 ∷ 0 ∷ []))
+    ∷ (90, same (weights 0 1) (replicate 5 0 ++ 1 ∷ 1 ∷ 1 ∷ 0 ∷ []))
+    ∷ (90, same (weights 0 0) (replicate 6 0 ++ 1 ∷ 1 ∷ 0 ∷ []))
     ∷ (91, eqb (weightSum plain 1 1) 12 && eqb (weightSum plain 0 1) 8 && eqb (weightSum plain 0 0) 5)
     ∷ (91, eqb (weightSum ribbed 1 1) 4 && eqb (weightSum ribbed 0 1) 3 && eqb (weightSum ribbed 0 0) 2)
     -- as P7, P8 and P9: shares of 13 inside, of 7 on the top side, of 4 in the top left corner

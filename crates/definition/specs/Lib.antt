@@ -26,4 +26,5 @@ pub mod Expected
 pub mod PlateTools
 pub mod StagePlates
 pub mod KnitPlates
+pub mod SpreadPlates
 pub mod Plates

@@ -1,5 +1,5 @@
 -- Document 01's plates: P1 to P12 as one table; further plates, whose figures the reference wrote, as another; as a
--- third a row for each sentence that these leave open; and those of `StagePlates` and `KnitPlates`.
+-- third a row for each sentence that these leave open; and those of `StagePlates`, `KnitPlates` and `SpreadPlates`.
 -- One proof computes all of it on the definitions. Rows that make holes ask the calls and the model.
 use mathlib.Core.Path.{_≡_, refl}
 use mathlib.Core.Bool.{Bool, true, false, cond, not, _&&_}
@@ -27,6 +27,7 @@ use Rattle.definition.specs.Diffusion.{
   plain,
   ribbed,
   weightsOf,
+  placesInTurn,
   kernelOf,
   within,
   onMap,
@@ -144,6 +145,7 @@ use Rattle.definition.specs.StagePlates.{
   stagePlates,
 }
 use Rattle.definition.specs.KnitPlates.{keepsKnit, otherCell, knitPlates}
+use Rattle.definition.specs.SpreadPlates.{spreads, spreadPlates}
 use Rattle.definition.specs.declared.Progress.{Progress}
 use Rattle.definition.specs.declared.Refusal.the-variants as Refusal
 use Rattle.definition.specs.Expected.{
@@ -184,23 +186,35 @@ plates =
     -- P2: side 2, greys 255: (0,0), (1,1), (0,1), (1,0), all debts 0
     ∷ (2, answers 1 p2 (9 ∷ []) ((4, finished) ∷ []))
     ∷ (2, leaves 1 p2 (9 ∷ []) (replicate 5 (pos 0)) (1 ∷ 3 ∷ 4 ∷ 2 ∷ []) (0 ∷ 3 ∷ 1 ∷ 2 ∷ []))
-    -- P3: side 2, greys 128: debts after one hole 0, 19,764, 19,763, 26,265; after the second −7,803, 4,158, 4,157, 0, top 512, finished
-    ∷ (3, leaves 1 p3 (1 ∷ []) (pos 65792 ∷ pos 0 ∷ pos 19764 ∷ pos 19763 ∷ pos 26265 ∷ []) (1 ∷ 0 ∷ 0 ∷ 0 ∷ []) (0 ∷ 0 ∷ 0 ∷ 0 ∷ []))
-    ∷ (3, leaves 1 p3 (9 ∷ []) (pos 512 ∷ minus 7803 ∷ pos 4158 ∷ pos 4157 ∷ pos 0 ∷ []) (1 ∷ 0 ∷ 0 ∷ 2 ∷ []) (0 ∷ 3 ∷ 0 ∷ 0 ∷ []))
+    -- P3, the greys 128 on a map of side 2: its sheet with one hole, then with both, finished
+    ∷ (
+      3,
+      leaves 1 p3 (1 ∷ []) (map pos (65792 ∷ 0 ∷ 19763 ∷ 19763 ∷ 26266 ∷ []))
+          (1 ∷ 0 ∷ 0 ∷ 0 ∷ []) (0 ∷ 0 ∷ 0 ∷ 0 ∷ []),
+    )
+    ∷ (
+      3,
+      leaves 1 p3 (9 ∷ []) (pos 512 ∷ minus 7802 ∷ pos 4157 ∷ pos 4157 ∷ pos 0 ∷ [])
+          (1 ∷ 0 ∷ 0 ∷ 2 ∷ []) (0 ∷ 3 ∷ 0 ∷ 0 ∷ []),
+    )
     ∷ (3, answers 1 p3 (9 ∷ []) ((2, finished) ∷ []))
     -- P4: P3 with budget 0, 1, 1 makes 0, 1, 1, saying more, more, finished
     ∷ (4, answers 1 p3 (0 ∷ 1 ∷ 1 ∷ []) ((0, more) ∷ (1, more) ∷ (1, finished) ∷ []))
     -- P5: side 2, greys 127, 0, 0, 0: no hole
     ∷ (5, answers 1 (127 ∷ 0 ∷ 0 ∷ 0 ∷ []) (9 ∷ []) ((0, finished) ∷ []))
-    -- P6: 128, 0, 0, 0: one hole; debts 0, −13,004, −13,005, −6,503
+    -- P6, a single dark cell: the sheet with its one hole
     ∷ (6, answers 1 p6 (9 ∷ []) ((1, finished) ∷ []))
-    ∷ (6, leaves 1 p6 (9 ∷ []) (minus 32512 ∷ pos 0 ∷ minus 13004 ∷ minus 13005 ∷ minus 6503 ∷ []) (1 ∷ 0 ∷ 0 ∷ 0 ∷ []) (0 ∷ 0 ∷ 0 ∷ 0 ∷ []))
-    -- P7: shares of 13 inside: 1, 2, 1, 2, 2, 1, 2, 2
-    ∷ (7, same (shares 2 1 1 13) (1 ∷ 2 ∷ 1 ∷ 2 ∷ 2 ∷ 1 ∷ 2 ∷ 2 ∷ []))
-    -- P8: shares of 7 on the top side: 1, 2, 1, 2, 1
-    ∷ (8, same (shares 2 0 1 7) (1 ∷ 2 ∷ 1 ∷ 2 ∷ 1 ∷ []))
-    -- P9: shares of 4 in the top left corner: 1, 2, 1
-    ∷ (9, same (shares 2 0 0 4) (1 ∷ 2 ∷ 1 ∷ []))
+    ∷ (
+      6,
+      leaves 1 p6 (9 ∷ []) (minus 32512 ∷ pos 0 ∷ minus 13005 ∷ minus 13005 ∷ minus 6502 ∷ [])
+          (1 ∷ 0 ∷ 0 ∷ 0 ∷ []) (0 ∷ 0 ∷ 0 ∷ 0 ∷ []),
+    )
+    -- P7: what the eight around an inner cell get of 13, in turn
+    ∷ (7, same (shares 2 1 1 13) (1 ∷ 1 ∷ 1 ∷ 1 ∷ 2 ∷ 2 ∷ 2 ∷ 3 ∷ []))
+    -- P8: what the five around a cell of the top row get of 7
+    ∷ (8, same (shares 2 0 1 7) (0 ∷ 1 ∷ 2 ∷ 2 ∷ 2 ∷ []))
+    -- P9: what the three around the first cell get of 4
+    ∷ (9, same (shares 2 0 0 4) (0 ∷ 2 ∷ 2 ∷ []))
     -- P10: G = 382 gives 1 hole, 383 gives 2
     ∷ (10, total (255 ∷ 127 ∷ 0 ∷ 0 ∷ []) 382 1 && total (255 ∷ 128 ∷ 0 ∷ 0 ∷ []) 383 2)
     -- P11: Levels of P3 finished: 4, 65,026
@@ -439,7 +453,7 @@ unfoldable pub turns : List ℕ
 turns = 240 ∷ 200 ∷ 200 ∷ 0 ∷ []
 
 unfoldable pub turnsPyramid : List ℤ
-turnsPyramid = minus 32000 ∷ minus 13741 ∷ pos 0 ∷ minus 3748 ∷ minus 14511 ∷ []
+turnsPyramid = minus 32000 ∷ minus 13742 ∷ pos 0 ∷ minus 3747 ∷ minus 14511 ∷ []
 
 -- Compare on two sheets of side 2 says this
 unfoldable pub compares : List ℕ → List ℕ → Compared → Bool
@@ -574,21 +588,20 @@ firstFailing [] = 0
 firstFailing (row ∷ rows) = elim (row .1) [ true ↦ firstFailing rows | false ↦ row .0 ]
 
 abbrev pub allPlates : List Row
-allPlates = plates ++ furtherPlates ++ singlePlates ++ stagePlates ++ knitPlates
+allPlates = plates ++ furtherPlates ++ singlePlates ++ stagePlates ++ knitPlates ++ spreadPlates
 
 -- no row is lost
-pub plates-there : length allPlates ≡ 156
-unfolding plates furtherPlates singlePlates stagePlates knitPlates
+pub plates-there : length allPlates ≡ 166
+unfolding plates furtherPlates singlePlates stagePlates knitPlates spreadPlates
 plates-there = refl
 
 pub plates-hold : firstFailing allPlates ≡ 0
 unfolding sumTo sumZTo allTo tabulateFrom joined repeated eqZ numberOf start placeIn rowAt columnAt
     levelOf inLevel entry four coarser pyramidOver blockSum blockSumZ greyAt burnt burntAt greySum greyTotal
-    dotsIn allDots candidate firstOfEquals lastOfEquals ofEquals choiceOf better largest descend weightsOf kernelOf
-    within
-    onMap weightAt share diffuse topOf modelStart missing placeDot step steps burntNear everyEntry fewDots
-    numbered counted unused summed bounded owing isSound powerUpTo powerOf lowest greysRefusal loadRefusal
-    loaded loadOf dotsDue saidAt sheetIn advanceRefusal advanced advanceOf tallyRefusal tallyOf errorAt
+    dotsIn allDots candidate firstOfEquals lastOfEquals ofEquals choiceOf better largest descend weightsOf
+    placesInTurn kernelOf within onMap weightAt share diffuse topOf modelStart missing placeDot step steps burntNear
+    everyEntry fewDots numbered counted unused summed bounded owing isSound powerUpTo powerOf lowest greysRefusal
+    loadRefusal loaded loadOf dotsDue saidAt sheetIn advanceRefusal advanced advanceOf tallyRefusal tallyOf errorAt
     squared levelSum levelsRefusal levelsOf digitsUpTo decimal rightAligned line lineEnds isDigit digitsThen
     fieldOf textInto rowsText mapText valuesOf readGreys readMap mapTextOf dotLines drillText drillListRefusal
     drillListOf quoteCap figures alignedLine quoteText quotePageRefusal quotePageOf isNear overThese renewed
@@ -609,5 +622,6 @@ unfolding sumTo sumZTo allTo tabulateFrom joined repeated eqZ numberOf start pla
     keepRefusal keepOf canRestore restoreRefusal restored restoreOf keeps keepRefuses restoresP3 isAfter
     goesBackOn staysThereOn restores twoKept callerAtFirst returnOf callerAfter act callerAfterAll memoryAtFirst
     sheetAt isKept modelReturnRefusal orElse modelReturn modelAct memoryAfterAll countOf countsOf leavesStageOn
-    keptThree stagePlates keepsKnit otherCell knitPlates plates furtherPlates singlePlates firstFailing
+    keptThree stagePlates keepsKnit otherCell knitPlates spreads spreadPlates plates furtherPlates singlePlates
+    firstFailing
 plates-hold = refl

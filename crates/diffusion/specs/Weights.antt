@@ -1,9 +1,10 @@
--- The weights around a cell, as the code finds them; their sums are small, and the sum of all isn't 0.
+-- The turns of the spread and the weights around a cell, as the code finds them; the weights' sums are small, and the
+-- sum of all isn't 0.
 use mathlib.Core.Path.{_≡_, refl, sym, _∙_}
 use mathlib.Core.Logic.{_⊎_, inl, inr}
-use mathlib.Core.Bool.{Bool}
-use mathlib.Core.List.{List, [], _∷_}
-use Prim.Native.Nat.{ℕ, zero, suc, _+_, _/_, _%_, _^_, _≤_, _<_}
+use mathlib.Core.Bool.{Bool, _||_}
+use mathlib.Core.List.{List}
+use Prim.Native.Nat.{ℕ, zero, suc, _+_, _*_, _/_, _%_, _^_, _≤_, _<_}
 use native.Mathlib.Omega.{arith}
 use native.Mathlib.Numerals.{add-one}
 use lib.Dec.{T, eqb, leb, eqb→eq, leb→le}
@@ -12,42 +13,45 @@ use lib.Pow.{pow-mono}
 use mir.Syntax.{w64}
 use mir.Val.{Fits}
 use Rattle.definition.specs.Lists.{sumTo, allTo}
-use Rattle.definition.specs.Diffusion.{weightsOf, kernelOf, onMap, weightAt}
-use Rattle.integers.specs.Tests.{allTo-at, cond-both}
+use Rattle.definition.specs.Diffusion.{weightsOf, placesInTurn, kernelOf, onMap, weightAt}
+use Rattle.integers.specs.Tests.{T-or, allTo-at, cond-both}
 use Rattle.integers.specs.Sums.{sumTo-none, sumTo-suc, sumTo-bound}
 use Rattle.shares.specs.Kernels.{knit-fit}
-use Rattle.shares.specs.Neighbours.{on-yes, on-no, weight-is}
+use Rattle.shares.specs.Neighbours.{on, on-yes, on-no, weight-is}
 use Rattle.shares.specs.Outflow.{weights-some}
 use Rattle.diffusion.specs.Asked.{CellAsked}
 
--- ---- the tables: what holds for all nine places is tested for each
-abbrev plainTable : List (List ℕ)
-plainTable = (1 ∷ 2 ∷ 1 ∷ []) ∷ (2 ∷ 0 ∷ 2 ∷ []) ∷ (1 ∷ 2 ∷ 1 ∷ []) ∷ []
+-- ---- the weights of the nine places: what holds for all is tested for each
+pub weight-own : (knit p : ℕ) → p ≡ 4 → 0 ≡ getD (weightsOf knit) p 0
+unfolding weightsOf
+weight-own zero p e = rw e
+weight-own (suc n) p e = rw e
 
-abbrev ribbedTable : List (List ℕ)
-ribbedTable = (0 ∷ 1 ∷ 0 ∷ []) ∷ (1 ∷ 0 ∷ 1 ∷ []) ∷ (0 ∷ 1 ∷ 0 ∷ []) ∷ []
+-- the weights of a knit are those of another rule, but for the cell itself
+unfoldable sameWeights : (ℕ → ℕ) → List ℕ → Bool
+sameWeights rule nine = allTo 9 (λ q. eqb q 4 || eqb (rule q) (getD nine q 0))
 
--- three by three weights are the nine
-unfoldable sameNine : List (List ℕ) → List ℕ → Bool
-sameNine table nine = allTo 9 (λ q. eqb (getD (getD table (q / 3) []) (q % 3) 0) (getD nine q 0))
+weight-other : (rule : ℕ → ℕ) (nine : List ℕ) → T (sameWeights rule nine)
+    → (p : ℕ) → p < 9 → (p ≡ 4 → ⊥) → rule p ≡ getD nine p 0
+unfolding sameWeights
+weight-other rule nine t p h ne =
+    go (T-or (eqb p 4) (eqb (rule p) (getD nine p 0))
+    (allTo-at 9 (λ q. eqb q 4 || eqb (rule q) (getD nine q 0)) t p h))
+  where
+    go : T (eqb p 4) ⊎ T (eqb (rule p) (getD nine p 0)) → rule p ≡ getD nine p 0
+    go (inl e) = absurd (ne (eqb→eq _ _ e))
+    go (inr e) = eqb→eq _ _ e
 
-table-weight : (table : List (List ℕ)) (nine : List ℕ) → T (sameNine table nine) → (p : ℕ) → p < 9
-    → getD (getD table (p / 3) []) (p % 3) 0 ≡ getD nine p 0
-unfolding sameNine
-table-weight table nine t p h =
-    eqb→eq _ _ (allTo-at 9 (λ q. eqb (getD (getD table (q / 3) []) (q % 3) 0) (getD nine q 0)) t p h)
+pub weight-plain : (knit p : ℕ) → p < 9 → (p ≡ 4 → ⊥) → knit ≡ 0
+    → 1 + p % 2 ≡ getD (weightsOf knit) p 0
+unfolding sameWeights allTo weightsOf
+weight-plain knit p h ne e = rw e (weight-other (λ q. 1 + q % 2) (weightsOf 0) tt p h ne)
 
--- the code's table for plain cloth, and its table for any other, are the definition's
-pub plain-weight : (knit p : ℕ) → p < 9 → knit ≡ 0
-    → getD (getD plainTable (p / 3) []) (p % 3) 0 ≡ getD (weightsOf knit) p 0
-unfolding sameNine allTo weightsOf
-plain-weight knit p h e = rw e (table-weight plainTable (weightsOf 0) tt p h)
-
-pub ribbed-weight : (knit p : ℕ) → p < 9 → (knit ≡ 0 → ⊥)
-    → getD (getD ribbedTable (p / 3) []) (p % 3) 0 ≡ getD (weightsOf knit) p 0
-unfolding sameNine allTo weightsOf
-ribbed-weight zero p h ne = absurd (ne refl)
-ribbed-weight (suc n) p h ne = table-weight ribbedTable (weightsOf (suc n)) tt p h
+pub weight-ribbed : (knit p : ℕ) → p < 9 → (p ≡ 4 → ⊥) → (knit ≡ 0 → ⊥)
+    → p % 2 ≡ getD (weightsOf knit) p 0
+unfolding sameWeights allTo weightsOf
+weight-ribbed zero p h ne k = absurd (k refl)
+weight-ribbed (suc n) p h ne k = weight-other (λ q. q % 2) (weightsOf (suc n)) tt p h ne
 
 -- no weight is more than 2
 unfoldable smallNine : List ℕ → Bool
@@ -58,18 +62,33 @@ unfolding smallNine allTo weightsOf
 small-nine zero = tt
 small-nine (suc n) = tt
 
--- ---- the weight of place p
-module _ (knit r row column p : ℕ) where
+-- ---- the turns: the hexadecimal digits of this number, 0x475318620, from the lowest up
+abbrev digits : ℕ
+digits = 19146049056
+
+pub turn-is : (n : ℕ) → n < 9 → digits / 2 ^ (4 * n) % 16 ≡ getD placesInTurn n 4
+unfolding allTo placesInTurn
+turn-is n h = eqb→eq _ _ (allTo-at 9 (λ m. eqb (digits / 2 ^ (4 * m) % 16) (getD placesInTurn m 4)) tt n h)
+
+-- every turn has one of the nine places
+pub turn-nine : (n : ℕ) {p : ℕ} → n < 9 → p ≡ getD placesInTurn n 4 → p < 9
+unfolding kernelOf
+turn-nine n h e = rw e (knit-fit 0 .turns n h)
+
+-- ---- the weight of place p, which comes in turn n
+module _ (knit r row column n : ℕ) {p : ℕ} (t : p ≡ getD placesInTurn n 4) where
   abbrev here : ℕ
-  here = weightAt (kernelOf knit) r row column p
+  here = weightAt (kernelOf knit) r row column n
+
+  as-product : here ≡ getD (weightsOf knit) p 0 * (on r (row + p / 3) * on r (column + p % 3))
+  unfolding kernelOf
+  as-product = rw t (weight-is (kernelOf knit) r row column n)
 
   off-row : (row + p / 3 ≡ 0) ⊎ (2 ^ r < row + p / 3) → 0 ≡ here
-  unfolding kernelOf
-  off-row h = sym (weight-is (kernelOf knit) r row column p ∙ rw (on-no r (row + p / 3) h) (omega arith))
+  off-row h = sym (as-product ∙ rw (on-no r (row + p / 3) h) (omega arith))
 
   off-column : (column + p % 3 ≡ 0) ⊎ (2 ^ r < column + p % 3) → 0 ≡ here
-  unfolding kernelOf
-  off-column h = sym (weight-is (kernelOf knit) r row column p ∙ rw (on-no r (column + p % 3) h) (omega arith))
+  off-column h = sym (as-product ∙ rw (on-no r (column + p % 3) h) (omega arith))
 
   pub weight-above : row + p / 3 ≡ 0 → 0 ≡ here
   weight-above e = off-row (inl e)
@@ -85,11 +104,10 @@ module _ (knit r row column p : ℕ) where
 
   pub weight-on : {side w : ℕ} → side ≡ 2 ^ r → (row + p / 3 ≡ 0 → ⊥) → row + p / 3 ≤ side
       → (column + p % 3 ≡ 0 → ⊥) → column + p % 3 ≤ side → w ≡ getD (weightsOf knit) p 0 → w ≡ here
-  unfolding kernelOf
   weight-on e a b c d q =
       q
       ∙ sym
-      (weight-is (kernelOf knit) r row column p
+      (as-product
       ∙ rw (
         on-yes r (row + p / 3) (omega arith) (omega (arith, e)),
         on-yes r (column + p % 3) (omega arith) (omega (arith, e)),
@@ -101,27 +119,29 @@ module _ (knit r row column : ℕ) where
   abbrev weights : ℕ → ℕ
   weights = weightAt (kernelOf knit) r row column
 
-  weight-le : (p : ℕ) → p < 9 → weights p ≤ 2
+  weight-le : (n : ℕ) → n < 9 → weights n ≤ 2
   unfolding weightAt kernelOf smallNine
-  weight-le p h =
+  weight-le n h =
+      let p : ℕ = getD placesInTurn n 4 in
       cond-both (λ (z : ℕ). z ≤ 2) (onMap r row column p) _ 0
-      (λ t. leb→le _ 2 (allTo-at 9 (λ q. leb (getD (weightsOf knit) q 0) 2) (small-nine knit) p h))
+      (λ t. leb→le _ 2
+      (allTo-at 9 (λ q. leb (getD (weightsOf knit) q 0) 2) (small-nine knit) p (turn-nine n h refl)))
       (λ t. omega arith)
 
-  sum-le : (p : ℕ) → p ≤ 9 → sumTo p weights ≤ 18
-  sum-le p h = omega (arith, sumTo-bound p 2 weights (λ m k. weight-le m (omega arith)))
+  sum-le : (n : ℕ) → n ≤ 9 → sumTo n weights ≤ 18
+  sum-le n h = omega (arith, sumTo-bound n 2 weights (λ m k. weight-le m (omega arith)))
 
   pub sum-none : 0 ≡ sumTo 0 weights
   sum-none = sym (sumTo-none weights)
 
-  pub sum-more : (p : ℕ) {c w : ℕ} → c ≡ sumTo p weights → w ≡ weights p → c + w ≡ sumTo (p + 1) weights
-  sum-more p e q = rw (add-one p) (omega (arith, sumTo-suc p weights))
+  pub sum-more : (n : ℕ) {c w : ℕ} → c ≡ sumTo n weights → w ≡ weights n → c + w ≡ sumTo (n + 1) weights
+  sum-more n e q = rw (add-one n) (omega (arith, sumTo-suc n weights))
 
-  pub sum-next : (p : ℕ) {c w : ℕ} → p < 9 → c ≡ sumTo p weights → w ≡ weights p → c + w ≤ 18
-  sum-next p h e q = omega (arith, sum-more p e q, sum-le (p + 1) (omega arith))
+  pub sum-next : (n : ℕ) {c w : ℕ} → n < 9 → c ≡ sumTo n weights → w ≡ weights n → c + w ≤ 18
+  sum-next n h e q = omega (arith, sum-more n e q, sum-le (n + 1) (omega arith))
 
-  pub sum-fits : (p : ℕ) {c w : ℕ} → p < 9 → c ≡ sumTo p weights → w ≡ weights p → Fits w64 (c + w)
-  sum-fits p h e q = record { fits = omega (arith, sum-next p h e q) }
+  pub sum-fits : (n : ℕ) {c w : ℕ} → n < 9 → c ≡ sumTo n weights → w ≡ weights n → Fits w64 (c + w)
+  sum-fits n h e q = record { fits = omega (arith, sum-next n h e q) }
 
   pub sum-some : {all : ℕ} → CellAsked r row column → all ≡ sumTo 9 weights → 0 < all
   sum-some h e =

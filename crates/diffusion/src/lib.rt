@@ -6,37 +6,46 @@ ghost use lib.IntN.{pos};
 ghost use Rattle.definition.specs.Lists.{sumTo};
 ghost use Rattle.definition.specs.Pyramid.{placeIn, inLevel};
 ghost use Rattle.definition.specs.Model.{missing};
-ghost use Rattle.definition.specs.Diffusion.{weightsOf, kernelOf, weightAt, diffuse};
+ghost use Rattle.definition.specs.Diffusion.{weightsOf, placesInTurn, kernelOf, weightAt, diffuse};
 ghost use Rattle.diffusion.specs.Asked.{shareTaken, CellAsked, ShareAsked, DiffuseAsked, PlaceAsked};
 
-// The weights of the nine places around a cell of plain cloth, three by three: a straight neighbour weighs 2, a
-// diagonal one 1.
-const PLAIN: [[usize; 3]; 3] = [[1, 2, 1], [2, 0, 2], [1, 2, 1]];
-
-// The same for ribbed cloth: a straight neighbour weighs 1, a diagonal one nothing.
-const RIBBED: [[usize; 3]; 3] = [[0, 1, 0], [1, 0, 1], [0, 1, 0]];
+// The nine places in the order of the spread, a hexadecimal digit each, from the lowest digit up: the diagonals by row
+// and column (0, 2, 6, 8), then up, left, right and down (1, 3, 5, 7); last the cell itself (4), which weighs nothing.
+const TURNS: usize = 0x475318620;
 
 // What one dot is worth.
 const DOT: i64 = 65280;
 
-// The weight of place p of the nine by the table of the cloth's knit: 0 is plain, any other number ribbed.
+// The weight of place p of the nine around a cell, three by three. The cell itself, in the middle, weighs nothing; a
+// straight neighbour, whose place is odd, 2 on plain cloth, which is knit 0, and 1 on ribbed; a diagonal one 1 and
+// nothing.
 fn knit_weight(knit: u32, p: usize) -> usize
     requires { ⌜ p < 9 ⌝ }
     ensures { λ w. ⌜ w ≡ getD (weightsOf knit) p 0 ⌝ }
 {
-    let down = p / 3;
-    let right = p % 3;
-    if knit == 0 {
-        return PLAIN[down][right];
+    if p == 4 {
+        return 0;
     }
-    RIBBED[down][right]
+    if knit != 0 {
+        return p % 2;
+    }
+    1 + p % 2
 }
 
-// The weight of place p of the nine around a cell: 0 at the cell itself and off the map.
-fn weight(knit: u32, r: usize, row: usize, column: usize, p: usize) -> usize
-    requires { ⌜ CellAsked r row column × (p < 9) ⌝ }
-    ensures { λ w. ⌜ w ≡ weightAt (kernelOf knit) r row column p ⌝ }
+// The place of the nine that comes in turn n.
+fn turn(n: usize) -> usize
+    requires { ⌜ n < 9 ⌝ }
+    ensures { λ p. ⌜ p ≡ getD placesInTurn n 4 ⌝ }
 {
+    (TURNS >> (4 * n)) % 16
+}
+
+// The weight of the place in turn n around a cell: 0 at the cell itself and off the map.
+fn weight(knit: u32, r: usize, row: usize, column: usize, n: usize) -> usize
+    requires { ⌜ CellAsked r row column × (n < 9) ⌝ }
+    ensures { λ w. ⌜ w ≡ weightAt (kernelOf knit) r row column n ⌝ }
+{
+    let p = turn(n);
     let side = sizes::pow2(r);
     let x = row + p / 3;
     let y = column + p % 3;
@@ -58,23 +67,23 @@ fn weight(knit: u32, r: usize, row: usize, column: usize, p: usize) -> usize
 // The sum of the weights: inside the map, on a side, in a corner it is 12, 8, 5 on plain cloth and 4, 3, 2 on ribbed.
 fn weight_sum(knit: u32, r: usize, row: usize, column: usize) -> usize
     requires { ⌜ CellAsked r row column ⌝ }
-    ensures { λ n. ⌜ n ≡ sumTo 9 (weightAt (kernelOf knit) r row column) ⌝ }
+    ensures { λ sum. ⌜ sum ≡ sumTo 9 (weightAt (kernelOf knit) r row column) ⌝ }
 {
     let mut sum = 0;
-    let mut p = 0;
-    while p < 9 {
-        sum += weight(knit, r, row, column, p);
-        p += 1;
+    let mut n = 0;
+    while n < 9 {
+        sum += weight(knit, r, row, column, n);
+        n += 1;
     }
     sum
 }
 
-// The share in d of a neighbour: the weights up to it sum to `before`, with its own to `after`, and those of all neighbours to `all`.
-fn share(d: usize, before: usize, after: usize, all: usize) -> usize
-    requires { ⌜ (d ≤ 2 ^ 41) × (before ≤ after) × (after ≤ 18) × (0 < all) ⌝ }
-    ensures { λ s. ⌜ s ≡ d * after / all - d * before / all ⌝ }
+// What goes of d to those neighbours whose weights sum to `sum`, where the weights of all neighbours sum to `all`.
+fn part(d: usize, sum: usize, all: usize) -> usize
+    requires { ⌜ (d ≤ 2 ^ 41) × (sum ≤ 18) × (0 < all) ⌝ }
+    ensures { λ n. ⌜ n ≡ d * sum / all ⌝ }
 {
-    d * after / all - d * before / all
+    d * sum / all
 }
 
 // Takes a share off the residual of the neighbour at place p, if its weight w isn't 0.
@@ -91,21 +100,23 @@ fn take_share(cells: &mut [i64], r: usize, row: usize, column: usize, p: usize, 
     cells[at] = z - (s as i64);
 }
 
-// Takes d off the residuals of the neighbours of a cell, each its share.
+// Takes d off the residuals of the neighbours of a cell. The share of a neighbour is what goes to those up to its turn
+// less what was given to those before it.
 pub fn diffuse(cells: &mut [i64], knit: u32, r: usize, row: usize, column: usize, d: usize)
     requires { ⌜ DiffuseAsked (now cells) r row column d ⌝ }
     ensures { λ _. ⌜ now (cells .exit) ≡ diffuse (kernelOf knit) r row column d 9 (now (cells .entry)) ⌝ }
 {
     let all = weight_sum(knit, r, row, column);
-    let mut before = 0;
-    let mut p = 0;
-    while p < 9 {
-        let w = weight(knit, r, row, column, p);
-        let after = before + w;
-        let s = share(d, before, after, all);
-        take_share(cells, r, row, column, p, w, s);
-        before = after;
-        p += 1;
+    let mut sum = 0;
+    let mut given = 0;
+    let mut n = 0;
+    while n < 9 {
+        let w = weight(knit, r, row, column, n);
+        sum += w;
+        let until = part(d, sum, all);
+        take_share(cells, r, row, column, turn(n), w, until - given);
+        given = until;
+        n += 1;
     }
 }
 

@@ -20,7 +20,18 @@ use Rattle.definition.specs.Descent.{
   largest,
   descend,
 }
-use Rattle.definition.specs.Diffusion.{plain, ribbed, weightsOf, kernelOf, within, onMap, weightAt, share, diffuse}
+use Rattle.definition.specs.Diffusion.{
+  plain,
+  ribbed,
+  weightsOf,
+  placesInTurn,
+  kernelOf,
+  within,
+  onMap,
+  weightAt,
+  share,
+  diffuse,
+}
 use Rattle.definition.specs.Model.{topOf, modelStart, missing, placeDot, step, steps}
 use Rattle.definition.specs.Sound.{burntNear, everyEntry, fewDots, numbered, counted, unused, summed, bounded, owing, isSound}
 use Rattle.definition.specs.Refusals.{powerUpTo, powerOf, lowest}
@@ -74,9 +85,8 @@ given knit = repliesOf (heldAfterLoad 2 knit greys pyramid sheet sheet) calls
 pub replies-here : (given plain ≡ replies plain) × (given ribbed ≡ replies ribbed)
 unfolding sumTo allTo tabulateFrom eqZ start placeIn rowAt columnAt levelOf inLevel entry four coarser
     pyramidOver greyAt burnt burntAt candidate firstOfEquals lastOfEquals ofEquals choiceOf better largest
-    descend weightsOf kernelOf within onMap weightAt share diffuse topOf modelStart missing placeDot step steps
-    burntNear
-    everyEntry fewDots numbered counted unused summed bounded owing isSound powerUpTo powerOf lowest
-    loadRefusal loaded loadOf dotsDue saidAt sheetIn advanceRefusal advanced advanceOf heldAfterLoad callOf
+    descend weightsOf placesInTurn kernelOf within onMap weightAt share diffuse topOf modelStart missing placeDot
+    step steps burntNear everyEntry fewDots numbered counted unused summed bounded owing isSound powerUpTo powerOf
+    lowest loadRefusal loaded loadOf dotsDue saidAt sheetIn advanceRefusal advanced advanceOf heldAfterLoad callOf
     heldAfter outcomesOf repliesOf
 replies-here = (refl, refl)

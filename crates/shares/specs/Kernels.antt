@@ -9,7 +9,7 @@ use native.Mathlib.Nat.{div-add-mod}
 use lib.Dec.{T, leb, ltb, eqb, leb→le, ltb→lt, eqb→eq}
 use Rattle.definition.specs.Lists.{sumTo, allTo}
 use Rattle.definition.specs.Pyramid.{oneDot}
-use Rattle.definition.specs.Diffusion.{Kernel, weightsOf, kernelOf}
+use Rattle.definition.specs.Diffusion.{Kernel, weightsOf, placesInTurn, kernelOf}
 use Rattle.integers.specs.Tests.{T-and, T-or, allTo-at}
 
 -- The row (or column) next to a cell's own on one side: in the square; on the map only; off the map.
@@ -123,6 +123,6 @@ fit-of kernel h =
 -- the weights of each knit: the test above, computed for one table and for the other
 pub knit-fit : (knit : ℕ) → Fit (kernelOf knit)
 unfolding isFit allKindsFit kindFits kindWeight kindStays kindSides present inside touching ofThree allTo sumTo
-    weightsOf kernelOf
+    weightsOf placesInTurn kernelOf
 knit-fit zero = fit-of (kernelOf 0) tt
 knit-fit (suc n) = fit-of (kernelOf (suc n)) tt

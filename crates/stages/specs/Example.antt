@@ -31,7 +31,17 @@ use Rattle.definition.specs.Descent.{
   largest,
   descend,
 }
-use Rattle.definition.specs.Diffusion.{ribbed, weightsOf, kernelOf, within, onMap, weightAt, share, diffuse}
+use Rattle.definition.specs.Diffusion.{
+  ribbed,
+  weightsOf,
+  placesInTurn,
+  kernelOf,
+  within,
+  onMap,
+  weightAt,
+  share,
+  diffuse,
+}
 use Rattle.definition.specs.Model.{topOf, modelStart, missing, placeDot, step, steps}
 use Rattle.definition.specs.Sound.{
   burntNear,
@@ -118,10 +128,9 @@ pub answers-here : answersOf greys (callerAtFirst 2 ribbed greys pyramid sheet s
     ∷ returns 0 (returned []) ∷ []
 unfolding sumTo allTo tabulateFrom eqZ start placeIn rowAt columnAt levelOf inLevel entry four coarser
     pyramidOver blockSum greyAt burnt burntAt greySum greyTotal candidate firstOfEquals lastOfEquals ofEquals
-    choiceOf better largest descend weightsOf kernelOf within onMap weightAt share diffuse topOf modelStart missing
-    placeDot
-    step steps burntNear everyEntry fewDots numbered counted unused summed bounded owing isSound powerUpTo
-    powerOf lowest loadRefusal loaded loadOf dotsDue saidAt sheetIn advanceRefusal advanced advanceOf
-    heldAfterLoad callOf heldAfter isName keptAt keepRefusal keepOf canRestore restoreRefusal restored restoreOf
-    callerAtFirst returnOf callerAfter act answerOf callerAfterAll answersOf
+    choiceOf better largest descend weightsOf placesInTurn kernelOf within onMap weightAt share diffuse topOf
+    modelStart missing placeDot step steps burntNear everyEntry fewDots numbered counted unused summed
+    bounded owing isSound powerUpTo powerOf lowest loadRefusal loaded loadOf dotsDue saidAt sheetIn advanceRefusal
+    advanced advanceOf heldAfterLoad callOf heldAfter isName keptAt keepRefusal keepOf canRestore
+    restoreRefusal restored restoreOf callerAtFirst returnOf callerAfter act answerOf callerAfterAll answersOf
 answers-here = refl

@@ -8,6 +8,9 @@ const HALF_DOT: i64 = 32_640;
 /// What the cells around a cell weigh, a table for each knit.
 const WEIGHTS: [[i64; 9]; 2] = [[1, 2, 1, 2, 0, 2, 1, 2, 1], [0, 1, 0, 1, 0, 1, 0, 1, 0]];
 
+/// The neighbours' places in the order of the spread: the diagonals by row and column, then up, left, right, down.
+const IN_TURN: [usize; 8] = [0, 2, 6, 8, 1, 3, 5, 7];
+
 fn level_start(level: usize) -> usize {
     ((1 << (2 * level)) - 1) / 3
 }
@@ -126,12 +129,12 @@ fn diffuse(power: usize, weights: &[i64; 9], row: usize, column: usize, lacking:
     }
 }
 
-/// The neighbours on the map, by row and column, with their places in the three by three around the cell.
+/// The neighbours on the map in the order of the spread, with their places in the three by three around the cell.
 fn around(power: usize, row: usize, column: usize) -> impl Iterator<Item = (usize, usize)> {
     let side = 1 << power;
-    (0..9).filter_map(move |n| {
+    IN_TURN.into_iter().filter_map(move |n| {
         let (down, right) = (row + n / 3, column + n % 3);
-        let inside = n != 4 && down >= 1 && down <= side && right >= 1 && right <= side;
+        let inside = down >= 1 && down <= side && right >= 1 && right <= side;
         inside.then(|| (((down - 1) << power) + right - 1, n))
     })
 }

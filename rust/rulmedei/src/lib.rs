@@ -116,7 +116,9 @@ pub fn load(
 
 /// Advance: makes the holes that are due, at most `budget` of them, from the record that the call before returned, on
 /// the same buffers. Of equal quarters a hole with an odd serial goes to the first, by row then column, and one with
-/// an even serial to the last. The record's knit says what the cells around a hole bear, and stays.
+/// an even serial to the last. The record's knit says what the cells around a hole bear, and stays. What does not
+/// divide evenly among them follows from sums rounded down: over the corners by row then column, then up, left, right,
+/// down.
 /// Refusals: 1, 11, 3, 4, 5.
 pub fn advance(
     progress: Progress,

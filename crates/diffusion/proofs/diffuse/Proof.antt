@@ -1,17 +1,17 @@
--- `diffusion::diffuse`: after p turns the first p shares are taken.
+-- `diffusion::diffuse`: after n turns the first n shares are taken.
 use Prim.Native.Nat.{_-_}
 use borrow.Author.Needs.{needs}
 use Rattle.diffusion.specs.Weights.{sum-next, sum-fits, sum-some}
-use Rattle.diffusion.specs.Turns.{Turns, turns-none, turn-asked, turn, turns-all, turns-long}
+use Rattle.diffusion.specs.Turns.{Turns, turns-none, given-grows, turn-asked, turn, turns-all, turns-long}
 use Rattle.diffusion.proofs.diffuse.Statement.{statement}
 use Rattle.diffusion.proofs.diffuse.Tie as tie
 
 abbrev Inv-loop : tie.InvT-loop
-Inv-loop cells₀ knit r row column d all before₀ p₀ cells before p =
-    Turns cells₀ knit r row column d cells before p
+Inv-loop cells₀ knit r row column d all sum₀ given₀ n₀ cells sum given n =
+    Turns cells₀ knit r row column d all cells sum given n
 
 abbrev μ-loop : tie.MeasureT-loop
-μ-loop cells₀ knit r row column d all before₀ p₀ cells before p = 9 - p
+μ-loop cells₀ knit r row column d all sum₀ given₀ n₀ cells sum given n = 9 - n
 
 pub diffuse-spec : {M : Type 1} → statement M
 diffuse-spec =
@@ -23,7 +23,9 @@ diffuse-spec =
     (λ c. search (turns-none, needs))
     (λ c κs. search needs)
     (λ c. search (sum-fits, needs))
-    (λ c κs. (search needs, search needs, search (sum-next, needs), search (sum-some, needs)))
+    (λ c κs. (search needs, search (sum-next, needs), search (sum-some, needs)))
+    (λ c κs. search needs)
+    (λ c. search (given-grows, sum-some, needs))
     (λ c κs. search (turn-asked, needs))
     (λ c. search needs)
     (λ c. search needs)

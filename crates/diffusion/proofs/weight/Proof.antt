@@ -1,7 +1,7 @@
 -- `diffusion::weight`: off the map on one of four sides, or on it.
 use borrow.Author.Needs.{needs}
 use Rattle.diffusion.specs.Places.{row-fits, column-fits}
-use Rattle.diffusion.specs.Weights.{weight-above, weight-below, weight-left, weight-right, weight-on}
+use Rattle.diffusion.specs.Weights.{turn-nine, weight-above, weight-below, weight-left, weight-right, weight-on}
 use Rattle.diffusion.proofs.weight.Statement.{statement}
 use Rattle.diffusion.proofs.weight.Tie as tie
 
@@ -10,11 +10,12 @@ weight-spec =
     tie.close
     (tie.spec
     (λ c κs. search needs)
-    (λ c. search (row-fits, needs))
+    (λ c κs. search needs)
+    (λ c. search (row-fits, turn-nine, needs))
     (λ c. search (column-fits, needs))
     (λ c. search (weight-above, needs))
     (λ c. search (weight-below, needs))
     (λ c. search (weight-left, needs))
     (λ c. search (weight-right, needs))
-    (λ c κs. search needs)
+    (λ c κs. search (turn-nine, needs))
     (λ c. search (weight-on, needs)))

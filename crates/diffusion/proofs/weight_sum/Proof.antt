@@ -1,4 +1,4 @@
--- `diffusion::weight_sum`: after p turns the sum of the first p weights.
+-- `diffusion::weight_sum`: after n turns the sum of the first n weights.
 use mathlib.Core.Path.{_≡_, _∙_}
 use Prim.Native.Nat.{_≤_, _-_}
 use native.Mathlib.Omega.{arith}
@@ -10,10 +10,10 @@ use Rattle.diffusion.proofs.weight_sum.Statement.{statement}
 use Rattle.diffusion.proofs.weight_sum.Tie as tie
 
 abbrev Inv-loop : tie.InvT-loop
-Inv-loop knit r row column sum₀ p₀ sum p = (p ≤ 9) × (sum ≡ sumTo p (weightAt (kernelOf knit) r row column))
+Inv-loop knit r row column sum₀ n₀ sum n = (n ≤ 9) × (sum ≡ sumTo n (weightAt (kernelOf knit) r row column))
 
 abbrev μ-loop : tie.MeasureT-loop
-μ-loop knit r row column sum₀ p₀ sum p = 9 - p
+μ-loop knit r row column sum₀ n₀ sum n = 9 - n
 
 pub weight-sum-spec : {M : Type 1} → statement M
 weight-sum-spec =
@@ -27,4 +27,4 @@ weight-sum-spec =
     (λ c. search needs)
     (λ c. search needs)
     (λ c. (search needs, search (sum-more, needs)))
-    (λ c. let e : c .before .loop .p ≡ 9 = omega arith in c .before .loop .inv .1 ∙ rw e))
+    (λ c. let e : c .before .loop .n ≡ 9 = omega arith in c .before .loop .inv .1 ∙ rw e))
