@@ -1,5 +1,5 @@
 /*
- * Rulmedei: grey maps to ordered lists of holes. The twelve calls for C, and the renewal of sums by itself.
+ * Rulmedei: grey maps to ordered lists of holes. The thirteen calls for C, and the renewal of sums by itself.
  *
  * `rt staticlib rulmedei` writes target/staticlib/librulmedei.a, for x86-64 Linux. It needs the C library and nothing
  * else.
@@ -32,10 +32,10 @@ extern "C" {
 /*
  * What a call returns: RULMEDEI_DONE, for rulmedei_advance also RULMEDEI_MORE, or the number of a refusal; for
  * rulmedei_compare in place of RULMEDEI_DONE one of the five from RULMEDEI_BEFORE to RULMEDEI_AFTER. A refused call
- * leaves pyramid, serials, order, greys, out, list and kept as they were. Below, each call has its refusals in the
- * order in which it looks for them, and of several the first is told. That is by rising number, but for 11, which comes
- * directly after 1; rulmedei_map_text has an order of its own. rulmedei_renew, which is none of the twelve calls, has
- * no refusal numbers: it returns RULMEDEI_DONE or RULMEDEI_NOT_RENEWED.
+ * leaves pyramid, serials, order, greys, out, list, kept and second as they were. Below, each call has its refusals in
+ * the order in which it looks for them, and of several the first is told. That is by rising number, but for 11, which
+ * comes directly after 1; rulmedei_map_text has an order of its own. rulmedei_renew, which is none of the thirteen
+ * calls, has no refusal numbers: it returns RULMEDEI_DONE or RULMEDEI_NOT_RENEWED.
  */
 #define RULMEDEI_DONE 0
 #define RULMEDEI_MORE 100         /* rulmedei_advance: further holes are due */
@@ -82,6 +82,22 @@ extern "C" {
  */
 #define RULMEDEI_CELLS(n) ((size_t)(n) * (size_t)(n))
 #define RULMEDEI_PYRAMID(n) ((4 * (size_t)(n) * (size_t)(n) - 1) / 3)
+
+/*
+ * The pyramid: its level k has 2^k rows of 2^k entries. The last level, of N rows, belongs to the cells; each entry of
+ * a level before it is the sum of four of the next. Level k begins at place (4^k - 1) / 3. Within it the entries lie
+ * by quarters: bit 2 i of the place is bit i of the entry's column, and bit 2 i + 1 is bit i of its row. So the four
+ * entries below the one at place i of the pyramid are at the places 4 i + 1 to 4 i + 4. These are the places of the
+ * cells of a map of side 4, row by row:
+ *
+ *      5   6   9  10
+ *      7   8  11  12
+ *     13  14  17  18
+ *     15  16  19  20
+ *
+ * Earlier versions had the entries of a level row after row. Such a sheet is refused with 5, unless its entries happen
+ * to fit; rulmedei_relay writes it anew.
+ */
 
 /*
  * The lengths of outputs, in bytes: what the page of a level needs, for the levels 0 to 8 that maps have, and what is
@@ -267,8 +283,22 @@ uint32_t rulmedei_restore(uint32_t side,
                           uint32_t *after);
 
 /*
- * The renewal by itself. It is none of the twelve calls: rulmedei_advance renews in this way after each hole, and here
- * it can be had alone.
+ * Relay: writes the pyramid of an older sheet, which lies row after row as earlier versions left it, by quarters into
+ * second, a pyramid of its own, and nothing else. With the same serials, order and record the second one is a sound
+ * sheet, and goes on as the first one would have. Places of second past the needed length stay.
+ * Refusals: 1, 11, 3 (for either pyramid), 4, 5 (the sheet is to be sound row after row).
+ */
+uint32_t rulmedei_relay(uint32_t side,
+                        uint32_t dots,
+                        uint32_t knit,
+                        const int64_t *pyramid, size_t pyramid_length,
+                        const uint32_t *serials, size_t serials_length,
+                        const uint32_t *order, size_t order_length,
+                        int64_t *second, size_t second_length);
+
+/*
+ * The renewal by itself. It is none of the thirteen calls: rulmedei_advance renews in this way after each hole, and
+ * here it can be had alone.
  */
 
 /*

@@ -32,6 +32,8 @@ static uint32_t (*const keep_name)(uint32_t, uint32_t, uint32_t, uint64_t *, uin
 static uint32_t (*const restore)(uint32_t, uint32_t, uint32_t, const uint64_t *, uint32_t, const uint8_t *, size_t,
                                  int64_t *, size_t, uint32_t *, size_t, uint32_t *, size_t,
                                  uint32_t *) = rulmedei_restore;
+static uint32_t (*const relay)(uint32_t, uint32_t, uint32_t, const int64_t *, size_t, const uint32_t *, size_t,
+                               const uint32_t *, size_t, int64_t *, size_t) = rulmedei_relay;
 static uint32_t (*const renew)(uint32_t, uint32_t, uint32_t, int64_t *, size_t) = rulmedei_renew;
 
 static unsigned long checks, failures;
@@ -149,6 +151,25 @@ static void keep_map(struct map *m)
 static int map_as_kept(const struct map *m)
 {
     return as_kept(&m->greys) && as_kept(&m->pyramid) && as_kept(&m->serials) && as_kept(&m->order);
+}
+
+/* The place of entry (row, column) of a level in a pyramid by quarters, bit by bit. */
+static size_t place_of(uint32_t level, size_t row, size_t column)
+{
+    size_t place = 0;
+    for (uint32_t bit = 0; bit < level; bit++) {
+        place += (size_t)1 << 2 * bit;
+        place += (column >> bit & 1) << 2 * bit;
+        place += (row >> bit & 1) << (2 * bit + 1);
+    }
+    return place;
+}
+
+/* What the pyramid has of a cell. */
+static int64_t debt_at(const struct map *m, size_t cell)
+{
+    const int64_t *pyramid = m->pyramid.places;
+    return pyramid[place_of(m->power, cell / m->side, cell % m->side)];
 }
 
 static uint64_t grey_sum(const struct map *m)
@@ -362,7 +383,7 @@ static void refused_knits_load(struct map *m)
 static void test_load(struct map *m)
 {
     const uint8_t *greys = m->greys.places;
-    const int64_t *pyramid = m->pyramid.places, *cells = pyramid + m->pyramid.count - m->greys.count;
+    const int64_t *pyramid = m->pyramid.places;
     int same = 1;
     keep_map(m);
     refused_load(m, m->side + 1, m->knit, whole, RULMEDEI_SIDE_UNKNOWN);
@@ -374,7 +395,7 @@ static void test_load(struct map *m)
     CHECK(load_map(m, m->side, m->knit, whole) == RULMEDEI_DONE);
     CHECK(first == m->side && second == 0 && third == m->knit && as_kept(&m->greys));
     for (size_t cell = 0; cell < m->greys.count; cell++)
-        same = same && cells[cell] == 256 * (int64_t)greys[cell];
+        same = same && debt_at(m, cell) == 256 * (int64_t)greys[cell];
     CHECK(same && pyramid[0] == 256 * (int64_t)grey_sum(m));
     CHECK(all_are(m->serials.places, m->serials.count * sizeof(uint32_t), 0));
     CHECK(all_are(m->order.places, m->order.count * sizeof(uint32_t), 0));
@@ -814,6 +835,61 @@ static void test_stages(struct map *m)
     give_back(&value);
 }
 
+/* The same sheet as earlier versions left it: the entries of each level row after row. */
+static void lay_rows(const struct map *m, int64_t *rows)
+{
+    const int64_t *pyramid = m->pyramid.places;
+    for (uint32_t level = 0; level <= m->power; level++)
+        for (size_t row = 0; row < (size_t)1 << level; row++)
+            for (size_t column = 0; column < (size_t)1 << level; column++)
+                *rows++ = pyramid[place_of(level, row, column)];
+}
+
+static uint32_t relay_map(struct map *m, struct record r, struct part *old, struct less less, struct part *into,
+                          size_t room)
+{
+    return relay(r.side, r.dots, r.knit, old->places, old->count - less.pyramid, m->serials.places,
+                 m->serials.count - less.serials, m->order.places, m->order.count - less.order, into->places, room);
+}
+
+/* Into a pyramid of one place more than needed. What lies by quarters already is refused, but for side 2. */
+static void test_relay(struct map *m)
+{
+    const struct {
+        uint32_t side, dots, knit;
+        struct less less;
+        size_t room;
+        uint32_t number;
+    } asked[] = {
+        {m->side + 1, m->dots, 2, less_pyramid, 0, RULMEDEI_SIDE_UNKNOWN},
+        {m->side, m->dots, 2, less_pyramid, 0, RULMEDEI_KNIT_UNKNOWN},
+        {m->side, m->dots - 1, m->knit, less_pyramid, m->pyramid.count, RULMEDEI_PYRAMID_SHORT},
+        {m->side, m->dots - 1, m->knit, less_serials, m->pyramid.count - 1, RULMEDEI_PYRAMID_SHORT},
+        {m->side, m->dots - 1, m->knit, less_serials, m->pyramid.count, RULMEDEI_SHEET_SHORT},
+        {m->side, m->dots - 1, m->knit, less_order, m->pyramid.count, RULMEDEI_SHEET_SHORT},
+        {m->side, m->dots - 1, m->knit, whole, m->pyramid.count, RULMEDEI_SHEET_UNSOUND},
+    };
+    struct part old = part_of(m->pyramid.count, sizeof(int64_t)), into = part_of(m->pyramid.count + 1, sizeof(int64_t));
+    const unsigned char *spare = (unsigned char *)into.places + m->pyramid.count * sizeof(int64_t);
+    lay_rows(m, old.places);
+    keep_map(m);
+    keep(&old);
+    keep(&into);
+    for (size_t at = 0; at < sizeof asked / sizeof asked[0]; at++) {
+        struct record r = {asked[at].side, asked[at].dots, asked[at].knit};
+        CHECK(relay_map(m, r, &old, asked[at].less, &into, asked[at].room) == asked[at].number);
+        CHECK(as_kept(&old) && as_kept(&into) && map_as_kept(m));
+    }
+    if (m->side > 2)
+        CHECK(relay_map(m, record_of(m, m->dots), &m->pyramid, whole, &into, into.count) == RULMEDEI_SHEET_UNSOUND
+              && as_kept(&into));
+    CHECK(relay_map(m, record_of(m, m->dots), &old, whole, &into, into.count) == RULMEDEI_DONE);
+    CHECK(memcmp(into.places, m->pyramid.places, m->pyramid.count * sizeof(int64_t)) == 0);
+    CHECK(all_are(spare, sizeof(int64_t), NINE) && as_kept(&old) && map_as_kept(m));
+    give_back(&old);
+    give_back(&into);
+}
+
 static void not_renewed(struct map *m, uint32_t side, uint32_t row, uint32_t column, size_t less)
 {
     CHECK(renew(side, row, column, m->pyramid.places, m->pyramid.count - less) == RULMEDEI_NOT_RENEWED);
@@ -863,6 +939,7 @@ static void test_side(uint32_t side, uint32_t dots)
     test_compare(&m);
     test_shelf(&m);
     test_stages(&m);
+    test_relay(&m);
     test_renew(&m);
     test_white(&m);
     give_back_map(&m);
@@ -877,6 +954,7 @@ static void test_ribbed(uint32_t side, uint32_t dots)
     test_advance(&m, dots);
     test_list(&m);
     test_stages(&m);
+    test_relay(&m);
     test_white(&m);
     give_back_map(&m);
 }
@@ -953,7 +1031,8 @@ static void test_ribbed_places(void)
         ((uint8_t *)m.greys.places)[asked[at].cell] = 128;
         CHECK(load_map(&m, 4, RULMEDEI_RIBBED, whole) == RULMEDEI_DONE);
         CHECK(advance_map(&m, record_of(&m, 0), UINT32_MAX, whole) == RULMEDEI_DONE && first == 1);
-        CHECK(memcmp((int64_t *)m.pyramid.places + 5, asked[at].debts, sizeof asked[at].debts) == 0);
+        for (size_t cell = 0; cell < 16; cell++)
+            CHECK(debt_at(&m, cell) == asked[at].debts[cell]);
     }
     give_back_map(&m);
 }

@@ -111,6 +111,22 @@ pub(crate) fn check_sheet(
     Ok(kind)
 }
 
+/// The refusals of Relay: 1, 11, 3 for the one or the other, 4, 5.
+pub(crate) fn check_relay(
+    progress: Progress,
+    pyramid: &[i64],
+    serials: &[u32],
+    order: &[u32],
+    second: &[i64],
+) -> Result<u32, Refusal> {
+    let (power, _) = check_kind(progress.side, progress.knit)?;
+    if second.len() < pyramid_length(power) {
+        return Err(Refusal::ShortPyramid);
+    }
+    check_sheet(progress, pyramid, serials, order)?;
+    Ok(power)
+}
+
 /// "'finished' exactly if the top is then below 32,640, else 'more'."
 fn ended(top: i64) -> Ended {
     if top < HALF_DOT {

@@ -8,6 +8,7 @@
 //! so.
 
 mod answers;
+mod by_quarters;
 mod calls;
 mod case_text;
 mod checkpoints;
@@ -37,10 +38,10 @@ pub mod maps;
 pub mod stored;
 
 pub use answers::{AdvanceAnswer, CheckpointAnswer, Checkpoints, Compared, Ended, LoadAnswer, Progress, Refusal};
-pub use calls::{advance, load};
-pub use checkpoints::{keep, restore};
+pub use by_quarters::{advance, drill_list, load, relay, renew, restore, sound};
+pub use by_quarters::{quarter_entry, to_quarters, to_rows};
+pub use checkpoints::keep;
 pub use diffusion::{descend, dots_due, place, shares};
-pub use drill_list::drill_list;
 pub use knit::{weights, weights_of, Weights, PLAIN, RIBBED};
 pub use map_text::{map_text, write_map_text};
 pub use measures::{levels, tally};
@@ -48,10 +49,17 @@ pub use plate::{plate, GREYS_ROOM, LONGEST_INPUT};
 pub use pyramid::{renew_all, renew_over};
 pub use quote::quote;
 pub use quote_page::quote_page;
-pub use renewal::renew;
 pub use run::{Buffers, Run};
 pub use sample::{sample, sample_text};
 pub use shape::{cell_count, entry, level_start, neighbours, neighbours_in_turn, power, pyramid_length};
 pub use shape::{Neighbour, DOT, HALF_DOT, SIDES};
 pub use shelf::{compare, in_order, shelf};
-pub use sound::sound;
+
+/// The calls as they were before document 02's request 10, on a pyramid that lies row after row.
+pub mod by_rows {
+    pub use crate::calls::{advance, load};
+    pub use crate::checkpoints::restore;
+    pub use crate::drill_list::drill_list;
+    pub use crate::renewal::renew;
+    pub use crate::sound::sound;
+}

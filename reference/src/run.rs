@@ -1,11 +1,9 @@
 //! Buffers of the needed lengths, and a map run to its end on them.
 
 use crate::answers::{AdvanceAnswer, CheckpointAnswer, Checkpoints, LoadAnswer, Progress, Refusal};
-use crate::calls::{advance, load};
-use crate::checkpoints::restore;
-use crate::drill_list::{drill_list, list_room};
+use crate::by_quarters::{advance, drill_list, load, restore, sound};
+use crate::drill_list::list_room;
 use crate::shape::{cell_count, power, pyramid_length};
-use crate::sound::sound;
 
 /// "The caller lends the pyramid as 64-bit signed numbers [...] Two further buffers of N² 32-bit unsigned numbers":
 /// the three buffers, for callers that have none of their own.

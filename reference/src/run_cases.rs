@@ -1,7 +1,7 @@
 //! The cases of the program crate `run_cases`: its standard input, and what it ought to write.
 
 use crate::answers::Refusal;
-use crate::calls::advance;
+use crate::by_quarters::{advance, quarter_entry};
 use crate::case_text::{self, buffers_before, fields, first_places, line, places, record, refusal};
 use crate::case_text::{InputAndOutput, WHOLE};
 use crate::knit::{PLAIN, RIBBED};
@@ -56,9 +56,9 @@ fn ribbed() -> Vec<Case> {
         listed(2, &[255; 4], vec![whole(u32::MAX)]),
         listed(2, &[128; 4], vec![whole(0), whole(1), whole(1), whole(1)]),
         listed(2, &[128, 0, 0, 0], vec![whole(u32::MAX)]),
-        lacking(4, 5, &[10, 1, 0], 13),
-        lacking(4, 1, &[6, 1, 0], 7),
-        lacking(2, 0, &[1, 0], 5),
+        lacking(4, 5, 13),
+        lacking(4, 1, 7),
+        lacking(2, 0, 5),
         listed(4, &[200; 16], vec![whole(5), whole(u32::MAX)]),
     ];
     for (seed, side) in (1..).zip([4, 8, 16, 32]) {
@@ -95,9 +95,9 @@ fn plates() -> Vec<Case> {
         listed(2, &[128; 4], vec![whole(0), whole(1), whole(1), whole(1)]),
         one_call(2, &[127, 0, 0, 0]),
         one_call(2, &[128, 0, 0, 0]),
-        lacking(4, 5, &[10, 1, 0], 13),
-        lacking(4, 1, &[6, 1, 0], 7),
-        lacking(2, 0, &[1, 0], 4),
+        lacking(4, 5, 13),
+        lacking(4, 1, 7),
+        lacking(2, 0, 4),
         one_call(2, &[255, 127, 0, 0]),
         one_call(2, &[255, 128, 0, 0]),
         one_call(4, &fifteen),
@@ -120,10 +120,12 @@ fn added(budget: u32, place: usize, amount: i64) -> Call {
 
 /// One cell of grey 255, from which, and from all entries over it, so much is taken that the dot lacks d: the sheet
 /// isn't sound until the last of them is changed.
-fn lacking(side: u32, cell: usize, places: &[usize], d: i64) -> Case {
+fn lacking(side: u32, cell: usize, d: i64) -> Case {
     let mut greys = vec![0; cell_count(side)];
     greys[cell] = 255;
-    let calls = places.iter().map(|place| added(1, *place, -d)).collect();
+    let (row, column) = (cell / side as usize, cell % side as usize);
+    let over = |up: u32| quarter_entry(side.trailing_zeros() - up, row >> up, column >> up);
+    let calls = (0..=side.trailing_zeros()).map(|up| added(1, over(up), -d)).collect();
     listed(side, &greys, calls)
 }
 

@@ -1,10 +1,10 @@
 //! The cases of the program crate `stage_cases`: its standard input, and what it ought to write.
 
 use crate::answers::{Checkpoints, Progress, Refusal};
-use crate::calls::advance;
+use crate::by_quarters::{advance, restore};
 use crate::case_text::{self, buffers_before, fields, first_places, line, places, record, refusal};
 use crate::case_text::{InputAndOutput, WHOLE};
-use crate::checkpoints::{keep, restore};
+use crate::checkpoints::keep;
 use crate::knit::{PLAIN, RIBBED};
 use crate::maps::generated;
 use crate::run::Buffers;

@@ -3,6 +3,7 @@
 use std::fmt::Display;
 
 use crate::answers::Refusal;
+use crate::by_quarters::to_rows;
 use crate::case_text::{joined, InputAndOutput};
 use crate::knit::{PLAIN, RIBBED};
 use crate::map_text::write_map_text;
@@ -10,7 +11,7 @@ use crate::maps::{generated, named, NAMES};
 use crate::measures::levels;
 use crate::plate::plate;
 use crate::quote::quote;
-use crate::run::{run, Run};
+use crate::run::{run, Buffers, Run};
 use crate::run_cases;
 use crate::sample::sample_text;
 use crate::samples::{samples, SIDE};
@@ -63,10 +64,11 @@ fn sample_files() -> Vec<(String, Vec<u8>)> {
     files
 }
 
-/// One line for each side and map on cloth of one knit: its figures, and checksums of what the run leaves.
+/// One line for each side and map on cloth of one knit: its figures, and checksums of what the run leaves, the pyramid
+/// once row after row (`pyramid`) and once as it lies (`quarters`).
 fn runs_csv(knit: u32, names: &[&str]) -> Result<String, Refusal> {
     let mut text = "side,map,grey_sum,dots,top,level0,level1,level2,level3,level4,level5,level6,level7,level8,\
-                    pyramid,serials,order,list_length,list\n"
+                    pyramid,serials,order,list_length,list,quarters\n"
         .to_string();
     for side in SIDES {
         for name in names {
@@ -90,11 +92,12 @@ pub fn run_line(name: &str, greys: &[u8], run: &Run, levels: &[u64; 9]) -> Strin
         run.progress.dots.to_string(),
         run.buffers.pyramid[0].to_string(),
         joined(levels),
-        adler32(&lines(&run.buffers.pyramid)).to_string(),
+        adler32(&lines(&to_rows(run.progress.side, &run.buffers.pyramid))).to_string(),
         adler32(&lines(&run.buffers.serials)).to_string(),
         adler32(&lines(&run.buffers.order)).to_string(),
         run.list.len().to_string(),
         adler32(&run.list).to_string(),
+        adler32(&lines(&run.buffers.pyramid)).to_string(),
     ])
 }
 
@@ -124,24 +127,24 @@ fn expected_values() -> Result<String, Refusal> {
          use Prim.Native.Nat.{{ℕ}}\n\
          use lib.IntN.{{ℤ, pos, negsuc}}\n\
          \n\
-         -- the map of side 4, and what Load and Advance leave: the order list, the serial sheet, the pyramid;\n\
-         -- then the sums of Levels\n\
+         -- the map of side 4, and what Load and Advance leave: the order list, the serial sheet, the pyramid\n\
+         -- row after row and by quarters; then the sums of Levels\n\
          {}\n\
          -- the map of side 8, likewise\n\
          {}\n\
          -- the flat map of side 4, where quarters and cells are equal, likewise\n\
          {}\n\
          -- ribbed: the map of side 2 with four greys of 128, and those of side 4 and side 8 above; of each the order\n\
-         -- list, the serial sheet and the pyramid\n\
+         -- list, the serial sheet and the pyramid, likewise\n\
          {}\n\
          {}\n\
          {}",
         five_values("4", 4, &greys)?,
         five_values("8", 8, &halved)?,
         five_values("Flat4", 4, &flat)?,
-        three_values("Ribbed2", &run(2, RIBBED, &[128; 4])?),
-        three_values("Ribbed4", &run(4, RIBBED, &greys)?),
-        three_values("Ribbed8", &run(8, RIBBED, &halved)?),
+        left_values("Ribbed2", &run(2, RIBBED, &[128; 4])?),
+        left_values("Ribbed4", &run(4, RIBBED, &greys)?),
+        left_values("Ribbed8", &run(8, RIBBED, &halved)?),
     ))
 }
 
@@ -151,20 +154,24 @@ fn five_values(ending: &str, side: u32, greys: &[u8]) -> Result<String, Refusal>
     let run = run(side, PLAIN, greys)?;
     let values = [
         value(&format!("greys{ending}"), "ℕ", greys),
-        three_values(ending, &run),
+        left_values(ending, &run),
         value(&format!("levels{ending}"), "ℕ", &levels(side, greys, &run.buffers.serials)?),
     ];
     Ok(values.join("\n"))
 }
 
-/// The three values that a run leaves, likewise.
-fn three_values(ending: &str, run: &Run) -> String {
-    let integers: Vec<String> = run.buffers.pyramid.iter().map(|z| integer(*z)).collect();
-    let values = [
-        value(&format!("order{ending}"), "ℕ", &run.buffers.order),
-        value(&format!("serials{ending}"), "ℕ", &run.buffers.serials),
-        value(&format!("pyramid{ending}"), "ℤ", &integers),
+/// The values that a run leaves, likewise, the pyramid row after row and, where that differs, by quarters.
+fn left_values(ending: &str, run: &Run) -> String {
+    let Buffers { pyramid, serials, order } = &run.buffers;
+    let rows = to_rows(run.progress.side, pyramid);
+    let mut values = vec![
+        value(&format!("order{ending}"), "ℕ", order),
+        value(&format!("serials{ending}"), "ℕ", serials),
+        value(&format!("pyramid{ending}"), "ℤ", &integers(&rows)),
     ];
+    if rows != *pyramid {
+        values.push(value(&format!("quarters{ending}"), "ℤ", &integers(pyramid)));
+    }
     values.join("\n")
 }
 
@@ -180,13 +187,10 @@ fn value<T: Display>(name: &str, of: &str, items: &[T]) -> String {
     format!("unfoldable pub {name} : List {of}\n{name} =\n    {list}[]\n")
 }
 
-/// An integer as that language writes it.
-fn integer(z: i64) -> String {
-    if z >= 0 {
-        format!("pos {z}")
-    } else {
-        format!("negsuc {}", -z - 1)
-    }
+/// Integers as that language writes them.
+fn integers(numbers: &[i64]) -> Vec<String> {
+    let written = |z: &i64| if *z >= 0 { format!("pos {z}") } else { format!("negsuc {}", -z - 1) };
+    numbers.iter().map(written).collect()
 }
 
 /// Numbers in decimal, each followed by byte 10.

@@ -1,7 +1,7 @@
 //! The cases of the program crate `survey_cases`: its standard input, and what it ought to write.
 
 use crate::answers::Refusal;
-use crate::calls::load;
+use crate::by_quarters::load;
 use crate::case_text::{self, fields, line, record, refusal, InputAndOutput, BEFORE};
 use crate::knit::{PLAIN, RIBBED};
 use crate::maps::named;

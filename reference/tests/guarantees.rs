@@ -290,9 +290,10 @@ fn renewal_over_the_changed_cells_is_whole_renewal() {
             while buffers.pyramid[0] >= HALF_DOT {
                 let answer = buffers.advance(progress, 1);
                 assert_eq!(answer.made, 1);
-                let mut renewed = buffers.pyramid.clone();
+                let rows = to_rows(side, &buffers.pyramid);
+                let mut renewed = rows.clone();
                 renew_all(power(side).unwrap(), &mut renewed);
-                assert_eq!(buffers.pyramid, renewed);
+                assert_eq!(rows, renewed);
                 progress = answer.progress;
             }
         }
@@ -325,6 +326,7 @@ fn any_sound_sheet(dice: &mut Dice, side: u32) -> (Buffers, Progress) {
         };
     }
     renew_all(power(side).unwrap(), &mut buffers.pyramid);
+    buffers.pyramid = to_quarters(side, &buffers.pyramid);
     (buffers, progress)
 }
 

@@ -161,7 +161,7 @@ fn plain_errors_by_place() {
     greys[5] = 128;
     let row = |numbers: [i64; 4]| numbers.to_vec();
     let left = [row([-2_709, -5_419, -2_709, 0]), row([-5_418, 0, -5_419, 0]), row([-2_710, -5_419, -2_709, 0])];
-    assert_eq!(finished(4, &greys).0.pyramid[5..17], left.concat());
+    assert_eq!(to_rows(4, &finished(4, &greys).0.pyramid)[5..17], left.concat());
 }
 
 #[test]
@@ -270,7 +270,7 @@ fn ribbed_errors_by_place() {
     let after = |cell: usize| {
         let mut greys = [0; 16];
         greys[cell] = 128;
-        finished_on(RIBBED, 4, &greys).0.pyramid[5..].to_vec()
+        to_rows(4, &finished_on(RIBBED, 4, &greys).0.pyramid)[5..].to_vec()
     };
     let row = |numbers: [i64; 4]| numbers.to_vec();
     let inside = [row([0, -8_128, 0, 0]), row([-8_128, 0, -8_128, 0]), row([0, -8_128, 0, 0]), row([0; 4])];

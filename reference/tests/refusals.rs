@@ -157,10 +157,15 @@ fn number_after(change: impl Fn(&mut Buffers, &mut Progress)) -> u32 {
 
 /// The same for a change of one residual, with the coarser sums renewed after it.
 fn number_with_residual(cell: usize, residual: i64) -> u32 {
-    number_after(|buffers, _| {
-        buffers.pyramid[5 + cell] = residual;
-        renew_all(2, &mut buffers.pyramid);
-    })
+    number_after(|buffers, _| set_residual(buffers, cell, residual))
+}
+
+/// Gives a cell a residual, and renews the coarser sums.
+fn set_residual(buffers: &mut Buffers, cell: usize, residual: i64) {
+    let mut rows = to_rows(4, &buffers.pyramid);
+    rows[5 + cell] = residual;
+    renew_all(2, &mut rows);
+    buffers.pyramid = to_quarters(4, &rows);
 }
 
 // The three dots are at the cells 10, 1 and 9: each of the tests below breaks one condition and no other, as far as
@@ -208,8 +213,7 @@ fn condition_3_other_serials() {
     for serial in [1, 3, 4, u32::MAX] {
         let number = number_after(|buffers, _| {
             buffers.serials[15] = serial;
-            buffers.pyramid[5 + 15] = 0;
-            renew_all(2, &mut buffers.pyramid);
+            set_residual(buffers, 15, 0);
         });
         assert_eq!(number, 5);
     }

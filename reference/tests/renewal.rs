@@ -5,10 +5,13 @@ use reference::*;
 
 const MOST: i64 = 1 << 40;
 
-/// The pyramid after a renewal that has to be done.
+/// The pyramid, row after row, after a renewal that has to be done; by quarters it is the same one renamed.
 fn renewed(side: u32, (row, column): (u32, u32), before: &[i64]) -> Vec<i64> {
     let mut pyramid = before.to_vec();
-    assert!(renew(side, row, column, &mut pyramid));
+    assert!(by_rows::renew(side, row, column, &mut pyramid));
+    let mut quarters = to_quarters(side, before);
+    assert!(renew(side, row, column, &mut quarters));
+    assert_eq!(quarters, to_quarters(side, &pyramid));
     pyramid
 }
 

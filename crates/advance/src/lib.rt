@@ -6,7 +6,10 @@ use definition::Progress;
 use definition::Refusal;
 ghost use mathlib.Core.Path.{_≡_};
 ghost use Rattle.definition.specs.Answers.{advanceSays};
-ghost use Rattle.definition.specs.Advance.{saidAt, advanced, advanceOf};
+ghost use Rattle.definition.specs.Advance.{saidAt, advanced};
+ghost use Rattle.definition.specs.Quarters.{asRows};
+ghost use Rattle.definition.specs.ByQuarters.{advanceByQuarters};
+ghost use Rattle.places.specs.Table.{places};
 ghost use Rattle.sheet.specs.Sheets.{SheetAsked};
 
 // From this top on a dot is due.
@@ -44,25 +47,27 @@ fn answer(side: u32, dots: u32, knit: u32, made: u32, status: AdvanceStatus) -> 
     }
 }
 
-// Advance, on a sheet that is not refused.
+// Advance, on a sheet that is not refused; its pyramid lies by quarters, and is told of row after row.
 fn advance_sheet(
     progress: Progress,
     r: usize,
+    table: &[u16; 1024],
     budget: u32,
     pyramid: &mut [i64],
     serials: &mut [u32],
     order: &mut [u32],
 ) -> AdvanceAnswer
     requires { ⌜ SheetAsked r (progress .dots) (now pyramid) (now serials) (now order) ⌝ }
+    requires { ⌜ now table ≡ places ⌝ }
     ensures { λ a. ⌜
         record {
           reply = record { progress = a .progress; made = a .made; said = advanceSays (a .status) };
-          pyramid = now (pyramid .exit);
+          pyramid = asRows r (now (pyramid .exit));
           serials = now (serials .exit);
           order = now (order .exit);
         }
         ≡ advanced r progress budget
-        (now (pyramid .entry)) (now (serials .entry)) (now (order .entry))
+        (asRows r (now (pyramid .entry))) (now (serials .entry)) (now (order .entry))
         ⌝ }
 {
     let dots = progress.dots;
@@ -73,6 +78,7 @@ fn advance_sheet(
         &mut pyramid[..needed],
         &mut serials[..cells],
         &mut order[..cells],
+        table,
         knit,
         r,
         dots,
@@ -96,13 +102,14 @@ pub fn advance(
           serials = now (serials .exit);
           order = now (order .exit);
         }
-        ≡ advanceOf progress budget (now (pyramid .entry)) (now (serials .entry)) (now (order .entry))
+        ≡ advanceByQuarters progress budget (now (pyramid .entry)) (now (serials .entry)) (now (order .entry))
         ⌝ }
 {
+    let table = places::table();
     let dots = progress.dots;
     let r = sizes::power_of(progress.side);
-    match sheet::check_sheet(r, dots, progress.knit, pyramid, serials, order) {
+    match sheet::check_sheet(r, dots, progress.knit, &table, pyramid, serials, order) {
         Check::Failed(why) => refused(progress, why),
-        Check::Passed => advance_sheet(progress, r, budget, pyramid, serials, order),
+        Check::Passed => advance_sheet(progress, r, &table, budget, pyramid, serials, order),
     }
 }

@@ -14,8 +14,8 @@ use Rattle.definition.specs.Answers.{Said}
 use Rattle.definition.specs.Blocks.{greyTotal}
 use Rattle.definition.specs.Model.{modelStart}
 use Rattle.definition.specs.Refusals.{powerOf}
-use Rattle.definition.specs.Load.{loadOf}
-use Rattle.definition.specs.Advance.{Reply, advanceOf}
+use Rattle.definition.specs.Advance.{Reply}
+use Rattle.definition.specs.ByQuarters.{loadByQuarters, advanceByQuarters}
 use Rattle.definition.specs.Calls.{Call, Held, heldAfterLoad, callOf, heldAfter, outcomesOf, heldAfterCalls, repliesOf, modelAfterCalls, modelReplies}
 use Rattle.definition.specs.declared.Progress.{Progress}
 use Rattle.guarantee.specs.Demand3.{Accepted, Holds, Demand3}
@@ -90,7 +90,7 @@ module _ {A : Type 0} (asked : ℕ) (l : List A) {n : ℕ} (e : n ≡ min asked 
 module _ (progress : Progress) (budget a b c : ℕ) (p : List ℤ) (s o : List ℕ) {np ns no : ℕ} (ep : np ≡ min a (length p)) (es : ns ≡ min b (length s)) (eo : no ≡ min c (length o)) where
   pub call-made : {progress′ : Progress} {reply : Reply} {p′ : List ℤ} {s′ o′ : List ℕ}
       → record { reply = reply; pyramid = p′; serials = s′; order = o′ }
-      ≡ advanceOf progress budget (take np p) (take ns s) (take no o)
+      ≡ advanceByQuarters progress budget (take np p) (take ns s) (take no o)
       → progress′ ≡ reply .progress
       → record { progress = progress′; pyramid = p′ ++ drop np p; serials = s′ ++ drop ns s; order = o′ ++ drop no o }
       ≡ heldAfter (callOf (record { progress = progress; pyramid = p; serials = s; order = o })
@@ -101,7 +101,7 @@ module _ (progress : Progress) (budget a b c : ℕ) (p : List ℤ) (s o : List �
 pub loaded-held : (side knit : ℕ) (g : List ℕ) (p : List ℤ) (s o : List ℕ) {progress : Progress} {said : Said}
     {p′ : List ℤ} {s′ o′ : List ℕ}
     → record { progress = progress; said = said; pyramid = p′; serials = s′; order = o′ }
-    ≡ loadOf side knit g p s o
+    ≡ loadByQuarters side knit g p s o
     → record { progress = progress; pyramid = p′; serials = s′; order = o′ } ≡ heldAfterLoad side knit g p s o
 unfolding heldAfterLoad
 loaded-held side knit g p s o e = rw (← e)
@@ -148,7 +148,7 @@ module _ (progress₀ : Progress) (p₀ : List ℤ) (s₀ o₀ : List ℕ) (budg
 pub promised : (side knit : ℕ) (g : List ℕ) (p : List ℤ) (s o : List ℕ)
     {progress : Progress} (said : Said) {p′ : List ℤ} {s′ o′ : List ℕ} (calls : List Call) (held : Held)
     → record { progress = progress; said = said; pyramid = p′; serials = s′; order = o′ }
-    ≡ loadOf side knit g p s o
+    ≡ loadByQuarters side knit g p s o
     → held ≡ heldAfterCalls (record { progress = progress; pyramid = p′; serials = s′; order = o′ }) calls
     → Kept side knit g p s o calls held
 promised side knit g p s o said calls held e q =

@@ -1,5 +1,5 @@
 -- A sheet made anew: the fresh sheet of the greys, then a run of as many dots as are asked.
-use mathlib.Core.Path.{_≡_, refl, sym, ap, _∙_}
+use mathlib.Core.Path.{_≡_, refl, sym, ap, ap₂, _∙_}
 use mathlib.Core.List.{List, _++_}
 use Prim.Native.Nat.{ℕ, _+_, _-_, _^_, _≤_, min}
 use native.Mathlib.Omega.{arith}
@@ -11,9 +11,11 @@ use Rattle.definition.specs.Pyramid.{needed, cellCount}
 use Rattle.definition.specs.Blocks.{greySum, greyTotal, totalOf}
 use Rattle.definition.specs.Diffusion.{kernelOf}
 use Rattle.definition.specs.Model.{Halftone, topOf, modelStart, steps}
+use Rattle.definition.specs.Quarters.{rowsFrom, quartersFrom}
 use Rattle.definition.specs.Advance.{dotsDue}
 use Rattle.pyramid.specs.Asked.{freshPyramid}
 use Rattle.blocks.specs.Blocks.{BlockAsked}
+use Rattle.layouts.specs.Relaid.{length-rows, length-quarters, rows-back, quarters-back}
 use Rattle.shares.specs.Kernels.{knit-fit}
 use Rattle.dots.specs.Steps.{Sheet, steps-min}
 use Rattle.guarantee.specs.Start.{each-of, start-sheet}
@@ -51,7 +53,7 @@ module _ {r : ℕ} {g : List ℕ} (p : List ℤ) (s o : List ℕ) (h : AnewAsked
   big : 2 ≤ 2 ^ r
   big = pow-mono {i = 1} {j = r} (h .lent .power)
 
-  pyramid-is : p₁ ≡ modelStart r g .pyramid ++ drop (needed r) p
+  pyramid-is : p₁ ≡ quartersFrom r (modelStart r g .pyramid) ++ drop (needed r) p
   unfolding modelStart freshPyramid
   pyramid-is = f .pyramid
 
@@ -63,8 +65,12 @@ module _ {r : ℕ} {g : List ℕ} (p : List ℤ) (s o : List ℕ) (h : AnewAsked
   unfolding modelStart
   order-is = f .order
 
-  take-pyramid : take n p₁ ≡ modelStart r g .pyramid
-  take-pyramid = rw (en, pyramid-is) (take-at (fresh .pyramid) _ (needed r) (sheet .sized .pyramid))
+  take-pyramid : take n p₁ ≡ quartersFrom r (modelStart r g .pyramid)
+  take-pyramid =
+      rw (en, pyramid-is) (take-at (quartersFrom r (fresh .pyramid)) _ (needed r) (length-quarters r (fresh .pyramid)))
+
+  rows-pyramid : rowsFrom r (take n p₁) ≡ modelStart r g .pyramid
+  rows-pyramid = ap (rowsFrom r) take-pyramid ∙ rows-back r (fresh .pyramid) (sheet .sized .pyramid)
 
   take-serials : take c s₁ ≡ modelStart r g .serials
   take-serials = rw (ec, serials-is) (take-at (fresh .serials) _ (cellCount r) (sheet .sized .serials))
@@ -73,7 +79,10 @@ module _ {r : ℕ} {g : List ℕ} (p : List ℤ) (s o : List ℕ) (h : AnewAsked
   take-order = rw (ec, order-is) (take-at (fresh .order) _ (cellCount r) (sheet .sized .order))
 
   pub pyramid-part : n ≡ length (take n p₁)
-  pyramid-part = rw take-pyramid (en ∙ sym (sheet .sized .pyramid))
+  pyramid-part = rw take-pyramid (en ∙ sym (length-quarters r (fresh .pyramid)))
+
+  pub whole : length (take n p₁) ≡ needed r
+  whole = sym pyramid-part ∙ en
 
   pub serials-part : c ≡ length (take c s₁)
   serials-part = rw take-serials (ec ∙ sym (sheet .sized .serials))
@@ -82,10 +91,10 @@ module _ {r : ℕ} {g : List ℕ} (p : List ℤ) (s o : List ℕ) (h : AnewAsked
   order-part = rw take-order (ec ∙ sym (sheet .sized .order))
 
   abbrev lent : Halftone
-  lent = record { pyramid = take n p₁; serials = take c s₁; order = take c o₁; dots = 0 }
+  lent = record { pyramid = rowsFrom r (take n p₁); serials = take c s₁; order = take c o₁; dots = 0 }
 
   lent-is : lent ≡ modelStart r g
-  lent-is = λ i. record { pyramid = take-pyramid i; serials = take-serials i; order = take-order i; dots = no-dots i }
+  lent-is = λ i. record { pyramid = rows-pyramid i; serials = take-serials i; order = take-order i; dots = no-dots i }
     where
       no-dots : _≡_ {A = ℕ} 0 (modelStart r g .dots)
       no-dots = unfold modelStart in refl
@@ -93,9 +102,11 @@ module _ {r : ℕ} {g : List ℕ} (p : List ℤ) (s o : List ℕ) (h : AnewAsked
   pub run-asked : RunAsked r lent
   run-asked = record { power = h .lent .power; small = h .lent .small; sheet = rw lent-is sheet }
 
-  module _ (knit dots : ℕ) {made : ℕ} {p′ : List ℤ} {s′ o′ : List ℕ}
-      (ran : Ran knit r lent dots made (record { pyramid = p′; serials = s′; order = o′; dots = 0 + made })) where
-    after-is : record { pyramid = p′; serials = s′; order = o′; dots = 0 + made }
+  module _ (knit dots : ℕ) {made : ℕ} (p′ : List ℤ) {s′ o′ : List ℕ}
+      (long : length p′ ≡ length (take n p₁))
+      (ran : Ran knit r lent dots made
+      (record { pyramid = rowsFrom r p′; serials = s′; order = o′; dots = 0 + made })) where
+    after-is : record { pyramid = rowsFrom r p′; serials = s′; order = o′; dots = 0 + made }
         ≡ steps (kernelOf knit) r dots (modelStart r g)
     after-is =
         ran .after-is
@@ -106,9 +117,11 @@ module _ {r : ℕ} {g : List ℕ} (p : List ℤ) (s o : List ℕ) (h : AnewAsked
     pub made-anew : Restored knit r dots g p s o (p′ ++ drop n p₁) (s′ ++ drop c s₁) (o′ ++ drop c o₁)
     made-anew =
         record {
+          long = rw (← after-is) (length-rows r p′);
           pyramid =
               rw (← after-is, en, pyramid-is)
-              (ap (λ (l : List ℤ). p′ ++ l) (drop-at (fresh .pyramid) _ (needed r) (sheet .sized .pyramid)));
+              (ap₂ _++_ (sym (quarters-back r p′ (long ∙ whole)))
+              (drop-at (quartersFrom r (fresh .pyramid)) _ (needed r) (length-quarters r (fresh .pyramid))));
           serials =
               rw (← after-is, ec, serials-is)
               (ap (λ (l : List ℕ). s′ ++ l) (drop-at (fresh .serials) _ (cellCount r) (sheet .sized .serials)));

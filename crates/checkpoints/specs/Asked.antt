@@ -8,6 +8,7 @@ use lib.IntN.{ℤ}
 use Rattle.definition.specs.Pyramid.{needed, cellCount}
 use Rattle.definition.specs.Diffusion.{kernelOf}
 use Rattle.definition.specs.Model.{modelStart, steps}
+use Rattle.definition.specs.Quarters.{quartersFrom}
 use Rattle.definition.specs.Checkpoints.{isName, keptAt}
 use Rattle.definition.specs.declared.Checkpoints.{Checkpoints}
 use Rattle.fresh_sheet.specs.Filling.{FillLent}
@@ -29,9 +30,10 @@ pub record AnewAsked (r : ℕ) (greys : List ℕ) (pyramid serials order : ℕ) 
   pub lent : FillLent r (length greys) pyramid serials order
   pub bytes : (i : ℕ) → getD greys i 0 ≤ 255
 
--- the buffers with the model's sheet of so many dots over their needed lengths
+-- the buffers with the model's sheet of so many dots over their needed lengths, its pyramid by quarters
 pub record Restored (knit r dots : ℕ) (g : List ℕ) (p : List ℤ) (s o : List ℕ)
     (p′ : List ℤ) (s′ o′ : List ℕ) : Type 0 where
-  pub pyramid : p′ ≡ steps (kernelOf knit) r dots (modelStart r g) .pyramid ++ drop (needed r) p
+  pub long : length (steps (kernelOf knit) r dots (modelStart r g) .pyramid) ≡ needed r
+  pub pyramid : p′ ≡ quartersFrom r (steps (kernelOf knit) r dots (modelStart r g) .pyramid) ++ drop (needed r) p
   pub serials : s′ ≡ steps (kernelOf knit) r dots (modelStart r g) .serials ++ drop (cellCount r) s
   pub order : o′ ≡ steps (kernelOf knit) r dots (modelStart r g) .order ++ drop (cellCount r) o

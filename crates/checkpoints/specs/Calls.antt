@@ -1,15 +1,20 @@
 -- The two calls' ways out: refused, with nothing changed, and done.
 use mathlib.Core.Path.{_≡_, sym, _∙_}
-use mathlib.Core.Bool.{Bool, true, not}
-use mathlib.Core.List.{List, [], _∷_}
+use mathlib.Core.Bool.{Bool, true, false, not}
+use mathlib.Core.List.{List, [], _∷_, _++_}
 use Prim.Native.Nat.{ℕ, suc, _-_, _^_, _≤_, _<_}
 use native.Mathlib.Omega.{arith}
 use lib.Dec.{eqb}
 use borrow.Author.Tests.{not-false}
-use lib.ListN.{length, getD, set}
+use lib.ListN.{length, getD, set, drop}
 use lib.IntN.{ℤ}
 use Rattle.definition.specs.Answers.{checkpointSays, numberOf}
+use Rattle.definition.specs.Pyramid.{needed}
 use Rattle.definition.specs.Blocks.{greyTotal, totalOf}
+use Rattle.definition.specs.Diffusion.{kernelOf}
+use Rattle.definition.specs.Model.{modelStart, steps}
+use Rattle.definition.specs.Quarters.{quartersFrom, asRows, asQuarters}
+use Rattle.definition.specs.ByQuarters.{restoreByQuarters}
 use Rattle.definition.specs.QuotePage.{figures}
 use Rattle.definition.specs.Sound.{isSound}
 use Rattle.definition.specs.Refusals.{powerOf, sheetUnsound, lowest}
@@ -24,11 +29,12 @@ use Rattle.definition.specs.declared.CheckpointAnswer.{CheckpointAnswer}
 use Rattle.definition.specs.declared.CheckpointStatus.the-variants.{Done, Refused}
 use Rattle.refusals.specs.Lowest.{LoadLent, load-none, lowest-none}
 use Rattle.refusals.specs.Numbers.{number-positive}
+use Rattle.layouts.specs.Lent.{rows-length, rows-drop, as-quarters-part, quarters-rows}
 use Rattle.checks.specs.Checks.{checked, passed-none, failed-number}
 use Rattle.checks.specs.declared.Check.{Check}
 use Rattle.checks.specs.declared.Check.the-variants.{Passed, Failed}
 use Rattle.guarantee.specs.Quote.{figures-fit}
-use Rattle.sheet.specs.Sheets.{SheetLent}
+use Rattle.sheet.specs.Sheets.{SheetLent, shownRows}
 use Rattle.fresh_sheet.specs.Filling.{fill-lent}
 use Rattle.checkpoints.specs.Asked.{MapLent, CountAsked, AnewAsked, Restored}
 use Rattle.names.specs.Names.{kept-within}
@@ -70,7 +76,7 @@ module _ {r : ℕ} (small : r ≤ 8) (dots knit : ℕ) (checkpoints : Checkpoint
     (first : Check) (e : checked first ≡ loadRefusal r knit (length g) (length p) (length s) (length o)) where
   abbrev refusal : ℕ
   refusal =
-      restoreRefusal r knit (length g) (length p) (length s) (length o) (isSound r (sheetIn r dots p s o))
+      restoreRefusal r knit (length g) (length p) (length s) (length o) (isSound r (sheetIn r dots (asRows r p) s o))
       (canRestore checkpoints name (totalOf (greyTotal r g)))
 
   pub first-failed : {why : Refusal} → first ≡ Failed why → checked (Failed why) ≡ refusal
@@ -97,11 +103,12 @@ module _ {r : ℕ} (small : r ≤ 8) (dots knit : ℕ) (checkpoints : Checkpoint
           order-long = none-lent .order-long;
         }
 
-    pub last-checked : {sound : Bool} → sound ≡ isSound r (sheetIn r dots p s o)
+    pub last-checked : {sound : Bool} → sound ≡ isSound r (sheetIn r dots (shownRows false r p) s o)
         → {total : ℕ} → total ≡ totalOf (greyTotal r g)
         → {known : Bool} → known ≡ canRestore checkpoints name total
         → (last : Check) → checked last ≡ lowest (sheetUnsound sound ∷ nameUnknown known ∷ [])
         → checked last ≡ refusal
+    unfolding shownRows
     last-checked es et ek last q =
         rw (es, ek, et) at q
         ∙ sym (then-last r knit (length g) (length p) (length s) (length o) _ _ (passed-none first e passed))
@@ -137,16 +144,22 @@ module _ (progress : Progress) (checkpoints : Checkpoints) (name : ℕ) (g : Lis
     {r : ℕ} (er : r ≡ powerOf (progress .side)) (check : Check)
     (e : checked check
     ≡ restoreRefusal r (progress .knit) (length g) (length p) (length s) (length o)
-    (isSound r (sheetIn r (progress .dots) p s o))
+    (isSound r (sheetIn r (progress .dots) (asRows r p) s o))
     (canRestore checkpoints name (totalOf (greyTotal r g)))) where
   abbrev side-power : ℕ
   side-power = powerOf (progress .side)
 
+  abbrev rows : List ℤ
+  rows = asRows side-power p
+
   abbrev refusalOf : ℕ
   refusalOf =
-      restoreRefusal side-power (progress .knit) (length g) (length p) (length s) (length o)
-      (isSound side-power (sheetIn side-power (progress .dots) p s o))
+      restoreRefusal side-power (progress .knit) (length g) (length rows) (length s) (length o)
+      (isSound side-power (sheetIn side-power (progress .dots) rows s o))
       (canRestore checkpoints name (totalOf (greyTotal side-power g)))
+
+  check-rows : checked check ≡ refusalOf
+  check-rows = rw (rows-length side-power p, ← er) e
 
   pub restore-refused : {why : Refusal} {a : CheckpointAnswer} → check ≡ Failed why
       → a ≡ record { progress = progress; checkpoints = checkpoints; status = Refused why }
@@ -158,11 +171,11 @@ module _ (progress : Progress) (checkpoints : Checkpoints) (name : ℕ) (g : Lis
         serials = s;
         order = o;
       }
-      ≡ restoreOf progress checkpoints name g p s o
-  unfolding restoreOf checkpointSays
+      ≡ restoreByQuarters progress checkpoints name g p s o
+  unfolding restoreByQuarters restoreOf checkpointSays
   restore-refused {why} failed ea =
-      let n : refusalOf ≡ suc (numberOf why - 1) = rw (← er) (failed-number check e why failed) in
-      rw (ea, n, restoreOf, ← number-positive why)
+      let n : refusalOf ≡ suc (numberOf why - 1) = failed-number check check-rows why failed in
+      rw (ea, restoreByQuarters, n, restoreOf, quarters-rows side-power p, ← number-positive why)
 
   pub restore-done : check ≡ Passed → {dots : ℕ} → dots ≡ keptAt checkpoints name - 1
       → {p′ : List ℤ} {s′ o′ : List ℕ} → Restored (progress .knit) r dots g p s o p′ s′ o′
@@ -180,8 +193,13 @@ module _ (progress : Progress) (checkpoints : Checkpoints) (name : ℕ) (g : Lis
         serials = s′;
         order = o′;
       }
-      ≡ restoreOf progress checkpoints name g p s o
-  unfolding restoreOf restored checkpointSays
+      ≡ restoreByQuarters progress checkpoints name g p s o
+  unfolding restoreByQuarters restoreOf restored checkpointSays
   restore-done passed ed f ea =
-      let z : refusalOf ≡ 0 = rw (← er) (passed-none check e passed) in
-      rw (ea, f .pyramid, f .serials, f .order, ed, er, z, restoreOf)
+      let z : refusalOf ≡ 0 = passed-none check check-rows passed in
+      let count = keptAt checkpoints name - 1 in
+      let sheet = steps (kernelOf (progress .knit)) side-power count (modelStart side-power g) in
+      let back : asQuarters side-power (sheet .pyramid ++ drop (needed side-power) rows)
+      ≡ quartersFrom side-power (sheet .pyramid) ++ drop (needed side-power) p
+      = as-quarters-part side-power (sheet .pyramid) _ (rw (er, ed) at (f .long)) ∙ rw (rows-drop side-power p) in
+      rw (ea, f .pyramid, f .serials, f .order, ed, er, restoreByQuarters, z, restoreOf, back)

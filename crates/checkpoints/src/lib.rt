@@ -15,7 +15,10 @@ ghost use Rattle.definition.specs.Sound.{isSound};
 ghost use Rattle.definition.specs.Refusals.{sheetUnsound, lowest};
 ghost use Rattle.definition.specs.Advance.{sheetIn};
 ghost use Rattle.definition.specs.Checkpoints.{keptAt, nameUnknown, keepRefusal, keepOf};
-ghost use Rattle.definition.specs.Checkpoints.{canRestore, restoreRefusal, restoreOf};
+ghost use Rattle.definition.specs.Checkpoints.{canRestore, restoreRefusal};
+ghost use Rattle.definition.specs.Quarters.{asRows};
+ghost use Rattle.definition.specs.ByQuarters.{restoreByQuarters};
+ghost use Rattle.places.specs.Table.{places};
 ghost use Rattle.checks.specs.Checks.{checked};
 ghost use Rattle.checkpoints.specs.Asked.{MapLent, CountAsked, AnewAsked, Restored};
 
@@ -103,18 +106,20 @@ fn check_restore(
     knit: u32,
     checkpoints: Checkpoints,
     name: u32,
+    table: &[u16; 1024],
     greys: &[u8],
     pyramid: &[i64],
     serials: &[u32],
     order: &[u32],
 ) -> Check
     requires { ⌜ r ≤ 8 ⌝ }
+    requires { ⌜ now table ≡ places ⌝ }
     ensures { λ c. ⌜
         checked c
         ≡ restoreRefusal r knit
         (length (now (greys .entry))) (length (now (pyramid .entry)))
         (length (now (serials .entry))) (length (now (order .entry)))
-        (isSound r (sheetIn r dots (now (pyramid .entry)) (now (serials .entry)) (now (order .entry))))
+        (isSound r (sheetIn r dots (asRows r (now (pyramid .entry))) (now (serials .entry)) (now (order .entry))))
         (canRestore checkpoints name (totalOf (greyTotal r (now (greys .entry)))))
         ⌝ }
 {
@@ -128,7 +133,7 @@ fn check_restore(
     ) {
         Check::Failed(why) => Check::Failed(why),
         Check::Passed => {
-            let sound = sheet::sound_lent(r, dots, pyramid, serials, order);
+            let sound = sheet::sound_lent(r, dots, false, table, pyramid, serials, order);
             let known = names::can_restore(checkpoints, name, total_dots(r, greys));
             check_last(sound, known)
         }
@@ -148,25 +153,28 @@ fn restore_sheet(
     knit: u32,
     r: usize,
     dots: u32,
+    table: &[u16; 1024],
     greys: &[u8],
     pyramid: &mut [i64],
     serials: &mut [u32],
     order: &mut [u32],
 )
     requires { ⌜ AnewAsked r (now greys) (length (now pyramid)) (length (now serials)) (length (now order)) ⌝ }
+    requires { ⌜ now table ≡ places ⌝ }
     ensures { λ _. ⌜
         Restored knit r dots
         (now (greys .entry)) (now (pyramid .entry)) (now (serials .entry)) (now (order .entry))
         (now (pyramid .exit)) (now (serials .exit)) (now (order .exit))
         ⌝ }
 {
-    fresh_sheet::fill(r, greys, pyramid, serials, order);
+    fresh_sheet::fill(r, table, greys, pyramid, serials, order);
     let needed = sizes::needed(r);
     let cells = sizes::cell_count(r);
     let _ = dot_run::run(
         &mut pyramid[..needed],
         &mut serials[..cells],
         &mut order[..cells],
+        table,
         knit,
         r,
         0,
@@ -193,10 +201,11 @@ pub fn restore(
           serials = now (serials .exit);
           order = now (order .exit);
         }
-        ≡ restoreOf progress checkpoints name
+        ≡ restoreByQuarters progress checkpoints name
         (now (greys .entry)) (now (pyramid .entry)) (now (serials .entry)) (now (order .entry))
         ⌝ }
 {
+    let table = places::table();
     let r = sizes::power_of(progress.side);
     match check_restore(
         r,
@@ -204,6 +213,7 @@ pub fn restore(
         progress.knit,
         checkpoints,
         name,
+        &table,
         greys,
         pyramid,
         serials,
@@ -213,7 +223,7 @@ pub fn restore(
         Check::Passed => {
             let dots = kept_dots(checkpoints, name);
             let knit = progress.knit;
-            restore_sheet(knit, r, dots, greys, pyramid, serials, order);
+            restore_sheet(knit, r, dots, &table, greys, pyramid, serials, order);
             let side = progress.side;
             done(Progress { side, dots, knit }, checkpoints)
         }

@@ -36,6 +36,8 @@ use Rattle.definition.specs.declared.ShelfAnswer.{ShelfAnswer}
 use Rattle.definition.specs.declared.ShelfAnswer.the-variants as Shelf
 use Rattle.definition.specs.declared.CheckpointStatus.{CheckpointStatus}
 use Rattle.definition.specs.declared.CheckpointStatus.the-variants as Checkpoint
+use Rattle.definition.specs.declared.RelayAnswer.{RelayAnswer}
+use Rattle.definition.specs.declared.RelayAnswer.the-variants as Relay
 
 -- How the left of two plates stands to the right one (document 02, request 6): before it, the same, or after it; where
 -- a cell decides, with its row and column.
@@ -127,3 +129,8 @@ shelfSays (Shelf.Refused why) = refused (numberOf why)
 unfoldable pub checkpointSays : CheckpointStatus → Said
 checkpointSays Checkpoint.Done = returned []
 checkpointSays (Checkpoint.Refused why) = refused (numberOf why)
+
+-- Relay of document 02: nothing or a number
+unfoldable pub relaySays : RelayAnswer → Said
+relaySays Relay.Relaid = returned []
+relaySays (Relay.Refused why) = refused (numberOf why)

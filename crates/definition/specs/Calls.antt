@@ -10,8 +10,8 @@ use Rattle.definition.specs.Answers.{Said, returned, finished, more, com
 use Rattle.definition.specs.Diffusion.{kernelOf}
 use Rattle.definition.specs.Model.{Halftone, topOf, steps}
 use Rattle.definition.specs.Refusals.{pyramidShort, sheetShort, lowest}
-use Rattle.definition.specs.Load.{loadOf}
-use Rattle.definition.specs.Advance.{Reply, AdvanceOutcome, saidAt, advanceOf}
+use Rattle.definition.specs.Advance.{Reply, AdvanceOutcome, saidAt}
+use Rattle.definition.specs.ByQuarters.{loadByQuarters, advanceByQuarters}
 use Rattle.definition.specs.declared.Progress.{Progress}
 
 -- An Advance call: "their budgets and the lengths of the buffers lent", from the first place on (the whole buffer, if it is shorter).
@@ -31,14 +31,14 @@ pub record Held : Type 0 where
 -- after Load
 unfoldable pub heldAfterLoad : ℕ → ℕ → List ℕ → List ℤ → List ℕ → List ℕ → Held
 heldAfterLoad side knit greys pyramid serials order =
-    let out = loadOf side knit greys pyramid serials order in
+    let out = loadByQuarters side knit greys pyramid serials order in
     record { progress = out .progress; pyramid = out .pyramid; serials = out .serials; order = out .order }
 
 -- "Each Advance is lent the same buffers from their first place on, whole or a shorter part, and given the record that the call before it
 -- returned": what was lent comes back in front of what wasn't
 unfoldable pub callOf : Held → Call → AdvanceOutcome
 callOf held call =
-    let out = advanceOf (held .progress) (call .budget)
+    let out = advanceByQuarters (held .progress) (call .budget)
     (take (call .pyramidLent) (held .pyramid)) (take (call .serialsLent) (held .serials)) (take (call .orderLent) (held .order)) in
     record {
       reply = out .reply;

@@ -5,8 +5,8 @@ use mathlib.Core.List.{List, [], _∷_}
 use Prim.Native.Nat.{ℕ}
 use lib.IntN.{ℤ, pos, negsuc}
 
--- the map of side 4, and what Load and Advance leave: the order list, the serial sheet, the pyramid;
--- then the sums of Levels
+-- the map of side 4, and what Load and Advance leave: the order list, the serial sheet, the pyramid
+-- row after row and by quarters; then the sums of Levels
 unfoldable pub greys4 : List ℕ
 greys4 =
     61 ∷ 233 ∷ 156 ∷ 237 ∷ 12 ∷ 219
@@ -33,6 +33,14 @@ pyramid4 =
     negsuc 2815 ∷ pos 837 ∷ negsuc 11041 ∷ pos 12117 ∷ negsuc 4727 ∷ pos 13295
     ∷ negsuc 9204 ∷ pos 0 ∷ negsuc 7376 ∷ pos 435 ∷ negsuc 3687 ∷ pos 7795
     ∷ negsuc 11459 ∷ negsuc 496 ∷ negsuc 9273 ∷ negsuc 16867 ∷ pos 0 ∷ pos 21888
+    ∷ pos 0 ∷ pos 21267 ∷ negsuc 9126
+    ∷ []
+
+unfoldable pub quarters4 : List ℤ
+quarters4 =
+    negsuc 2815 ∷ pos 837 ∷ negsuc 11041 ∷ pos 12117 ∷ negsuc 4727 ∷ pos 13295
+    ∷ negsuc 9204 ∷ pos 435 ∷ negsuc 3687 ∷ pos 0 ∷ negsuc 7376 ∷ pos 7795
+    ∷ negsuc 11459 ∷ negsuc 496 ∷ negsuc 9273 ∷ pos 21888 ∷ pos 0 ∷ negsuc 16867
     ∷ pos 0 ∷ pos 21267 ∷ negsuc 9126
     ∷ []
 
@@ -107,6 +115,25 @@ pyramid8 =
     ∷ pos 13824
     ∷ []
 
+unfoldable pub quarters8 : List ℤ
+quarters8 =
+    negsuc 14335 ∷ negsuc 4094 ∷ negsuc 7157 ∷ pos 9664 ∷ negsuc 12746 ∷ pos 11376
+    ∷ negsuc 13599 ∷ negsuc 9775 ∷ pos 7905 ∷ pos 3104 ∷ pos 12992 ∷ negsuc 18357
+    ∷ negsuc 4895 ∷ pos 2496 ∷ negsuc 5705 ∷ pos 17152 ∷ negsuc 4277 ∷ pos 8720
+    ∷ negsuc 16875 ∷ negsuc 10505 ∷ pos 5915 ∷ pos 7680 ∷ pos 0 ∷ pos 7840
+    ∷ negsuc 4143 ∷ negsuc 1343 ∷ pos 0 ∷ pos 4576 ∷ negsuc 16831 ∷ pos 0
+    ∷ negsuc 4383 ∷ negsuc 10847 ∷ pos 5456 ∷ pos 11008 ∷ negsuc 3209 ∷ negsuc 3711
+    ∷ pos 3819 ∷ negsuc 11071 ∷ pos 9216 ∷ negsuc 5919 ∷ pos 10880 ∷ pos 12442
+    ∷ pos 0 ∷ pos 15629 ∷ negsuc 15078 ∷ negsuc 12309 ∷ negsuc 1930 ∷ pos 0
+    ∷ negsuc 4116 ∷ pos 15232 ∷ pos 0 ∷ negsuc 8671 ∷ negsuc 11455 ∷ negsuc 6271
+    ∷ negsuc 191 ∷ pos 2560 ∷ pos 6400 ∷ negsuc 1279 ∷ negsuc 9503 ∷ pos 2304
+    ∷ pos 2774 ∷ pos 17920 ∷ pos 3072 ∷ negsuc 3839 ∷ pos 0 ∷ pos 12384
+    ∷ negsuc 13013 ∷ negsuc 3647 ∷ pos 0 ∷ pos 2751 ∷ pos 18145 ∷ negsuc 3787
+    ∷ negsuc 8387 ∷ negsuc 4927 ∷ pos 0 ∷ negsuc 4715 ∷ negsuc 7231 ∷ negsuc 9315
+    ∷ pos 0 ∷ negsuc 3852 ∷ pos 2663 ∷ negsuc 4248 ∷ pos 0 ∷ negsuc 3659
+    ∷ pos 13824
+    ∷ []
+
 unfoldable pub levels8 : List ℕ
 levels8 =
     3136 ∷ 41072 ∷ 83234 ∷ 473408 ∷ 0 ∷ 0
@@ -143,6 +170,14 @@ pyramidFlat4 =
     ∷ negsuc 7065 ∷ negsuc 1962 ∷ negsuc 4444
     ∷ []
 
+unfoldable pub quartersFlat4 : List ℤ
+quartersFlat4 =
+    pos 3840 ∷ negsuc 12544 ∷ pos 43262 ∷ negsuc 14704 ∷ negsuc 12171 ∷ negsuc 4363
+    ∷ negsuc 1036 ∷ negsuc 912 ∷ negsuc 6230 ∷ negsuc 5178 ∷ pos 0 ∷ pos 53399
+    ∷ negsuc 4957 ∷ negsuc 6724 ∷ pos 0 ∷ negsuc 913 ∷ negsuc 7065 ∷ negsuc 5763
+    ∷ pos 0 ∷ negsuc 1962 ∷ negsuc 4444
+    ∷ []
+
 unfoldable pub levelsFlat4 : List ℕ
 levelsFlat4 =
     225 ∷ 48825 ∷ 60975 ∷ 0 ∷ 0 ∷ 0
@@ -150,7 +185,7 @@ levelsFlat4 =
     ∷ []
 
 -- ribbed: the map of side 2 with four greys of 128, and those of side 4 and side 8 above; of each the order
--- list, the serial sheet and the pyramid
+-- list, the serial sheet and the pyramid, likewise
 unfoldable pub orderRibbed2 : List ℕ
 orderRibbed2 =
     0 ∷ 3 ∷ 0 ∷ 0
@@ -185,6 +220,14 @@ pyramidRibbed4 =
     negsuc 2815 ∷ pos 1247 ∷ negsuc 11024 ∷ pos 10717 ∷ negsuc 3754 ∷ pos 13739
     ∷ negsuc 12701 ∷ pos 0 ∷ negsuc 9841 ∷ pos 210 ∷ pos 0 ∷ pos 10465
     ∷ negsuc 11647 ∷ pos 4000 ∷ negsuc 12791 ∷ negsuc 13023 ∷ pos 0 ∷ pos 19509
+    ∷ pos 0 ∷ pos 21941 ∷ negsuc 12671
+    ∷ []
+
+unfoldable pub quartersRibbed4 : List ℤ
+quartersRibbed4 =
+    negsuc 2815 ∷ pos 1247 ∷ negsuc 11024 ∷ pos 10717 ∷ negsuc 3754 ∷ pos 13739
+    ∷ negsuc 12701 ∷ pos 210 ∷ pos 0 ∷ pos 0 ∷ negsuc 9841 ∷ pos 10465
+    ∷ negsuc 11647 ∷ pos 4000 ∷ negsuc 12791 ∷ pos 19509 ∷ pos 0 ∷ negsuc 13023
     ∷ pos 0 ∷ pos 21941 ∷ negsuc 12671
     ∷ []
 
@@ -234,5 +277,24 @@ pyramidRibbed8 =
     ∷ negsuc 14399 ∷ pos 8704 ∷ negsuc 13652 ∷ pos 22016 ∷ negsuc 10473 ∷ pos 0
     ∷ negsuc 9791 ∷ negsuc 9791 ∷ pos 0 ∷ negsuc 10282 ∷ pos 0 ∷ negsuc 6570
     ∷ pos 0 ∷ negsuc 6122 ∷ pos 20992 ∷ pos 11008 ∷ negsuc 383 ∷ pos 4608
+    ∷ pos 10837
+    ∷ []
+
+unfoldable pub quartersRibbed8 : List ℤ
+quartersRibbed8 =
+    negsuc 14335 ∷ negsuc 11397 ∷ negsuc 7032 ∷ pos 3989 ∷ pos 106 ∷ pos 12232
+    ∷ negsuc 11696 ∷ negsuc 12060 ∷ pos 128 ∷ pos 5745 ∷ pos 14592 ∷ negsuc 22591
+    ∷ negsuc 4777 ∷ pos 7253 ∷ negsuc 13311 ∷ pos 4971 ∷ pos 5077 ∷ pos 7424
+    ∷ negsuc 13311 ∷ pos 832 ∷ pos 5162 ∷ pos 7680 ∷ pos 0 ∷ pos 3272
+    ∷ pos 1280 ∷ negsuc 6199 ∷ pos 0 ∷ pos 13824 ∷ negsuc 19320 ∷ pos 0
+    ∷ negsuc 1336 ∷ negsuc 15416 ∷ pos 4693 ∷ pos 4800 ∷ pos 0 ∷ pos 0
+    ∷ negsuc 4671 ∷ negsuc 15928 ∷ pos 5717 ∷ negsuc 170 ∷ pos 16128 ∷ pos 9088
+    ∷ pos 0 ∷ pos 27136 ∷ negsuc 21631 ∷ negsuc 17471 ∷ pos 1280 ∷ pos 0
+    ∷ negsuc 6399 ∷ pos 12032 ∷ pos 0 ∷ pos 1280 ∷ negsuc 18089 ∷ negsuc 9130
+    ∷ pos 7424 ∷ pos 2560 ∷ pos 6400 ∷ negsuc 4607 ∷ pos 0 ∷ negsuc 8511
+    ∷ negsuc 191 ∷ pos 22016 ∷ negsuc 10473 ∷ negsuc 6570 ∷ pos 0 ∷ pos 0
+    ∷ negsuc 9791 ∷ negsuc 6122 ∷ pos 20992 ∷ negsuc 2495 ∷ pos 24320 ∷ pos 0
+    ∷ negsuc 14399 ∷ negsuc 8362 ∷ pos 0 ∷ pos 8704 ∷ negsuc 13652 ∷ negsuc 9791
+    ∷ pos 0 ∷ pos 11008 ∷ negsuc 383 ∷ negsuc 10282 ∷ pos 0 ∷ pos 4608
     ∷ pos 10837
     ∷ []

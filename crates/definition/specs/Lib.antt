@@ -5,6 +5,7 @@ pub mod Blocks
 pub mod Descent
 pub mod Diffusion
 pub mod Model
+pub mod Quarters
 pub mod Sound
 pub mod Refusals
 pub mod Load
@@ -21,10 +22,12 @@ pub mod Quote
 pub mod Shelf
 pub mod Calls
 pub mod Checkpoints
+pub mod ByQuarters
 pub mod Stages
 pub mod Expected
 pub mod PlateTools
 pub mod StagePlates
 pub mod KnitPlates
 pub mod SpreadPlates
+pub mod LayoutPlates
 pub mod Plates

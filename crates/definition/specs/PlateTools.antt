@@ -12,6 +12,7 @@ use Rattle.definition.specs.Pyramid.{needed, cellCount}
 use Rattle.definition.specs.Diffusion.{Kernel, plain, kernelOf, weightAt, share}
 use Rattle.definition.specs.Model.{Halftone, modelStart}
 use Rattle.definition.specs.Advance.{Reply}
+use Rattle.definition.specs.Quarters.{asRows}
 use Rattle.definition.specs.Calls.{
   Call,
   Held,
@@ -88,13 +89,13 @@ answersOn knit r greys budgets expected =
     replied expected (repliesOf (loadedOn knit r greys) (callsOf r budgets))
     && replied expected (modelReplies knit r (modelStart r greys) (callsOf r budgets))
 
--- they leave this pyramid, these serials, this order, with the 9s behind them, and so does the model; and the record
--- keeps its side and knit
+-- they leave this pyramid, written row after row, these serials, this order, with the 9s behind them, and so does the
+-- model; and the record keeps its side and knit
 unfoldable pub leavesOn : ℕ → ℕ → List ℕ → List ℕ → List ℤ → List ℕ → List ℕ → Bool
 leavesOn knit r greys budgets pyramid serials order =
     let held = afterOn knit r greys budgets in
     let model = modelAfterOn knit r greys budgets in
-    sameZ (held .pyramid) (pyramid ++ pos 9 ∷ []) && sameZ (model .pyramid) pyramid
+    sameZ (asRows r (held .pyramid)) (pyramid ++ pos 9 ∷ []) && sameZ (model .pyramid) pyramid
     && same (held .serials) (serials ++ 9 ∷ []) && same (model .serials) serials
     && same (held .order) (order ++ 9 ∷ []) && same (model .order) order
     && eqb (held .progress .side) (2 ^ r) && eqb (held .progress .knit) knit

@@ -1,5 +1,6 @@
 -- Document 01's plates: P1 to P12 as one table; further plates, whose figures the reference wrote, as another; as a
--- third a row for each sentence that these leave open; and those of `StagePlates`, `KnitPlates` and `SpreadPlates`.
+-- third a row for each sentence that these leave open; and those of `StagePlates`, `KnitPlates`, `SpreadPlates` and
+-- `LayoutPlates`.
 -- One proof computes all of it on the definitions. Rows that make holes ask the calls and the model.
 use mathlib.Core.Path.{_≡_, refl}
 use mathlib.Core.Bool.{Bool, true, false, cond, not, _&&_}
@@ -61,6 +62,27 @@ use Rattle.definition.specs.Shelf.{
   inOrder,
   shelfRefusal,
   shelfOf,
+}
+use Rattle.definition.specs.Quarters.{
+  interleaved,
+  rowOf,
+  columnOf,
+  quarterEntry,
+  quarterLevel,
+  rowsFrom,
+  quartersFrom,
+  relaid,
+  asRows,
+  asQuarters,
+}
+use Rattle.definition.specs.ByQuarters.{
+  loadByQuarters,
+  advanceByQuarters,
+  drillListByQuarters,
+  restoreByQuarters,
+  renewalByQuarters,
+  relayRefusal,
+  relayOf,
 }
 use Rattle.definition.specs.Calls.{
   heldAfterLoad,
@@ -146,6 +168,16 @@ use Rattle.definition.specs.StagePlates.{
 }
 use Rattle.definition.specs.KnitPlates.{keepsKnit, otherCell, knitPlates}
 use Rattle.definition.specs.SpreadPlates.{spreads, spreadPlates}
+use Rattle.definition.specs.LayoutPlates.{
+  advances4,
+  lists4,
+  restores4,
+  apart,
+  renewsQuarters8,
+  relays4,
+  relayRefused,
+  layoutPlates,
+}
 use Rattle.definition.specs.declared.Progress.{Progress}
 use Rattle.definition.specs.declared.Refusal.the-variants as Refusal
 use Rattle.definition.specs.Expected.{
@@ -153,11 +185,13 @@ use Rattle.definition.specs.Expected.{
   order4,
   serials4,
   pyramid4,
+  quarters4,
   levels4,
   greys8,
   order8,
   serials8,
   pyramid8,
+  quarters8,
   levels8,
   greysFlat4,
   orderFlat4,
@@ -173,6 +207,7 @@ use Rattle.definition.specs.Expected.{
   orderRibbed8,
   serialsRibbed8,
   pyramidRibbed8,
+  quartersRibbed8,
 }
 
 -- a map of side 2 with the sum of greys G comes to n holes, and so does the price list's floor((2G + 255) / 510)
@@ -588,11 +623,12 @@ firstFailing [] = 0
 firstFailing (row ∷ rows) = elim (row .1) [ true ↦ firstFailing rows | false ↦ row .0 ]
 
 abbrev pub allPlates : List Row
-allPlates = plates ++ furtherPlates ++ singlePlates ++ stagePlates ++ knitPlates ++ spreadPlates
+allPlates =
+    plates ++ furtherPlates ++ singlePlates ++ stagePlates ++ knitPlates ++ spreadPlates ++ layoutPlates
 
 -- no row is lost
-pub plates-there : length allPlates ≡ 166
-unfolding plates furtherPlates singlePlates stagePlates knitPlates spreadPlates
+pub plates-there : length allPlates ≡ 190
+unfolding plates furtherPlates singlePlates stagePlates knitPlates spreadPlates layoutPlates
 plates-there = refl
 
 pub plates-hold : firstFailing allPlates ≡ 0
@@ -622,6 +658,10 @@ unfolding sumTo sumZTo allTo tabulateFrom joined repeated eqZ numberOf start pla
     keepRefusal keepOf canRestore restoreRefusal restored restoreOf keeps keepRefuses restoresP3 isAfter
     goesBackOn staysThereOn restores twoKept callerAtFirst returnOf callerAfter act callerAfterAll memoryAtFirst
     sheetAt isKept modelReturnRefusal orElse modelReturn modelAct memoryAfterAll countOf countsOf leavesStageOn
-    keptThree stagePlates keepsKnit otherCell knitPlates spreads spreadPlates plates furtherPlates singlePlates
-    firstFailing
+    keptThree stagePlates keepsKnit otherCell knitPlates spreads spreadPlates interleaved rowOf columnOf quarterEntry
+    quarterLevel rowsFrom quartersFrom relaid asRows asQuarters loadByQuarters advanceByQuarters drillListByQuarters
+    restoreByQuarters renewalByQuarters relayRefusal relayOf quarters4 quarters8 quartersRibbed8 advances4 lists4
+    restores4
+    apart
+    renewsQuarters8 relays4 relayRefused layoutPlates plates furtherPlates singlePlates firstFailing
 plates-hold = refl

@@ -8,7 +8,8 @@ use lib.IntN.{pos}
 use Rattle.definition.specs.Answers.{Said}
 use Rattle.definition.specs.Diffusion.{plain, ribbed}
 use Rattle.definition.specs.Refusals.{Row}
-use Rattle.definition.specs.Checkpoints.{keepOf, RestoreOutcome, restoreOf}
+use Rattle.definition.specs.Checkpoints.{keepOf, RestoreOutcome}
+use Rattle.definition.specs.ByQuarters.{restoreByQuarters}
 use Rattle.definition.specs.Stages.{
   Action,
   advancing,
@@ -43,7 +44,7 @@ keepRefuses side dots kept name number =
 unfoldable pub restoresP3 : ℕ → List ℕ → List ℕ → List ℕ → ℕ → RestoreOutcome
 restoresP3 knit budgets greys kept name =
     let held = afterOn knit 1 p3 budgets in
-    restoreOf (held .progress) (record { kept = kept }) name greys (held .pyramid) (held .serials) (held .order)
+    restoreByQuarters (held .progress) (record { kept = kept }) name greys (held .pyramid) (held .serials) (held .order)
 
 -- all its buffers, whole, and its record are those of these greys after these budgets, and the value stays
 unfoldable pub isAfter : RestoreOutcome → ℕ → List ℕ → List ℕ → List ℕ → Bool
@@ -79,7 +80,7 @@ unfoldable pub restores : ℕ → ℕ → ℕ → ℕ → ℕ → ℕ → ℕ �
 restores side knit g p s o top kept name =
     let record₀ : Progress = record { side = side; dots = 0; knit = knit } in
     let value : Checkpoints = record { kept = kept ∷ replicate 7 0 } in
-    restoreOf record₀ value name (replicate g 0) (topOnly p top) (replicate s 0) (replicate o 0) .said
+    restoreByQuarters record₀ value name (replicate g 0) (topOnly p top) (replicate s 0) (replicate o 0) .said
 
 -- eight names, of which only the last two are kept: with no dot, and with one
 unfoldable pub twoKept : List ℕ

@@ -12,7 +12,8 @@ use Rattle.definition.specs.Model.{Halftone, modelStart}
 use Rattle.definition.specs.Refusals.{greysShort, pyramidShort, sheetShort, lowest}
 use Rattle.definition.specs.Advance.{Reply}
 use Rattle.definition.specs.Calls.{Call, Held, heldAfterLoad, callOf, heldAfter, modelCall, modelReply}
-use Rattle.definition.specs.Checkpoints.{isName, nameUnknown, keepOf, RestoreOutcome, restoreOf}
+use Rattle.definition.specs.Checkpoints.{isName, nameUnknown, keepOf, RestoreOutcome}
+use Rattle.definition.specs.ByQuarters.{restoreByQuarters}
 use Rattle.definition.specs.declared.Progress.{Progress}
 use Rattle.definition.specs.declared.Checkpoints.{Checkpoints}
 
@@ -54,7 +55,7 @@ callerAtFirst side knit greys pyramid serials order =
 unfoldable pub returnOf : List ℕ → Caller → Return → RestoreOutcome
 returnOf greys caller b =
     let held = caller .held in
-    let out = restoreOf (held .progress) (caller .checkpoints) (b .name)
+    let out = restoreByQuarters (held .progress) (caller .checkpoints) (b .name)
     (take (b .greysLent) greys) (take (b .pyramidLent) (held .pyramid))
     (take (b .serialsLent) (held .serials)) (take (b .orderLent) (held .order)) in
     record {

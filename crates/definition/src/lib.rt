@@ -120,3 +120,9 @@ pub struct CheckpointAnswer {
     pub checkpoints: Checkpoints,
     pub status: CheckpointStatus,
 }
+
+// Whether Relay wrote the second pyramid.
+pub enum RelayAnswer {
+    Relaid,
+    Refused(Refusal),
+}

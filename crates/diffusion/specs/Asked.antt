@@ -1,4 +1,5 @@
--- What the functions of this crate are asked, and what one turn of the diffusion gives.
+-- What the functions of this crate are asked, and what one turn of the diffusion gives. The cells lie by quarters; how
+-- large they are is asked of them written row after row.
 use mathlib.Core.Path.{_≡_}
 use mathlib.Core.Logic.{_≢_}
 use mathlib.Core.Bool.{true, false}
@@ -9,7 +10,9 @@ use lib.ListN.{length, getD, set}
 use lib.IntN.{ℤ, pos, _-ℤ_}
 use lib.Signed.{_≤ℤ_}
 use Rattle.definition.specs.Pyramid.{oneDot, cellCount, placeIn, inLevel}
+use Rattle.definition.specs.Quarters.{interleaved}
 use Rattle.definition.specs.Diffusion.{rowNear, columnNear}
+use Rattle.layouts.specs.Cells.{rowsLevel}
 use Rattle.pyramid.specs.Asked.{Within}
 
 -- the cells with s taken off the neighbour at place p, if its weight w isn't 0
@@ -38,18 +41,19 @@ pub record ShareAsked (cells : List ℤ) (r row column p w s : ℕ) : Type 0 whe
       × (1 ≤ columnNear column p) × (columnNear column p ≤ 2 ^ r)
   pub fair : s ≤ 2 ^ 46
   pub whole : length cells ≡ cellCount r
-  pub small : (i : ℕ) → Within (2 ^ 60) (getD cells i (pos 0))
+  pub small : (i : ℕ) → Within (2 ^ 60) (getD (rowsLevel r cells) i (pos 0))
 
 -- d to take from the neighbours of a cell
 pub record DiffuseAsked (cells : List ℤ) (r row column d : ℕ) : Type 0 where
   pub cell : CellAsked r row column
   pub whole : length cells ≡ cellCount r
-  pub small : (i : ℕ) → Within (2 ^ 40) (getD cells i (pos 0))
+  pub small : (i : ℕ) → Within (2 ^ 40) (getD (rowsLevel r cells) i (pos 0))
   pub fair : d ≤ 2 ^ 41
 
--- a dot to place at a cell, whose residual is at most one dot's worth
-pub record PlaceAsked (cells : List ℤ) (r row column : ℕ) : Type 0 where
+-- a dot to place at a cell, at its place, whose residual is at most one dot's worth
+pub record PlaceAsked (cells : List ℤ) (r at row column : ℕ) : Type 0 where
   pub cell : CellAsked r row column
   pub whole : length cells ≡ cellCount r
-  pub small : (i : ℕ) → Within (2 ^ 40) (getD cells i (pos 0))
-  pub owed : inLevel r cells row column ≤ℤ pos oneDot
+  pub small : (i : ℕ) → Within (2 ^ 40) (getD (rowsLevel r cells) i (pos 0))
+  pub owed : inLevel r (rowsLevel r cells) row column ≤ℤ pos oneDot
+  pub place : at ≡ interleaved r row column

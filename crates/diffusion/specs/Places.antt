@@ -1,15 +1,21 @@
--- Places of a map: where a cell lies among the cells, and that the numbers on the way to it are small.
-use mathlib.Core.Path.{_≡_}
+-- Places of a map: where a cell lies among the cells by quarters, and that the numbers on the way to it are small.
+use mathlib.Core.Path.{_≡_, sym, ap, _∙_}
+use mathlib.Core.List.{List}
 use Prim.Native.Nat.{ℕ, _+_, _*_, _/_, _%_, _^_, _≤_, _<_}
 use native.Mathlib.Omega.{arith}
-use native.Mathlib.Nat.{mul-le-mul, mul-le-mul-right, suc-mul}
 use lib.Pow.{pow-mono}
+use lib.ListN.{length, getD, set}
+use lib.IntN.{ℤ, pos}
 use mir.Syntax.{w64}
 use mir.Val.{Fits}
-use Rattle.definition.specs.Pyramid.{cellCount}
+use Rattle.definition.specs.Pyramid.{cellCount, placeIn, inLevel}
+use Rattle.definition.specs.Quarters.{interleaved}
+use Rattle.quadtree.specs.Levels.{cells-few}
+use Rattle.layouts.specs.Interleaved.{interleaved-lt}
+use Rattle.layouts.specs.Cells.{rowsLevel, rows-in, rows-set}
 use Rattle.diffusion.specs.Asked.{CellAsked}
 
-side-small : (r : ℕ) → r ≤ 8 → 2 ^ r ≤ 256
+pub side-small : (r : ℕ) → r ≤ 8 → 2 ^ r ≤ 256
 side-small r h = pow-mono {i = r} {j = 8} h
 
 -- the row and the column of place p of the nine around a cell, counted from one before the map
@@ -20,24 +26,21 @@ module _ (r row column p : ℕ) where
   pub column-fits : CellAsked r row column → Fits w64 (column + p % 3)
   column-fits h = record { fits = omega (arith, side-small r (h .most), h .left) }
 
--- cell (x, y)
-module _ (r x y side : ℕ) (most : r ≤ 8) (e : side ≡ 2 ^ r) (a : x < 2 ^ r) (b : y < 2 ^ r) where
-  under : x * side + y < 2 ^ r * 2 ^ r
-  under = rw e (omega (arith, mul-le-mul-right (2 ^ r) a, suc-mul x (2 ^ r)))
+pub ruleset near-fits = (row-fits, column-fits)
 
-  few : 2 ^ r * 2 ^ r ≤ 65536
-  few = mul-le-mul (side-small r most) (side-small r most)
+-- a place of a map
+module _ (r x y at : ℕ) (e : at ≡ interleaved r x y) where
+  pub place-in : {size : ℕ} → size ≡ cellCount r → at < size
+  place-in l = omega (arith, interleaved-lt r x y)
 
-  pub place-fits : Fits w64 (x * side + y)
-  place-fits = record { fits = omega (arith, under, few) }
+  pub bytes-fit : r ≤ 8 → Fits w64 (at * 8)
+  bytes-fit most = record { fits = omega (arith, interleaved-lt r x y, cells-few r most) }
 
-  pub bytes-fit : Fits w64 ((x * side + y) * 8)
-  bytes-fit = record { fits = omega (arith, under, few) }
+  -- what is read and stored there is read and stored row after row
+  module _ (cells : List ℤ) (a : x < 2 ^ r) (b : y < 2 ^ r) where
+    pub read-there : inLevel r (rowsLevel r cells) x y ≡ getD cells at (pos 0)
+    read-there = rows-in r cells x y a b ∙ ap (λ (i : ℕ). getD cells i (pos 0)) (sym e)
 
-  pub place-in : {size : ℕ} → size ≡ cellCount r → x * side + y < size
-  place-in l = omega (arith, under)
-
-pub rows-fit : (r x side : ℕ) → r ≤ 8 → side ≡ 2 ^ r → x < 2 ^ r → Fits w64 (x * side)
-rows-fit r x side most e a = record { fits = omega (arith, under r x x side most e a a, few r x x side most e a a) }
-
-pub ruleset places = (rows-fit, place-fits, bytes-fit, place-in)
+    pub stored-there : length cells ≡ cellCount r → (v : ℤ)
+        → rowsLevel r (set cells at v) ≡ set (rowsLevel r cells) (placeIn r x y) v
+    stored-there long v = ap (λ (i : ℕ). rowsLevel r (set cells i v)) e ∙ rows-set r cells x y v long a b

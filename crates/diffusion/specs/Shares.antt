@@ -1,5 +1,5 @@
 -- A share, and what taking it off a neighbour does.
-use mathlib.Core.Path.{_≡_, sym, ap, _∙_}
+use mathlib.Core.Path.{_≡_, sym, _∙_}
 use mathlib.Core.Logic.{_≢_}
 use mathlib.Core.List.{List, [], _∷_}
 use Prim.Native.Nat.{ℕ, zero, suc, _+_, _*_, _-_, _/_, _%_, _^_, _≤_, _<_}
@@ -7,18 +7,22 @@ use native.Mathlib.Omega.{arith}
 use native.Mathlib.Nat.{mul-le-mul, mul-le-mul-left, div-le-self}
 use native.Mathlib.Decide.{ℕ-discrete}
 use borrow.Author.Tests.{eq-eqb, ne-eqb}
-use lib.ListN.{length, getD, set, length-set}
+use lib.ListN.{length, getD, set}
 use lib.IntN.{ℤ, pos, _-ℤ_}
 use mir.Syntax.{w64}
 use mir.Val.{Fits, SFits, toZ, ofZ}
 use mir.Facts.{toZ-ofZ}
 use Rattle.definition.specs.Pyramid.{placeIn, inLevel}
+use Rattle.definition.specs.Quarters.{interleaved}
 use Rattle.definition.specs.Diffusion.{rowNear, columnNear}
 use Rattle.integers.specs.Linear.{zz, ints}
 use Rattle.integers.specs.Machine.{words, machine, of-bits, div-mono}
+use Rattle.layouts.specs.Interleaved.{interleaved-any}
+use Rattle.layouts.specs.Cells.{rowsLevel}
 use Rattle.pyramid.specs.Asked.{Within}
 use Rattle.pyramid.specs.Four.{within-mono}
 use Rattle.diffusion.specs.Asked.{shareTaken, ShareAsked}
+use Rattle.diffusion.specs.Places.{side-small, place-in, bytes-fit, read-there, stored-there}
 
 -- ---- a share
 part-small : (d c : ℕ) → d ≤ 2 ^ 41 → c ≤ 18 → d * c ≤ 2 ^ 46
@@ -52,18 +56,8 @@ module _ (r row column p w s : ℕ) (cells : List ℤ) where
 
 -- ---- what taking a share off a neighbour rests on
 module _ {cells : List ℤ} {r row column p w s : ℕ} (h : ShareAsked cells r row column p w s) where
-  -- in machine words
-  old-fits : (i : ℕ) → SFits w64 (getD cells i (pos 0))
-  old-fits i = let b = h .small i in simp words (omega machine)
-
-  new-fits : (i : ℕ) → SFits w64 (getD cells i (pos 0) -ℤ pos s)
-  new-fits i = let b = h .small i in let f = h .fair in simp words (omega machine)
-
   cast : toZ w64 s ≡ pos s
   cast = of-bits s (omega (arith, h .fair))
-
-  pub less-fits : (i : ℕ) → SFits w64 (toZ w64 (ofZ w64 (getD cells i (pos 0))) -ℤ toZ w64 s)
-  less-fits i = rw (toZ-ofZ (old-fits i), cast) (new-fits i)
 
   module _ (ne : w ≡ 0 → ⊥) where
     pub near-up : 1 ≤ row + p / 3
@@ -78,16 +72,53 @@ module _ {cells : List ℤ} {r row column p w s : ℕ} (h : ShareAsked cells r r
     pub near-column : column + p % 3 - 1 < 2 ^ r
     near-column = omega (arith, h .near ne)
 
-    pub share-taken : {side : ℕ} → side ≡ 2 ^ r
-        → let at = (row + p / 3 - 1) * side + (column + p % 3 - 1) in
-        set cells at (toZ w64 (ofZ w64 (toZ w64 (ofZ w64 (getD cells at (pos 0))) -ℤ toZ w64 s)))
-        ≡ shareTaken r row column p w s cells
-    unfolding placeIn inLevel
-    share-taken {side} e =
-        let at = (row + p / 3 - 1) * side + (column + p % 3 - 1) in
-        rw (toZ-ofZ (old-fits at), cast, toZ-ofZ (new-fits at), e) (taken-some r row column p w s cells ne)
+  -- any row or column of the map is one that the table serves
+  pub served : {x : ℕ} → x < 2 ^ r → x < 256
+  served a = omega (arith, side-small r (h .cell .most))
 
-pub ruleset nearby = (near-up, near-left, near-row, near-column)
+  -- any cell (x, y) of the map, at the place that the table has
+  module _ (x y at : ℕ) (e : at ≡ interleaved 8 x y) (a : x < 2 ^ r) (b : y < 2 ^ r) where
+    at-is : at ≡ interleaved r x y
+    at-is = e ∙ interleaved-any r x y (h .cell .most) a b
+
+    pub near-in : at < length cells
+    near-in = place-in r x y at at-is (h .whole)
+
+    pub near-bytes : Fits w64 (at * 8)
+    near-bytes = bytes-fit r x y at at-is (h .cell .most)
+
+    -- its residual, read there and row after row
+    read : inLevel r (rowsLevel r cells) x y ≡ getD cells at (pos 0)
+    read = read-there r x y at at-is cells a b
+
+    bounds : Within (2 ^ 60) (getD cells at (pos 0))
+    unfolding inLevel
+    bounds = rw (← read) (h .small (placeIn r x y))
+
+    -- in machine words
+    old-fits : SFits w64 (getD cells at (pos 0))
+    old-fits = let b = bounds in simp words (omega machine)
+
+    new-fits : SFits w64 (getD cells at (pos 0) -ℤ pos s)
+    new-fits = let b = bounds in let f = h .fair in simp words (omega machine)
+
+    pub less-fits : SFits w64 (toZ w64 (ofZ w64 (getD cells at (pos 0))) -ℤ toZ w64 s)
+    less-fits = rw (toZ-ofZ old-fits, cast) new-fits
+
+    less-stored :
+        rowsLevel r (set cells at (toZ w64 (ofZ w64 (toZ w64 (ofZ w64 (getD cells at (pos 0))) -ℤ toZ w64 s))))
+        ≡ set (rowsLevel r cells) (placeIn r x y) (inLevel r (rowsLevel r cells) x y -ℤ pos s)
+    less-stored =
+        rw (toZ-ofZ old-fits, cast, toZ-ofZ new-fits, ← read) (stored-there r x y at at-is cells a b (h .whole) _)
+
+  pub share-taken : (w ≡ 0 → ⊥) → (at : ℕ) → at ≡ interleaved 8 (row + p / 3 - 1) (column + p % 3 - 1)
+      → rowsLevel r (set cells at (toZ w64 (ofZ w64 (toZ w64 (ofZ w64 (getD cells at (pos 0))) -ℤ toZ w64 s))))
+      ≡ shareTaken r row column p w s (rowsLevel r cells)
+  share-taken ne at e =
+      less-stored (row + p / 3 - 1) (column + p % 3 - 1) at e (near-row ne) (near-column ne)
+      ∙ taken-some r row column p w s (rowsLevel r cells) ne
+
+pub ruleset nearby = (near-up, near-left, near-row, near-column, served, near-in, near-bytes)
 
 -- ---- sizes
 pub set-within : (B : ℕ) (l : List ℤ) (k : ℕ) (v : ℤ) → ((i : ℕ) → Within B (getD l i (pos 0))) → Within B v → (i : ℕ) → Within B (getD (set l k v) i (pos 0))
@@ -113,11 +144,3 @@ taken-within B r row column p w s cells h i = go (ℕ-discrete w 0)
     go (no ne) =
         rw (sym (taken-some r row column p w s cells ne))
         (set-within (B + s) cells _ _ (λ m. wider _ (h m)) (less _ (h _)) i)
-
-pub length-taken : (r row column p w s : ℕ) (cells : List ℤ)
-    → length (shareTaken r row column p w s cells) ≡ length cells
-length-taken r row column p w s cells = go (ℕ-discrete w 0)
-  where
-    go : Dec (w ≡ 0) → length (shareTaken r row column p w s cells) ≡ length cells
-    go (yes e) = ap length (sym (taken-none r row column p w s cells e))
-    go (no ne) = ap length (sym (taken-some r row column p w s cells ne)) ∙ length-set cells _ _

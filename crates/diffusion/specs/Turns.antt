@@ -1,5 +1,5 @@
 -- The turns of the diffusion.
-use mathlib.Core.Path.{_≡_, refl, sym, ap, _∙_}
+use mathlib.Core.Path.{_≡_, refl, sym, _∙_}
 use mathlib.Core.Logic.{_≢_}
 use mathlib.Core.List.{List}
 use Prim.Native.Nat.{ℕ, zero, suc, _+_, _*_, _-_, _/_, _^_, _≤_, _<_}
@@ -10,12 +10,13 @@ use lib.ListN.{length, getD}
 use lib.IntN.{ℤ, pos}
 use Rattle.definition.specs.Lists.{sumTo}
 use Rattle.definition.specs.Diffusion.{placesInTurn, kernelOf, rowNear, columnNear, weightAt, share, diffuse}
+use Rattle.layouts.specs.Cells.{rowsLevel}
 use Rattle.pyramid.specs.Asked.{Within}
 use Rattle.pyramid.specs.Four.{within-mono}
 use Rattle.shares.specs.Neighbours.{weight-on-map}
 use Rattle.diffusion.specs.Asked.{shareTaken, ShareAsked, DiffuseAsked}
 use Rattle.diffusion.specs.Weights.{turn-nine, sum-none, sum-next, sum-more}
-use Rattle.diffusion.specs.Shares.{share-down, share-fair, taken-within, length-taken}
+use Rattle.diffusion.specs.Shares.{share-down, share-fair, taken-within}
 
 module _ (knit r row column d : ℕ) (cells : List ℤ) where
   abbrev weights : ℕ → ℕ
@@ -30,14 +31,6 @@ module _ (knit r row column d : ℕ) (cells : List ℤ) where
       (diffuse (kernelOf knit) r row column d n cells)
   unfolding diffuse shareTaken kernelOf
   diffuse-suc n = refl
-
-  length-diffuse : (n : ℕ) → length (diffuse (kernelOf knit) r row column d n cells) ≡ length cells
-  length-diffuse zero = ap length (sym diffuse-none)
-  length-diffuse (suc n) =
-      ap length (diffuse-suc n)
-      ∙ length-taken r row column (getD placesInTurn n 4) (weights n) (share 9 weights d n)
-      (diffuse (kernelOf knit) r row column d n cells)
-      ∙ length-diffuse n
 
   share-is : (n : ℕ) {before w all s : ℕ} → before ≡ sumTo n weights → w ≡ weights n
       → all ≡ sumTo 9 weights → s ≡ d * (before + w) / all - d * before / all → s ≡ share 9 weights d n
@@ -58,12 +51,13 @@ module _ (knit r row column d : ℕ) (cells : List ℤ) where
       (taken-within (2 ^ 40 + n * 2 ^ 46) r row column (getD placesInTurn n 4) (weights n) (share 9 weights d n)
       (diffuse (kernelOf knit) r row column d n cells) (diffuse-within f h n (omega arith)) i))
 
--- the loop after n turns: the weights, what was given and the cells so far
+-- the loop after n turns: the weights, what was given and, row after row, the cells so far
 pub record Turns (cells : List ℤ) (knit r row column d all : ℕ) (part : List ℤ) (sum given n : ℕ) : Type 0 where
   pub few : n ≤ 9
   pub weighed : sum ≡ sumTo n (weightAt (kernelOf knit) r row column)
   pub gave : given ≡ d * sum / all
-  pub list : part ≡ diffuse (kernelOf knit) r row column d n cells
+  pub list : rowsLevel r part ≡ diffuse (kernelOf knit) r row column d n (rowsLevel r cells)
+  pub long : length part ≡ length cells
 
 pub turns-none : (cells : List ℤ) (knit r row column d all : ℕ) → Turns cells knit r row column d all cells 0 0 0
 turns-none cells knit r row column d all =
@@ -71,7 +65,8 @@ turns-none cells knit r row column d all =
       few = omega arith;
       weighed = sum-none knit r row column;
       gave = omega (arith, div-le-self (d * 0) all);
-      list = diffuse-none knit r row column d cells;
+      list = diffuse-none knit r row column d (rowsLevel r cells);
+      long = refl;
     }
 
 module _ (cells : List ℤ) (knit r row column d : ℕ) (h : DiffuseAsked cells r row column d) (all : ℕ)
@@ -98,32 +93,29 @@ module _ (cells : List ℤ) (knit r row column d : ℕ) (h : DiffuseAsked cells 
           fair =
               rw (t .gave, eu)
               (share-fair d sum (sum + w) all (h .fair) (sum-next knit r row column n lt (t .weighed) ew));
-          whole = rw (t .list) (length-diffuse knit r row column d cells n ∙ h .whole);
+          whole = t .long ∙ h .whole;
           small = λ i.
               rw (t .list)
               (within-mono _ _ _ (omega arith)
-              (diffuse-within knit r row column d cells (h .fair) (h .small) n (t .few) i));
+              (diffuse-within knit r row column d (rowsLevel r cells) (h .fair) (h .small) n (t .few) i));
         }
 
-    pub turn : {next : List ℤ} → all ≡ sumTo 9 (weightAt (kernelOf knit) r row column)
-        → next ≡ shareTaken r row column p w (until - given) part
-        → Turns cells knit r row column d all next (sum + w) until (n + 1)
-    turn ea e =
+    pub turn : (next : List ℤ) → all ≡ sumTo 9 (weightAt (kernelOf knit) r row column)
+        → rowsLevel r next ≡ shareTaken r row column p w (until - given) (rowsLevel r part)
+        → length next ≡ length part → Turns cells knit r row column d all next (sum + w) until (n + 1)
+    turn next ea e k =
         let s : until - given ≡ share 9 (weightAt (kernelOf knit) r row column) d n =
-        share-is knit r row column d cells n (t .weighed) ew ea (rw (t .gave, eu)) in
+        share-is knit r row column d (rowsLevel r cells) n (t .weighed) ew ea (rw (t .gave, eu)) in
         record {
           few = omega arith;
           weighed = sum-more knit r row column n (t .weighed) ew;
           gave = eu;
-          list = e ∙ rw (t .list, s, ew, ep, add-one n) (sym (diffuse-suc knit r row column d cells n));
+          list =
+              e ∙ rw (t .list, s, ew, ep, add-one n) (sym (diffuse-suc knit r row column d (rowsLevel r cells) n));
+          long = k ∙ t .long;
         }
 
 pub turns-all : {cells : List ℤ} {knit r row column d all : ℕ} {part : List ℤ} {sum given n : ℕ}
     → Turns cells knit r row column d all part sum given n → 9 ≤ n
-    → part ≡ diffuse (kernelOf knit) r row column d 9 cells
+    → rowsLevel r part ≡ diffuse (kernelOf knit) r row column d 9 (rowsLevel r cells)
 turns-all {n} t ge = let e : n ≡ 9 = omega (arith, t .few) in t .list ∙ rw e
-
-pub turns-long : {cells : List ℤ} {knit r row column d all : ℕ} {part : List ℤ} {sum given n : ℕ}
-    → Turns cells knit r row column d all part sum given n → length part ≡ length cells
-turns-long {cells} {knit} {r} {row} {column} {d} {n = n} t =
-    rw (t .list) (length-diffuse knit r row column d cells n)

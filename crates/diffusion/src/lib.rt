@@ -1,12 +1,15 @@
-// Diffusion: what a dot lacks of its worth is taken from the neighbours of its cell, each its share.
+// Diffusion: what a dot lacks of its worth is taken from the neighbours of its cell, each its share. The cells lie by
+// quarters; what becomes of them is said of the cells written row after row.
 ghost use mathlib.Core.Path.{_≡_};
-ghost use Prim.Native.Nat.{_+_, _*_, _-_, _/_, _^_, _<_, _≤_};
+ghost use Prim.Native.Nat.{_*_, _/_, _^_, _<_, _≤_};
 ghost use lib.ListN.{getD, set};
 ghost use lib.IntN.{pos};
 ghost use Rattle.definition.specs.Lists.{sumTo};
 ghost use Rattle.definition.specs.Pyramid.{placeIn, inLevel};
 ghost use Rattle.definition.specs.Model.{missing};
 ghost use Rattle.definition.specs.Diffusion.{weightsOf, placesInTurn, kernelOf, weightAt, diffuse};
+ghost use Rattle.layouts.specs.Cells.{rowsLevel};
+ghost use Rattle.places.specs.Table.{places};
 ghost use Rattle.diffusion.specs.Asked.{shareTaken, CellAsked, ShareAsked, DiffuseAsked, PlaceAsked};
 
 // The nine places in the order of the spread, a hexadecimal digit each, from the lowest digit up: the diagonals by row
@@ -86,25 +89,49 @@ fn part(d: usize, sum: usize, all: usize) -> usize
     d * sum / all
 }
 
-// Takes a share off the residual of the neighbour at place p, if its weight w isn't 0.
-fn take_share(cells: &mut [i64], r: usize, row: usize, column: usize, p: usize, w: usize, s: usize)
+// Takes a share off the residual of the neighbour at place p of the nine, if its weight w isn't 0. The table has where
+// it lies among the cells.
+fn take_share(
+    cells: &mut [i64],
+    table: &[u16; 1024],
+    r: usize,
+    row: usize,
+    column: usize,
+    p: usize,
+    w: usize,
+    s: usize,
+)
     requires { ⌜ ShareAsked (now cells) r row column p w s ⌝ }
-    ensures { λ _. ⌜ now (cells .exit) ≡ shareTaken r row column p w s (now (cells .entry)) ⌝ }
+    requires { ⌜ now table ≡ places ⌝ }
+    ensures { λ _. ⌜
+        rowsLevel r (now (cells .exit)) ≡ shareTaken r row column p w s (rowsLevel r (now (cells .entry)))
+        ⌝ }
 {
     if w == 0 {
         return;
     }
-    let side = sizes::pow2(r);
-    let at = (row + p / 3 - 1) * side + (column + p % 3 - 1);
+    let at = places::place(table, row + p / 3 - 1, column + p % 3 - 1);
     let z = cells[at];
     cells[at] = z - (s as i64);
 }
 
 // Takes d off the residuals of the neighbours of a cell. The share of a neighbour is what goes to those up to its turn
 // less what was given to those before it.
-pub fn diffuse(cells: &mut [i64], knit: u32, r: usize, row: usize, column: usize, d: usize)
+pub fn diffuse(
+    cells: &mut [i64],
+    table: &[u16; 1024],
+    knit: u32,
+    r: usize,
+    row: usize,
+    column: usize,
+    d: usize,
+)
     requires { ⌜ DiffuseAsked (now cells) r row column d ⌝ }
-    ensures { λ _. ⌜ now (cells .exit) ≡ diffuse (kernelOf knit) r row column d 9 (now (cells .entry)) ⌝ }
+    requires { ⌜ now table ≡ places ⌝ }
+    ensures { λ _. ⌜
+        rowsLevel r (now (cells .exit))
+        ≡ diffuse (kernelOf knit) r row column d 9 (rowsLevel r (now (cells .entry)))
+        ⌝ }
 {
     let all = weight_sum(knit, r, row, column);
     let mut sum = 0;
@@ -114,24 +141,33 @@ pub fn diffuse(cells: &mut [i64], knit: u32, r: usize, row: usize, column: usize
         let w = weight(knit, r, row, column, n);
         sum += w;
         let until = part(d, sum, all);
-        take_share(cells, r, row, column, turn(n), w, until - given);
+        take_share(cells, table, r, row, column, turn(n), w, until - given);
         given = until;
         n += 1;
     }
 }
 
-// Places a dot: the cell's residual becomes 0, and what it lacks of a whole dot is taken from its neighbours.
-pub fn place(cells: &mut [i64], knit: u32, r: usize, row: usize, column: usize)
-    requires { ⌜ PlaceAsked (now cells) r row column ⌝ }
+// Places a dot at a cell, which lies at place `at` of the cells: its residual becomes 0, and what it lacks of a whole
+// dot is taken from its neighbours.
+pub fn place(
+    cells: &mut [i64],
+    table: &[u16; 1024],
+    knit: u32,
+    r: usize,
+    at: usize,
+    row: usize,
+    column: usize,
+)
+    requires { ⌜ PlaceAsked (now cells) r at row column ⌝ }
+    requires { ⌜ now table ≡ places ⌝ }
     ensures { λ _. ⌜
-        now (cells .exit)
-        ≡ diffuse (kernelOf knit) r row column (missing (inLevel r (now (cells .entry)) row column)) 9
-        (set (now (cells .entry)) (placeIn r row column) (pos 0))
+        rowsLevel r (now (cells .exit))
+        ≡ diffuse (kernelOf knit) r row column
+        (missing (inLevel r (rowsLevel r (now (cells .entry))) row column)) 9
+        (set (rowsLevel r (now (cells .entry))) (placeIn r row column) (pos 0))
         ⌝ }
 {
-    let side = sizes::pow2(r);
-    let at = row * side + column;
     let d = DOT - cells[at];
     cells[at] = 0;
-    diffuse(cells, knit, r, row, column, d as usize);
+    diffuse(cells, table, knit, r, row, column, d as usize);
 }

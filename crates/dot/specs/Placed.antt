@@ -13,18 +13,21 @@ use lib.Seq.{length-take-le}
 use lib.IntN.{ℤ, pos}
 use mir.Syntax.{w64}
 use mir.Val.{Fits}
-use Rattle.definition.specs.Pyramid.{cellCount, start, placeIn, inLevel, entry, pyramidOver}
+use Rattle.definition.specs.Pyramid.{cellCount, start, needed, placeIn, inLevel, entry, pyramidOver}
+use Rattle.definition.specs.Quarters.{interleaved, rowsFrom}
 use Rattle.definition.specs.Descent.{ofEquals, choiceOf, descend}
 use Rattle.definition.specs.Diffusion.{kernelOf, diffuse}
 use Rattle.definition.specs.Model.{Halftone, missing, placeDot, step}
 use Rattle.definition.specs.Renewal.{isNear, renewed}
 use Rattle.integers.specs.Tests.{tests, true-T, same-test}
-use Rattle.quadtree.specs.Levels.{start-suc, start-mono, cell-lt, cells-few}
+use Rattle.quadtree.specs.Levels.{start-thrice, start-suc, start-mono, cell-lt, cells-few}
 use Rattle.quadtree.specs.Pyramids.{entry-drop, pyramid-cells}
 use Rattle.quadtree.specs.Renewal.{Changed, renewed-right}
 use Rattle.shares.specs.Kernels.{knit-fit}
 use Rattle.dots.specs.Kept.{sound-summed}
 use Rattle.dots.specs.Steps.{Sheet, target, step-made, row-in, column-in, next-sheet, next-away}
+use Rattle.layouts.specs.Interleaved.{interleaved-lt}
+use Rattle.layouts.specs.Cells.{rowsLevel, length-rows-level, rows-in, rows-cells, rows-replaced}
 use Rattle.pyramid.specs.Asked.{Within, Whole, SmallPyramid}
 use Rattle.pyramid.specs.Four.{within-mono}
 use Rattle.pyramid.specs.Small.{take-within, append-within}
@@ -32,7 +35,7 @@ use Rattle.pyramid.specs.Turn.{tail-lent, tail-back}
 use Rattle.descent.specs.Asked.{DescentAsked}
 use Rattle.diffusion.specs.Asked.{PlaceAsked}
 use Rattle.dot.specs.Asked.{DotAsked, NoteAsked}
-use Rattle.dot.specs.Small.{mostResidual, sound-small, places-small, all-small}
+use Rattle.dot.specs.Small.{mostResidual, sound-small, places-small, rows-small, all-small}
 
 start-eight : start 8 ≡ 21845
 start-eight = unfold start in refl
@@ -41,15 +44,21 @@ start-eight = unfold start in refl
 in-turn : (n : ℕ) → eqb (n % 2) 1 ≡ eqb (suc n % 2) 0
 in-turn n = same-test (eqb (n % 2) 1) (eqb (suc n % 2) 0) (λ t. omega tests) (λ t. omega tests)
 
-module _ (r : ℕ) (p : List ℤ) (ss o : List ℕ) (dots : ℕ) (h : DotAsked r (record { pyramid = p; serials = ss; order = o; dots = dots })) where
+-- p is the pyramid by quarters, and the sheet has it row after row
+module _ (r : ℕ) (p : List ℤ) (ss o : List ℕ) (dots : ℕ)
+    (h : DotAsked r (record { pyramid = rowsFrom r p; serials = ss; order = o; dots = dots }))
+    (needed-long : length p ≡ needed r) where
+  abbrev rows : List ℤ
+  rows = rowsFrom r p
+
   abbrev s : Halftone
-  s = record { pyramid = p; serials = ss; order = o; dots = dots }
+  s = record { pyramid = rows; serials = ss; order = o; dots = dots }
 
   big : 2 ≤ 2 ^ r
   big = pow-mono {i = 1} {j = r} (h .power)
 
   long : length p ≡ start r + cellCount r
-  long = h .sheet .sized .pyramid ∙ start-suc r
+  long = needed-long ∙ start-suc r
 
   cells-long : length (drop (start r) p) ≡ cellCount r
   cells-long = omega (arith, length-drop (start r) p, long)
@@ -57,18 +66,18 @@ module _ (r : ℕ) (p : List ℤ) (ss o : List ℕ) (dots : ℕ) (h : DotAsked r
   p-small : (i : ℕ) → Within (2 ^ 40) (getD p i (pos 0))
   p-small i =
       within-mono _ _ _ (omega (arith, cells-few r (h .small)))
-      (all-small r p mostResidual (sound-summed (h .sheet .sound)) (sound-small r s (h .sheet .sound))
-      (h .sheet .sized .pyramid) i)
+      (all-small r p mostResidual (sound-summed (h .sheet .sound)) (sound-small r s (h .sheet .sound)) needed-long i)
 
-  pub descent-asked : DescentAsked p r 0 0 0
+  pub descent-asked : DescentAsked p r 0 0 0 0
   descent-asked =
       record {
         most = h .small;
         level = omega arith;
         row = omega arith;
         column = omega arith;
-        whole = h .sheet .sized .pyramid;
+        whole = needed-long;
         small = record { small = p-small };
+        place = omega (arith, start-thrice 0, interleaved-lt 0 0 0);
       }
 
   -- where the cells begin
@@ -81,7 +90,7 @@ module _ (r : ℕ) (p : List ℤ) (ss o : List ℕ) (dots : ℕ) (h : DotAsked r
 
   -- the cell that the walk reaches
   module _ (last : Bool) (el : last ≡ eqb (dots % 2) 1) (row column : ℕ)
-      (ec : (row, column) ≡ descend (ofEquals last) p (r - 0) 0 0 0) where
+      (ec : (row, column) ≡ descend (ofEquals last) rows (r - 0) 0 0 0) where
     -- no knit leads the walk elsewhere: here 0 stands for them all
     at-target : (row, column) ≡ target (kernelOf 0) r s
     unfolding choiceOf
@@ -112,16 +121,26 @@ module _ (r : ℕ) (p : List ℤ) (ss o : List ℕ) (dots : ℕ) (h : DotAsked r
       lent-long : length lent ≡ cellCount r
       lent-long = ap length lent-is ∙ cells-long
 
-      lent-small : (i : ℕ) → Within mostResidual (getD lent i (pos 0))
-      lent-small = places-small r mostResidual lent lent-long (λ x y a b. rw (lent-is, entry-drop p r x y) (sound-small r s (h .sheet .sound) x y a b))
+      -- row after row these are the sheet's cells
+      lent-rows : rowsLevel r lent ≡ drop (start r) rows
+      lent-rows = ap (rowsLevel r) lent-is ∙ sym (rows-cells r p)
 
-      pub place-asked : PlaceAsked lent r row column
-      place-asked =
+      lent-small : (i : ℕ) → Within mostResidual (getD (rowsLevel r lent) i (pos 0))
+      lent-small =
+          rows-small r mostResidual (rowsLevel r lent) (length-rows-level r lent)
+          (λ x y a b. rw (lent-rows, entry-drop rows r x y) (sound-small r s (h .sheet .sound) x y a b))
+
+      pub place-asked : (at : ℕ) → at ≡ start r + interleaved r row column
+          → PlaceAsked lent r (at - off) row column
+      place-asked at ea =
           record {
             cell = record { least = h .power; most = h .small; above = row-lt; left = column-lt };
             whole = lent-long;
             small = λ i. within-mono mostResidual (2 ^ 40) _ (omega arith) (lent-small i);
-            owed = rw (lent-is, entry-drop p r row column) (h .sheet .sound .at-most row column row-lt column-lt);
+            owed =
+                rw (lent-rows, entry-drop rows r row column)
+                (h .sheet .sound .at-most row column row-lt column-lt);
+            place = omega (arith, ea, eo);
           }
 
       -- the cells come back as e, as many as before
@@ -139,22 +158,33 @@ module _ (r : ℕ) (p : List ℤ) (ss o : List ℕ) (dots : ℕ) (h : DotAsked r
         head-long = length-take-le off p (off-in off eo) ∙ eo
 
         pub back-whole : Whole back r
-        back-whole = rw back-is (record { most = h .small; long = omega (arith, length-append (take off p) e, head-long, e-long, start-suc r, ap start (add-one r)) })
+        back-whole =
+            rw back-is
+            (record {
+              most = h .small;
+              long =
+                  omega (arith, length-append (take off p) e, head-long, e-long, start-suc r, ap start (add-one r));
+            })
+
+        back-rows : rowsFrom r back ≡ take (start r) rows ++ rowsLevel r e
+        back-rows =
+            ap (rowsFrom r) (back-is ∙ ap (λ (n : ℕ). take n p ++ e) eo)
+            ∙ rows-replaced r p e (omega (arith, long))
 
         -- with a dot placed, on cloth of a knit
         module _ (knit : ℕ)
-            (q : e
-            ≡ diffuse (kernelOf knit) r row column (missing (inLevel r lent row column)) 9
-            (set lent (placeIn r row column) (pos 0))) where
-          over-e : placeDot (kernelOf knit) r s (row, column) .pyramid ≡ pyramidOver r e
+            (q : rowsLevel r e
+            ≡ diffuse (kernelOf knit) r row column (missing (inLevel r (rowsLevel r lent) row column)) 9
+            (set (rowsLevel r lent) (placeIn r row column) (pos 0))) where
+          over-e : placeDot (kernelOf knit) r s (row, column) .pyramid ≡ pyramidOver r (rowsLevel r e)
           unfolding placeDot
-          over-e = rw (q, lent-is)
+          over-e = rw (q, lent-rows)
 
           e-small : (i : ℕ) → Within mostResidual (getD e i (pos 0))
           e-small =
               places-small r mostResidual e e-long
               (λ x y a b.
-              rw (over-e, pyramid-cells r e x y) at
+              rw (over-e, pyramid-cells r (rowsLevel r e) x y, rows-in r e x y a b) at
               (sound-small r (placeDot (kernelOf knit) r s (row, column)) (sheet' knit .sound) x y a b))
 
           pub back-small : SmallPyramid back
@@ -168,33 +198,33 @@ module _ (r : ℕ) (p : List ℤ) (ss o : List ℕ) (dots : ℕ) (h : DotAsked r
 
           -- only the cell and its neighbours have changed
           stays : (x y : ℕ) → x < 2 ^ r → y < 2 ^ r → isNear row column x y ≡ false
-              → inLevel r e x y ≡ entry p r x y
+              → inLevel r (rowsLevel r e) x y ≡ entry rows r x y
           stays x y i j f =
-              sym (pyramid-cells r e x y)
+              sym (pyramid-cells r (rowsLevel r e) x y)
               ∙ rw (← over-e, at-target)
               (next-away (kernelOf knit) (knit-fit knit) r big s (h .sheet) (h .due) x y i j
               (ap (λ (c : ℕ × ℕ). isNear (c .0) (c .1) x y) (sym at-target) ∙ f))
 
-          changed : Changed r (isNear row column) p e
+          changed : Changed r (isNear row column) rows (rowsLevel r e)
           changed =
               record {
                 long = h .sheet .sized .pyramid;
-                full = e-long;
+                full = length-rows-level r e;
                 summed = sound-summed (h .sheet .sound);
                 away = λ x y i j f. sym (stays x y i j f);
               }
 
-          renewed-is : renewed r (isNear row column) back ≡ pyramidOver r e
+          renewed-is : renewed r (isNear row column) (rowsFrom r back) ≡ pyramidOver r (rowsLevel r e)
           renewed-is =
-              ap (renewed r (isNear row column)) (back-is ∙ ap (λ (n : ℕ). take n p ++ e) eo)
-              ∙ renewed-right r (isNear row column) p e changed
+              ap (renewed r (isNear row column)) back-rows
+              ∙ renewed-right r (isNear row column) rows (rowsLevel r e) changed
 
           pub placed : {z : List ℤ} {s′ o′ : List ℕ} (side : ℕ) → side ≡ 2 ^ r
-              → z ≡ renewed r (isNear row column) back
+              → z ≡ renewed r (isNear row column) (rowsFrom r back)
               → s′ ≡ set ss (row * side + column) (dots + 1) → o′ ≡ set o dots (row * side + column)
               → record { pyramid = z; serials = s′; order = o′; dots = dots + 1 } ≡ step (kernelOf knit) r s
           unfolding placeDot
-          placed side es ez e₁ e₂ = rw (next-is knit, ez, renewed-is, e₁, e₂, es, q, lent-is, add-one dots)
+          placed side es ez e₁ e₂ = rw (next-is knit, ez, renewed-is, e₁, e₂, es, q, lent-rows, add-one dots)
 
     module _ (side : ℕ) (es : side ≡ 2 ^ r) where
       cell-in : row * side + column < 65536

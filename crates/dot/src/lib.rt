@@ -1,9 +1,13 @@
-// One dot: the walk to the neediest cell, the dot there, the sums renewed, its number noted.
+// One dot: the walk to the neediest cell, the dot there, the sums renewed, its number noted. The pyramid lies by
+// quarters; what becomes of it is said of the pyramid written row after row.
 ghost use mathlib.Core.Path.{_≡_};
 ghost use Prim.Native.Nat.{_+_};
 ghost use lib.ListN.{length, set};
+ghost use Rattle.definition.specs.Pyramid.{needed};
+ghost use Rattle.definition.specs.Quarters.{rowsFrom};
 ghost use Rattle.definition.specs.Diffusion.{kernelOf};
 ghost use Rattle.definition.specs.Model.{step};
+ghost use Rattle.places.specs.Table.{places};
 ghost use Rattle.dot.specs.Asked.{NoteAsked, DotAsked};
 
 // Notes the next dot, at the cell with the number `at`, in serial sheet and order list.
@@ -16,28 +20,32 @@ fn note(serials: &mut [u32], order: &mut [u32], at: usize, dots: u32)
 }
 
 // Makes the next dot on cloth of a knit, on a sound sheet of just the needed lengths where one is due. After an odd
-// number of dots its serial is even, and the walk takes the last of equal entries.
+// number of dots its serial is even, and the walk takes the last of equal entries. The table has the places.
 pub fn place_dot(
     pyramid: &mut [i64],
     serials: &mut [u32],
     order: &mut [u32],
+    table: &[u16; 1024],
     knit: u32,
     r: usize,
     dots: u32,
 )
     requires { ⌜
-        DotAsked r (record { pyramid = now pyramid; serials = now serials; order = now order; dots = dots })
+        DotAsked r
+        (record { pyramid = rowsFrom r (now pyramid); serials = now serials; order = now order; dots = dots })
         ⌝ }
+    requires { ⌜ length (now pyramid) ≡ needed r ⌝ }
+    requires { ⌜ now table ≡ places ⌝ }
     ensures { λ _. ⌜
         record {
-          pyramid = now (pyramid .exit);
+          pyramid = rowsFrom r (now (pyramid .exit));
           serials = now (serials .exit);
           order = now (order .exit);
           dots = dots + 1;
         }
         ≡ step (kernelOf knit) r
         (record {
-          pyramid = now (pyramid .entry);
+          pyramid = rowsFrom r (now (pyramid .entry));
           serials = now (serials .entry);
           order = now (order .entry);
           dots = dots;
@@ -45,12 +53,13 @@ pub fn place_dot(
         ⌝ }
 {
     let last = dots % 2 == 1;
-    let cell = descent::descend(pyramid, r, 0, 0, 0, last);
+    let cell = descent::descend(pyramid, r, 0, 0, 0, 0, last);
     let row = cell.row;
     let column = cell.column;
     let cells = sizes::level_start(r);
-    diffusion::place(&mut pyramid[cells..], knit, r, row, column);
-    renewal::renew(pyramid, r, row, column);
+    let at = cell.at - cells;
+    diffusion::place(&mut pyramid[cells..], table, knit, r, at, row, column);
+    renewal::renew(pyramid, table, r, row, column);
     let side = sizes::pow2(r);
     note(serials, order, row * side + column, dots);
 }

@@ -9,7 +9,8 @@ ghost use Prim.Native.Nat.{_/_, _%_, _^_, _≤_};
 ghost use lib.ListN.{length, take};
 ghost use Rattle.definition.specs.Answers.{textSays};
 ghost use Rattle.definition.specs.Text.{line};
-ghost use Rattle.definition.specs.DrillList.{dotLines, drillListOf};
+ghost use Rattle.definition.specs.DrillList.{dotLines};
+ghost use Rattle.definition.specs.ByQuarters.{drillListByQuarters};
 ghost use Rattle.decimals.specs.Writing.{Wrote};
 ghost use Rattle.drill_list.specs.Listing.{listText, listedIn, ListAsked};
 
@@ -79,13 +80,14 @@ pub fn drill_list(
 ) -> TextAnswer
     ensures { λ a. ⌜
         record { said = textSays a; output = now (out .exit) }
-        ≡ drillListOf progress
+        ≡ drillListByQuarters progress
         (now (pyramid .entry)) (now (serials .entry)) (now (order .entry)) (now (out .entry))
         ⌝ }
 {
+    let table = places::table();
     let r = sizes::power_of(progress.side);
     let dots = progress.dots;
-    match sheet::check_sheet(r, dots, progress.knit, pyramid, serials, order) {
+    match sheet::check_sheet(r, dots, progress.knit, &table, pyramid, serials, order) {
         Check::Failed(why) => TextAnswer::Refused(why),
         Check::Passed => write_list(out, order, dots as usize, r),
     }

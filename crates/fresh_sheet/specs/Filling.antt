@@ -7,6 +7,7 @@ use lib.ListN.{length, take, drop, replicate}
 use lib.Seq.{length-take-le}
 use lib.IntN.{ℤ}
 use Rattle.definition.specs.Pyramid.{needed, cellCount}
+use Rattle.definition.specs.Quarters.{quartersFrom}
 use Rattle.refusals.specs.Lowest.{LoadLent}
 use Rattle.pyramid.specs.Asked.{FillAsked, freshPyramid}
 
@@ -31,10 +32,10 @@ fill-lent small h =
       order-long = h .order-long;
     }
 
--- the three buffers, filled
+-- the three buffers, filled; the pyramid lies by quarters
 pub record Filled (r : ℕ) (g : List ℕ) (p : List ℤ) (s o : List ℕ)
     (p′ : List ℤ) (s′ o′ : List ℕ) : Type 0 where
-  pub pyramid : p′ ≡ freshPyramid r g ++ drop (needed r) p
+  pub pyramid : p′ ≡ quartersFrom r (freshPyramid r g) ++ drop (needed r) p
   pub serials : s′ ≡ replicate (cellCount r) 0 ++ drop (cellCount r) s
   pub order : o′ ≡ replicate (cellCount r) 0 ++ drop (cellCount r) o
 
@@ -58,7 +59,8 @@ module _ {r g s o : ℕ} (p : List ℤ) (h : FillLent r g (length p) s o) where
     order-in = omega (arith, h .order-long)
 
 module _ {r n c : ℕ} (en : n ≡ needed r) (ec : c ≡ cellCount r) where
-  pub all-filled : {g : List ℕ} {p p′ : List ℤ} {s o s′ o′ : List ℕ} → p′ ≡ freshPyramid r g
+  pub all-filled : {g : List ℕ} {p p′ : List ℤ} {s o s′ o′ : List ℕ}
+      → p′ ≡ quartersFrom r (freshPyramid r g)
       → s′ ≡ replicate c 0 ++ drop c s → o′ ≡ replicate c 0 ++ drop c o
       → Filled r g p s o (p′ ++ drop n p) s′ o′
   all-filled {g} {p} ep es eo = record { pyramid = rw (ep, en); serials = rw (es, ec); order = rw (eo, ec) }

@@ -6,6 +6,7 @@ ghost use mathlib.Core.List.{_++_};
 ghost use Prim.Native.Nat.{_≤_};
 ghost use lib.ListN.{length, drop, replicate};
 ghost use Rattle.definition.specs.Load.{loadRefusal};
+ghost use Rattle.places.specs.Table.{places};
 ghost use Rattle.checks.specs.Checks.{checked};
 ghost use Rattle.fresh_sheet.specs.Filling.{FillLent, Filled};
 
@@ -56,18 +57,26 @@ fn clear(places: &mut [u32], count: usize)
     }
 }
 
-// Fills the three buffers.
-pub fn fill(r: usize, greys: &[u8], pyramid: &mut [i64], serials: &mut [u32], order: &mut [u32])
+// Fills the three buffers, the pyramid by quarters.
+pub fn fill(
+    r: usize,
+    table: &[u16; 1024],
+    greys: &[u8],
+    pyramid: &mut [i64],
+    serials: &mut [u32],
+    order: &mut [u32],
+)
     requires { ⌜
         FillLent r (length (now greys)) (length (now pyramid)) (length (now serials)) (length (now order))
         ⌝ }
+    requires { ⌜ now table ≡ places ⌝ }
     ensures { λ _. ⌜
         Filled r (now (greys .entry)) (now (pyramid .entry)) (now (serials .entry)) (now (order .entry))
         (now (pyramid .exit)) (now (serials .exit)) (now (order .exit))
         ⌝ }
 {
     let needed = sizes::needed(r);
-    pyramid::fill_pyramid(&mut pyramid[..needed], greys, r);
+    pyramid::fill_pyramid(&mut pyramid[..needed], table, greys, r);
     let cells = sizes::cell_count(r);
     clear(serials, cells);
     clear(order, cells);

@@ -1,7 +1,7 @@
 -- What is signed, clause by clause, for every list of calls after an accepted Load: demand 3 of document 01, the floor
 -- and the quote page of document 02. Each clause is written out with its own figures and taken from a field of
 -- `demand-3`, so none of them can go, or say less, unnoticed. The last law says who may ask: nobody is left out.
-use mathlib.Core.Path.{_≡_, ap, _∙_}
+use mathlib.Core.Path.{_≡_, sym, ap, _∙_}
 use mathlib.Core.Logic.{_≢_, _↔_}
 use mathlib.Core.Bool.{false}
 use mathlib.Core.List.{List, []}
@@ -11,12 +11,14 @@ use lib.ListN.{length, getD, take, drop}
 use lib.IntN.{ℤ, pos, _+ℤ_}
 use lib.Signed.{_<ℤ_}
 use Rattle.definition.specs.Answers.{returned, finished}
-use Rattle.definition.specs.Pyramid.{start}
+use Rattle.definition.specs.Pyramid.{start, entry}
 use Rattle.definition.specs.Blocks.{greySum, greyTotal, dotsIn, allDots}
 use Rattle.definition.specs.Diffusion.{kernelOf}
 use Rattle.definition.specs.Model.{Halftone, topOf, modelStart, steps}
 use Rattle.definition.specs.Refusals.{powerOf}
 use Rattle.definition.specs.Load.{loadRefusal, loaded, loadOf}
+use Rattle.definition.specs.Quarters.{interleaved, quarterEntry, quartersFrom}
+use Rattle.definition.specs.ByQuarters.{loadByQuarters}
 use Rattle.definition.specs.Advance.{Reply, AdvanceOutcome}
 use Rattle.definition.specs.QuotePage.{quoteCap, figures}
 use Rattle.definition.specs.Calls.{
@@ -33,6 +35,8 @@ use Rattle.definition.specs.Calls.{
 }
 use Rattle.refusals.specs.Powers.{powerOf-pow}
 use Rattle.refusals.specs.Lowest.{LoadLent, load-none}
+use Rattle.layouts.specs.Relaid.{quarters-entry}
+use Rattle.layouts.specs.Lent.{rows-length, quarter-taken}
 use Rattle.guarantee.specs.Demand3.{Each, Accepted, Demand3}
 use Rattle.guarantee.specs.Start.{each-of}
 use Rattle.guarantee.specs.Theorem.{demand-3}
@@ -72,10 +76,18 @@ module _ (side knit : ℕ) (greys : List ℕ) (pyramid : List ℤ) (serials orde
   demand : Demand3 side knit greys pyramid serials order calls
   demand = demand-3 side knit greys pyramid serials order accepted calls
 
-  -- buffers, record and answers are the model's
-  pub pyramid-as-model : take ((4 ^ suc r - 1) / 3) (held .pyramid) ≡ model .pyramid
+  -- buffers, record and answers are the model's, the pyramid by quarters: entry by entry as well as whole
+  pub pyramid-as-model : take ((4 ^ suc r - 1) / 3) (held .pyramid) ≡ quartersFrom r (model .pyramid)
   unfolding start
   pyramid-as-model = demand .pyramid
+
+  pub entry-as-model : (k a b : ℕ) → k ≤ r → a < 2 ^ k → b < 2 ^ k
+      → getD (held .pyramid) ((4 ^ k - 1) / 3 + interleaved k a b) (pos 0) ≡ entry (model .pyramid) k a b
+  unfolding start quarterEntry
+  entry-as-model k a b h p q =
+      sym (quarter-taken r (held .pyramid) k a b h)
+      ∙ ap (λ (l : List ℤ). quarterEntry l k a b) (demand .pyramid)
+      ∙ quarters-entry r (model .pyramid) k a b h p q
 
   pub serials-as-model : take (N * N) (held .serials) ≡ model .serials
   serials-as-model = demand .serials
@@ -189,5 +201,7 @@ everyone r knit some most known greys pyramid serials order g p s o bytes =
         rw (powerOf-pow r some most)
         (load-none r knit (length greys) (length pyramid) (length serials) (length order) .1 lent)
 
-    said : loadOf (2 ^ r) knit greys pyramid serials order .said ≡ returned []
-    said = unfold loadOf loaded in rw (none, loadOf)
+    said : loadByQuarters (2 ^ r) knit greys pyramid serials order .said ≡ returned []
+    said =
+        unfold loadByQuarters loadOf loaded in
+        rw (rows-length (powerOf (2 ^ r)) pyramid, none, loadOf)

@@ -14,7 +14,8 @@ use Rattle.definition.specs.Blocks.{blockSide, greySum, greyTotal, totalOf, dot
 use Rattle.definition.specs.Diffusion.{kernelOf}
 use Rattle.definition.specs.Model.{Halftone, topOf, modelStart, steps}
 use Rattle.definition.specs.Refusals.{powerOf}
-use Rattle.definition.specs.Load.{loadOf}
+use Rattle.definition.specs.Quarters.{quartersFrom}
+use Rattle.definition.specs.ByQuarters.{loadByQuarters}
 use Rattle.definition.specs.Advance.{Reply, AdvanceOutcome}
 use Rattle.definition.specs.QuotePage.{Figure, figures}
 use Rattle.definition.specs.Calls.{Call, Held, heldAfterLoad, outcomesOf, heldAfterCalls, repliesOf, modelAfterCalls, modelReplies, isRefusal, granted}
@@ -31,7 +32,7 @@ EachBlock r P = (k a b : ℕ) → k ≤ r → a < 2 ^ k → b < 2 ^ k → P k a 
 -- "Demand 3 starts from an accepted Load": of greys, each of which "is a byte"
 pub record Accepted (side knit : ℕ) (greys : List ℕ) (pyramid : List ℤ) (serials order : List ℕ) : Type 0 where
   pub bytes : Each (λ grey. grey ≤ 255) greys
-  pub said : loadOf side knit greys pyramid serials order .said ≡ returned []
+  pub said : loadByQuarters side knit greys pyramid serials order .said ≡ returned []
 
 -- The holes of an aligned square of side s with grey sum g: the cap ..
 abbrev pub UnderCap : ℕ → List ℕ → List ℕ → ℕ → ℕ → ℕ → Type 0
@@ -63,8 +64,9 @@ Ends r total out = isRefusal (out .reply .said) ≡ false → (out .reply .said 
 pub record Holds (knit r G : ℕ) (greys : List ℕ) (lentPyramid : List ℤ) (lentSerials lentOrder : List ℕ)
     (calls : List Call)
     (held : Held) (outcomes : List AdvanceOutcome) (replies : List Reply) (model : Halftone) (modelled : List Reply) : Type 0 where
-  -- "After every list of calls the three buffers, each over its needed length, and the record (N, h) equal the model's"
-  pub pyramid : take (needed r) (held .pyramid) ≡ model .pyramid
+  -- what is needed of each buffer is the model's, the pyramid's written by quarters; so is the record
+  -- (document 01, demand 3; document 02, request 10)
+  pub pyramid : take (needed r) (held .pyramid) ≡ quartersFrom r (model .pyramid)
   pub serials : take (cellCount r) (held .serials) ≡ model .serials
   pub order : take (cellCount r) (held .order) ≡ model .order
   pub progress : held .progress ≡ record { side = 2 ^ r; dots = model .dots; knit = knit }

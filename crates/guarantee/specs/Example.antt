@@ -6,7 +6,7 @@ use Prim.Native.Nat.{ℕ}
 use native.Mathlib.Omega.{arith}
 use lib.ListN.{replicate}
 use lib.IntN.{ℤ, pos}
-use Rattle.definition.specs.Lists.{sumTo, allTo, tabulateFrom, eqZ}
+use Rattle.definition.specs.Lists.{sumTo, allTo, tabulateFrom, joined, eqZ}
 use Rattle.definition.specs.Answers.{Said, finished, more, refused}
 use Rattle.definition.specs.Pyramid.{start, placeIn, rowAt, columnAt, levelOf, inLevel, entry, four, coarser, pyramidOver}
 use Rattle.definition.specs.Blocks.{greyAt, burnt, burntAt}
@@ -37,6 +37,19 @@ use Rattle.definition.specs.Sound.{burntNear, everyEntry, fewDots, numbered, co
 use Rattle.definition.specs.Refusals.{powerUpTo, powerOf, lowest}
 use Rattle.definition.specs.Load.{loadRefusal, loaded, loadOf}
 use Rattle.definition.specs.Advance.{Reply, dotsDue, saidAt, sheetIn, advanceRefusal, advanced, advanceOf}
+use Rattle.definition.specs.Quarters.{
+  interleaved,
+  rowOf,
+  columnOf,
+  quarterEntry,
+  quarterLevel,
+  rowsFrom,
+  quartersFrom,
+  relaid,
+  asRows,
+  asQuarters,
+}
+use Rattle.definition.specs.ByQuarters.{loadByQuarters, advanceByQuarters}
 use Rattle.definition.specs.Calls.{Call, heldAfterLoad, callOf, heldAfter, outcomesOf, repliesOf}
 use Rattle.guarantee.specs.Demand3.{Accepted, Demand3}
 use Rattle.guarantee.specs.Theorem.{demand-3}
@@ -57,11 +70,13 @@ abbrev calls : List Call
 calls = call 0 6 ∷ call 1 4 ∷ call 1 6 ∷ call 1 5 ∷ []
 
 accepted : Accepted 2 plain greys pyramid sheet sheet
-unfolding loadOf loadRefusal loaded lowest powerOf powerUpTo start
+unfolding loadByQuarters asRows relaid rowsFrom joined levelOf tabulateFrom loadOf loadRefusal loaded lowest powerOf
+    powerUpTo start
 accepted = record { bytes = (omega arith, (omega arith, (omega arith, (omega arith, tt)))); said = refl }
 
 accepted-ribbed : Accepted 2 ribbed greys pyramid sheet sheet
-unfolding loadOf loadRefusal loaded lowest powerOf powerUpTo start
+unfolding loadByQuarters asRows relaid rowsFrom joined levelOf tabulateFrom loadOf loadRefusal loaded lowest powerOf
+    powerUpTo start
 accepted-ribbed = record { bytes = accepted .bytes; said = refl }
 
 pub holds-here : Demand3 2 plain greys pyramid sheet sheet calls
@@ -88,5 +103,6 @@ unfolding sumTo allTo tabulateFrom eqZ start placeIn rowAt columnAt levelOf inLe
     descend weightsOf placesInTurn kernelOf within onMap weightAt share diffuse topOf modelStart missing placeDot
     step steps burntNear everyEntry fewDots numbered counted unused summed bounded owing isSound powerUpTo powerOf
     lowest loadRefusal loaded loadOf dotsDue saidAt sheetIn advanceRefusal advanced advanceOf heldAfterLoad callOf
-    heldAfter outcomesOf repliesOf
+    heldAfter outcomesOf repliesOf interleaved rowOf columnOf quarterEntry quarterLevel rowsFrom quartersFrom relaid
+    asRows asQuarters joined loadByQuarters advanceByQuarters
 replies-here = (refl, refl)

@@ -6,17 +6,21 @@ use native.Mathlib.Omega.{arith}
 use native.Mathlib.Decide.{decLt}
 use lib.Dec.{ltb}
 use lib.IntN.{ℤ}
-use lib.ListN.{length, take, drop, length-take, take-append-drop}
+use lib.ListN.{length, take, drop, length-take, length-append, take-append-drop}
 use lib.Seq.{take-take, take-at, drop-at, take-add, drop-drop}
 use borrow.Author.Tests.{lt-ltb, le-ltb}
 use Rattle.definition.specs.Model.{Halftone}
+use Rattle.definition.specs.Quarters.{rowsFrom, quartersFrom, asRows, asQuarters}
+use Rattle.definition.specs.Pyramid.{needed}
 use Rattle.definition.specs.Calls.{Held}
+use Rattle.layouts.specs.Relaid.{length-quarters, rows-back}
+use Rattle.layouts.specs.Lent.{rows-taken, rows-take, rows-drop, as-quarters-part, quarters-rows}
 
--- a sheet in buffers that go on with p, s and o
+-- a sheet in buffers that go on with p, s and o, its pyramid by quarters
 abbrev pub heldOf : ℕ → ℕ → Halftone → List ℤ → List ℕ → List ℕ → Held
 heldOf knit r t p s o = record {
   progress = record { side = 2 ^ r; dots = t .dots; knit = knit };
-  pyramid = t .pyramid ++ p;
+  pyramid = quartersFrom r (t .pyramid) ++ p;
   serials = t .serials ++ s;
   order = t .order ++ o;
 }
@@ -46,3 +50,35 @@ module _ {A : Type 0} where
   lent-back a b t m n e h =
       let z : m + (n - m) ≡ n = omega arith in
       append-assoc b (drop m (take n (a ++ t))) (drop n (a ++ t)) ∙ ap (λ (l : List A). b ++ l) (rw z at (rest-of a t m (n - m) e))
+
+-- ---- the same of a pyramid by quarters, of which a part is lent
+module _ (r : ℕ) (a p : List ℤ) (n : ℕ) (whole : length a ≡ needed r) where
+  abbrev part : List ℤ
+  part = take n (quartersFrom r a ++ p)
+
+  part-long : needed r ≤ n → needed r ≤ length part
+  part-long h =
+      omega (arith, length-take n (quartersFrom r a ++ p), length-append (quartersFrom r a) p, length-quarters r a)
+
+  -- long enough, it holds the sheet's pyramid, written row after row
+  pub rows-part : needed r ≤ n → take (needed r) (asRows r part) ≡ a
+  rows-part h =
+      rows-take r part (part-long h)
+      ∙ sym (rows-taken r part)
+      ∙ ap (rowsFrom r) (lent-part (quartersFrom r a) p (needed r) n (length-quarters r a) h)
+      ∙ rows-back r a whole
+
+  -- and the whole buffer after b was written over it
+  pub rows-over : (b : List ℤ) → length b ≡ needed r → needed r ≤ n
+      → asQuarters r (b ++ drop (needed r) (asRows r part)) ++ drop n (quartersFrom r a ++ p)
+      ≡ quartersFrom r b ++ p
+  rows-over b e h =
+      ap (λ (l : List ℤ). asQuarters r (b ++ l) ++ drop n (quartersFrom r a ++ p)) (rows-drop r part)
+      ∙ ap (λ (l : List ℤ). l ++ drop n (quartersFrom r a ++ p)) (as-quarters-part r b (drop (needed r) part) e)
+      ∙ lent-back (quartersFrom r a) (quartersFrom r b) p (needed r) n (length-quarters r a) h
+
+  -- a part that was not written on
+  pub rows-stay : asQuarters r (asRows r part) ++ drop n (quartersFrom r a ++ p) ≡ quartersFrom r a ++ p
+  rows-stay =
+      ap (λ (l : List ℤ). l ++ drop n (quartersFrom r a ++ p)) (quarters-rows r part)
+      ∙ take-append-drop n (quartersFrom r a ++ p)

@@ -9,4 +9,5 @@ pub mod ManyCalls
 pub mod Theorem
 pub mod Clauses
 pub mod Sharp
+pub mod Relay
 pub mod Example

@@ -15,14 +15,18 @@ use Rattle.definition.specs.Model.{Halftone, topOf, steps}
 use Rattle.definition.specs.Sound.{isSound}
 use Rattle.definition.specs.Refusals.{powerOf, lowest}
 use Rattle.definition.specs.Advance.{AdvanceOutcome, dotsDue, saidAt, sheetIn, advanceRefusal, advanced, advanceOf}
+use Rattle.definition.specs.Quarters.{quartersFrom, asRows}
+use Rattle.definition.specs.ByQuarters.{advanceByQuarters}
 use Rattle.definition.specs.Calls.{Call, callOf, heldAfter, modelRefusal, modelCall, modelReply}
 use Rattle.definition.specs.declared.Progress.{Progress}
 use Rattle.integers.specs.Tests.{true-T}
 use Rattle.refusals.specs.Lowest.{lowest-none}
 use Rattle.shares.specs.Kernels.{knit-fit}
-use Rattle.dots.specs.Steps.{Sheet, steps-made, steps-min}
+use Rattle.layouts.specs.Relaid.{length-quarters}
+use Rattle.layouts.specs.Lent.{rows-length}
+use Rattle.dots.specs.Steps.{Sheet, steps-sheet, steps-made, steps-min}
 use Rattle.dots.specs.SoundTest.{sound-test}
-use Rattle.guarantee.specs.Lent.{heldOf, lent-test, lent-part, lent-back}
+use Rattle.guarantee.specs.Lent.{heldOf, lent-test, lent-part, lent-back, rows-part, rows-over, rows-stay}
 
 -- what the model does not refuse is long enough
 enough : (r : ℕ) (c : Call) → modelRefusal r c ≡ 0 → (needed r ≤ c .pyramidLent) × (cellCount r ≤ c .serialsLent) × (cellCount r ≤ c .orderLent)
@@ -37,7 +41,11 @@ module _ (knit : ℕ) (known : knit ≤ 1) (r : ℕ) (big : 2 ≤ 2 ^ r) (power 
     (t : Halftone) (sheet : Sheet r t) (p : List ℤ) (s o : List ℕ) (c : Call) where
   -- the parts lent
   abbrev lentPyramid : List ℤ
-  lentPyramid = take (c .pyramidLent) (t .pyramid ++ p)
+  lentPyramid = take (c .pyramidLent) (quartersFrom r (t .pyramid) ++ p)
+
+  -- the part of the pyramid, written row after row
+  abbrev lentRows : List ℤ
+  lentRows = asRows r lentPyramid
 
   abbrev lentSerials : List ℕ
   lentSerials = take (c .serialsLent) (t .serials ++ s)
@@ -46,7 +54,7 @@ module _ (knit : ℕ) (known : knit ≤ 1) (r : ℕ) (big : 2 ≤ 2 ^ r) (power 
   lentOrder = take (c .orderLent) (t .order ++ o)
 
   abbrev lentSheet : Halftone
-  lentSheet = sheetIn r (t .dots) lentPyramid lentSerials lentOrder
+  lentSheet = sheetIn r (t .dots) lentRows lentSerials lentOrder
 
   -- long enough, they hold the sheet
   sheet-lent : (needed r ≤ c .pyramidLent) × (cellCount r ≤ c .serialsLent) × (cellCount r ≤ c .orderLent) → lentSheet ≡ t
@@ -54,21 +62,23 @@ module _ (knit : ℕ) (known : knit ≤ 1) (r : ℕ) (big : 2 ≤ 2 ^ r) (power 
   sheet-lent h =
       λ i.
       record {
-        pyramid = lent-part (t .pyramid) p (needed r) (c .pyramidLent) (sheet .sized .pyramid) (h .0) i;
+        pyramid = rows-part r (t .pyramid) p (c .pyramidLent) (sheet .sized .pyramid) (h .0) i;
         serials = lent-part (t .serials) s (cellCount r) (c .serialsLent) (sheet .sized .serials) (h .1) i;
         order = lent-part (t .order) o (cellCount r) (c .orderLent) (sheet .sized .order) (h .2) i;
         dots = t .dots;
       }
 
   -- the call is refused exactly as the model refuses it
-  refusal-same : advanceRefusal r knit (length lentPyramid) (length lentSerials) (length lentOrder)
+  refusal-same : advanceRefusal r knit (length lentRows) (length lentSerials) (length lentOrder)
       (isSound r lentSheet) ≡ modelRefusal r c
   unfolding advanceRefusal modelRefusal lowest
   refusal-same =
       rw (
         le-ltb 1 knit known,
         ne-eqb r 0 (λ z. omega (arith, ap (λ (n : ℕ). 2 ^ n) z)),
-        lent-test (t .pyramid ++ p) (c .pyramidLent) (needed r) (omega (arith, length-append (t .pyramid) p, sheet .sized .pyramid)),
+        rows-length r lentPyramid,
+        lent-test (quartersFrom r (t .pyramid) ++ p) (c .pyramidLent) (needed r)
+            (omega (arith, length-append (quartersFrom r (t .pyramid)) p, length-quarters r (t .pyramid))),
         lent-test (t .serials ++ s) (c .serialsLent) (cellCount r) (omega (arith, length-append (t .serials) s, sheet .sized .serials)),
         lent-test (t .order ++ o) (c .orderLent) (cellCount r) (omega (arith, length-append (t .order) o, sheet .sized .order)),
       )
@@ -86,18 +96,24 @@ module _ (knit : ℕ) (known : knit ≤ 1) (r : ℕ) (big : 2 ≤ 2 ^ r) (power 
   abbrev given : Progress
   given = record { side = 2 ^ r; dots = t .dots; knit = knit }
 
+  -- what the call by rows leaves
   abbrev outcome : AdvanceOutcome
-  outcome = advanceOf given (c .budget) lentPyramid lentSerials lentOrder
+  outcome = advanceOf given (c .budget) lentRows lentSerials lentOrder
 
   outcome-taken : modelRefusal r c ≡ 0
-      → outcome ≡ advanced r given (c .budget) lentPyramid lentSerials lentOrder
+      → outcome ≡ advanced r given (c .budget) lentRows lentSerials lentOrder
   outcome-taken e =
       unfold advanceOf in
       rw (power, refusal-same ∙ e, advanceOf)
-      (ap (λ (k : ℕ). advanced k given (c .budget) lentPyramid lentSerials lentOrder) power)
+      (ap (λ (k : ℕ). advanced k given (c .budget) lentRows lentSerials lentOrder) power)
 
   outcome-refused : (n : ℕ) → modelRefusal r c ≡ suc n
-      → outcome ≡ record { reply = record { progress = given; made = 0; said = refused (suc n) }; pyramid = lentPyramid; serials = lentSerials; order = lentOrder }
+      → outcome ≡ record {
+        reply = record { progress = given; made = 0; said = refused (suc n) };
+        pyramid = lentRows;
+        serials = lentSerials;
+        order = lentOrder;
+      }
   outcome-refused n e = unfold advanceOf in rw (power, refusal-same ∙ e, advanceOf)
 
   -- the model's part of it: what the steps made, and how far the number of dots rose
@@ -138,17 +154,19 @@ module _ (knit : ℕ) (known : knit ≤ 1) (r : ℕ) (big : 2 ≤ 2 ^ r) (power 
   abbrev expected : AdvanceOutcome
   expected = record {
     reply = modelReply knit r t c;
-    pyramid = modelCall knit r t c .pyramid ++ p;
+    pyramid = quartersFrom r (modelCall knit r t c .pyramid) ++ p;
     serials = modelCall knit r t c .serials ++ s;
     order = modelCall knit r t c .order ++ o;
   }
 
   call-taken : modelRefusal r c ≡ 0 → callOf (heldOf knit r t p s o) c ≡ expected
-  unfolding callOf advanced
+  unfolding callOf advanceByQuarters advanced
   call-taken e =
       let h = enough r c e in
       let done = steps (kernelOf knit) r (c .budget) t in
+      let long = steps-sheet (kernelOf knit) (knit-fit knit) r big (c .budget) t sheet .sized .pyramid in
       rw (
+        power,
         outcome-taken e,
         sheet-lent h,
         steps-min (kernelOf knit) (knit-fit knit) r big (c .budget) t sheet,
@@ -162,19 +180,19 @@ module _ (knit : ℕ) (known : knit ≤ 1) (r : ℕ) (big : 2 ≤ 2 ^ r) (power 
           made = min (c .budget) (dotsDue (topOf (t .pyramid)));
           said = saidAt (topOf (done .pyramid));
         };
-        pyramid = lent-back (t .pyramid) (done .pyramid) p (needed r) (c .pyramidLent) (sheet .sized .pyramid) (h .0) i;
+        pyramid = rows-over r (t .pyramid) p (c .pyramidLent) (sheet .sized .pyramid) (done .pyramid) long (h .0) i;
         serials = lent-back (t .serials) (done .serials) s (cellCount r) (c .serialsLent) (sheet .sized .serials) (h .1) i;
         order = lent-back (t .order) (done .order) o (cellCount r) (c .orderLent) (sheet .sized .order) (h .2) i;
       })
 
   call-refused : (n : ℕ) → modelRefusal r c ≡ suc n → callOf (heldOf knit r t p s o) c ≡ expected
-  unfolding callOf
+  unfolding callOf advanceByQuarters
   call-refused n e =
-      rw (outcome-refused n e, reply-refused n e, model-refused n e)
+      rw (power, outcome-refused n e, reply-refused n e, model-refused n e)
       (λ i.
       record {
         reply = record { progress = given; made = 0; said = refused (suc n) };
-        pyramid = take-append-drop (c .pyramidLent) (t .pyramid ++ p) i;
+        pyramid = rows-stay r (t .pyramid) p (c .pyramidLent) (sheet .sized .pyramid) i;
         serials = take-append-drop (c .serialsLent) (t .serials ++ s) i;
         order = take-append-drop (c .orderLent) (t .order ++ o) i;
       })
@@ -197,7 +215,7 @@ module _ (knit : ℕ) (known : knit ≤ 1) (r : ℕ) (big : 2 ≤ 2 ^ r) (power 
       rw call-same
       (λ i. record {
         progress = reply-progress i;
-        pyramid = modelCall knit r t c .pyramid ++ p;
+        pyramid = quartersFrom r (modelCall knit r t c .pyramid) ++ p;
         serials = modelCall knit r t c .serials ++ s;
         order = modelCall knit r t c .order ++ o;
       })

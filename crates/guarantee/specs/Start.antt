@@ -14,6 +14,8 @@ use Rattle.definition.specs.Sound.{Sound}
 use Rattle.definition.specs.Refusals.{powerOf}
 use Rattle.definition.specs.Load.{loadRefusal, loaded, loadOf}
 use Rattle.definition.specs.Advance.{dotsDue}
+use Rattle.definition.specs.Quarters.{quartersFrom, asRows, asQuarters}
+use Rattle.definition.specs.ByQuarters.{loadByQuarters}
 use Rattle.definition.specs.Calls.{heldAfterLoad}
 use Rattle.integers.specs.Linear.{zz, ints, up-or-dn}
 use Rattle.integers.specs.Lists.{getD-replicate-self, tabulate-ext}
@@ -24,6 +26,7 @@ use Rattle.quadtree.specs.Areas.{area, area-ext, area-mul, area-zero, block-are
 use Rattle.quadtree.specs.Residues.{areaZ, areaZ-ext, areaZ-pos}
 use Rattle.quadtree.specs.Levels.{block-side, cell-lt, place-row-column}
 use Rattle.quadtree.specs.Pyramids.{length-level, level-entry, length-pyramid, pyramid-cells, pyramid-summed}
+use Rattle.layouts.specs.Lent.{rows-length, rows-drop, as-quarters-part}
 use Rattle.dots.specs.Placing.{Sized}
 use Rattle.dots.specs.Kept.{sound-summed}
 use Rattle.dots.specs.Steps.{Sheet, top-area, due-is}
@@ -51,6 +54,13 @@ pub total-area : (r : ℕ) (greys : List ℕ) → greyTotal r greys ≡ area 0 0
 unfolding greyTotal greySum
 total-area r greys = block-area r (greyAt r greys) 0 0 0 ∙ rw (block-side r r 0 (omega arith), zero-mul)
 
+-- its pyramid has the needed length
+pub start-long : (r : ℕ) (greys : List ℕ) → length (modelStart r greys .pyramid) ≡ needed r
+unfolding modelStart
+start-long r greys =
+    length-pyramid r (levelOf r (λ row column. pos (256 * greyAt r greys row column)))
+    (length-level r (λ row column. pos (256 * greyAt r greys row column)))
+
 module _ (r : ℕ) (greys : List ℕ) (bytes : Each (λ grey. grey ≤ 255) greys) where
   abbrev fresh : Halftone
   fresh = modelStart r greys
@@ -74,7 +84,7 @@ module _ (r : ℕ) (greys : List ℕ) (bytes : Each (λ grey. grey ≤ 255) grey
   unfolding modelStart
   start-sized =
       record {
-        pyramid = length-pyramid r cells (length-level r (λ row column. pos (256 * greyAt r greys row column)));
+        pyramid = start-long r greys;
         serials = length-replicate (cellCount r) 0;
         order = length-replicate (cellCount r) 0;
       }
@@ -170,8 +180,8 @@ module _ (side knit : ℕ) (greys : List ℕ) (pyramid : List ℤ) (serials orde
       record { none = z; lent = l; side-is = side-pow side (l .power) }
     where
       said-no : (n : ℕ) → refusal ≡ suc n
-          → loadOf side knit greys pyramid serials order .said ≡ refused (suc n)
-      said-no n e = unfold loadOf in rw (e, loadOf)
+          → loadByQuarters side knit greys pyramid serials order .said ≡ refused (suc n)
+      said-no n e = unfold loadByQuarters loadOf in rw (rows-length (powerOf side) pyramid, e, loadOf)
 
       go : (k : ℕ) → refusal ≡ k → refusal ≡ 0
       go zero e = e
@@ -181,14 +191,19 @@ module _ (side knit : ℕ) (greys : List ℕ) (pyramid : List ℤ) (serials orde
   pub loaded-held : Loaded side knit greys pyramid serials order → heldAfterLoad side knit greys pyramid serials order
       ≡ heldOf knit (powerOf side) (modelStart (powerOf side) greys) (drop (needed (powerOf side)) pyramid)
       (drop (cellCount (powerOf side)) serials) (drop (cellCount (powerOf side)) order)
-  unfolding heldAfterLoad loadOf loaded modelStart
+  unfolding heldAfterLoad loadByQuarters loadOf loaded modelStart
   loaded-held h =
-      let fresh = modelStart (powerOf side) greys in
-      rw (h .none, loadOf)
+      let r = powerOf side in
+      let fresh = modelStart r greys in
+      let by-quarters : asQuarters r (fresh .pyramid ++ drop (needed r) (asRows r pyramid))
+      ≡ quartersFrom r (fresh .pyramid) ++ drop (needed r) pyramid
+      = ap (λ (l : List ℤ). asQuarters r (fresh .pyramid ++ l)) (rows-drop r pyramid)
+      ∙ as-quarters-part r (fresh .pyramid) (drop (needed r) pyramid) (start-long r greys) in
+      rw (rows-length r pyramid, h .none, loadOf)
       (λ i.
       record {
         progress = record { side = h .side-is i; dots = 0; knit = knit };
-        pyramid = fresh .pyramid ++ drop (needed (powerOf side)) pyramid;
+        pyramid = by-quarters i;
         serials = fresh .serials ++ drop (cellCount (powerOf side)) serials;
         order = fresh .order ++ drop (cellCount (powerOf side)) order;
       })

@@ -18,12 +18,14 @@ use Rattle.definition.specs.Diffusion.{kernelOf}
 use Rattle.definition.specs.Model.{Halftone, topOf, modelStart}
 use Rattle.definition.specs.Refusals.{powerOf}
 use Rattle.definition.specs.Advance.{dotsDue}
+use Rattle.definition.specs.Quarters.{quartersFrom}
 use Rattle.definition.specs.Calls.{Call, callOf, outcomesOf, repliesOf, modelCall, modelReply, modelAfterCalls, modelReplies, isRefusal}
 use Rattle.integers.specs.Linear.{zz, ints}
 use Rattle.integers.specs.Sums.{sumTo-rows, sumTo-ext}
 use Rattle.refusals.specs.Powers.{power-small}
 use Rattle.quadtree.specs.Areas.{span, area, area-ext, block-area}
 use Rattle.quadtree.specs.Levels.{start-suc, cell-lt, block-side, block-on-map}
+use Rattle.layouts.specs.Relaid.{length-quarters, quarters-top}
 use Rattle.shares.specs.Kernels.{knit-fit}
 use Rattle.dots.specs.Steps.{Sheet, steps-keep}
 use Rattle.guarantee.specs.Demand3.{Each, EachBlock, Accepted, UnderCap, Ends, Holds, Demand3}
@@ -143,9 +145,17 @@ module _ (knit : ℕ) (known : knit ≤ 1) (r : ℕ) (big : 2 ≤ 2 ^ r) (power 
     at-order : (i : ℕ) → i < last .dots → getD (last .order ++ o) i 0 ≡ getD (last .order) i 0
     at-order i h = List·getD-append (last .order) o 0 i (omega (arith, sheet .sized .order, sheet .sound .few-dots))
 
-    at-top : topOf (last .pyramid ++ p) ≡ topOf (last .pyramid)
+    at-top : topOf (quartersFrom r (last .pyramid) ++ p) ≡ topOf (last .pyramid)
     unfolding topOf
-    at-top = List·getD-append (last .pyramid) p (pos 0) 0 (omega (arith, sheet .sized .pyramid, start-suc r, cell-lt (2 ^ r) 0 0 (omega arith) (omega arith)))
+    at-top =
+        List·getD-append (quartersFrom r (last .pyramid)) p (pos 0) 0
+        (omega (
+          arith,
+          length-quarters r (last .pyramid),
+          start-suc r,
+          cell-lt (2 ^ r) 0 0 (omega arith) (omega arith),
+        ))
+        ∙ quarters-top r (last .pyramid)
 
     -- two places of the order list have two serials
     different : (i j : ℕ) → i < j → j < last .dots → getD (last .order) i 0 ≢ getD (last .order) j 0
@@ -176,12 +186,12 @@ module _ (knit : ℕ) (known : knit ≤ 1) (r : ℕ) (big : 2 ≤ 2 ^ r) (power 
         last (modelReplies knit r fresh cs)
     holds =
         record {
-          pyramid = take-at (last .pyramid) p (needed r) (sheet .sized .pyramid);
+          pyramid = take-at (quartersFrom r (last .pyramid)) p (needed r) (length-quarters r (last .pyramid));
           serials = take-at (last .serials) s (cellCount r) (sheet .sized .serials);
           order = take-at (last .order) o (cellCount r) (sheet .sized .order);
           progress = refl;
           answered = calls-replies knit known r big power p s o cs fresh (start-sheet r greys bytes);
-          pyramid-rest = drop-at (last .pyramid) p (needed r) (sheet .sized .pyramid);
+          pyramid-rest = drop-at (quartersFrom r (last .pyramid)) p (needed r) (length-quarters r (last .pyramid));
           serials-rest = drop-at (last .serials) s (cellCount r) (sheet .sized .serials);
           order-rest = drop-at (last .order) o (cellCount r) (sheet .sized .order);
           first-dots = calls-first knit known r big power cs fresh (start-sheet r greys bytes) no-dots;

@@ -1,11 +1,11 @@
-// Load: the pyramid summed from the greys, the two other buffers cleared, and the record (side, 0, knit).
+// Load: the pyramid summed from the greys, by quarters, the two other buffers cleared, and the record (side, 0, knit).
 use checks::Check;
 use definition::LoadAnswer;
 use definition::LoadStatus;
 use definition::Progress;
 ghost use mathlib.Core.Path.{_≡_};
 ghost use Rattle.definition.specs.Answers.{loadSays};
-ghost use Rattle.definition.specs.Load.{loadOf};
+ghost use Rattle.definition.specs.ByQuarters.{loadByQuarters};
 
 // A record without dots, and what is said with it.
 fn answer(side: u32, knit: u32, status: LoadStatus) -> LoadAnswer
@@ -34,7 +34,7 @@ pub fn load(
           serials = now (serials .exit);
           order = now (order .exit);
         }
-        ≡ loadOf side knit
+        ≡ loadByQuarters side knit
         (now (greys .entry)) (now (pyramid .entry)) (now (serials .entry)) (now (order .entry))
         ⌝ }
 {
@@ -49,7 +49,8 @@ pub fn load(
     ) {
         Check::Failed(why) => answer(0, 0, LoadStatus::Refused(why)),
         Check::Passed => {
-            fresh_sheet::fill(r, greys, pyramid, serials, order);
+            let table = places::table();
+            fresh_sheet::fill(r, &table, greys, pyramid, serials, order);
             answer(side, knit, LoadStatus::Loaded)
         }
     }

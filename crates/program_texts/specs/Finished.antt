@@ -13,13 +13,15 @@ use Rattle.definition.specs.Pyramid.{needed, cellCount}
 use Rattle.definition.specs.Diffusion.{plain, kernelOf}
 use Rattle.definition.specs.Model.{Halftone, topOf, modelStart, steps}
 use Rattle.definition.specs.Refusals.{powerOf, lowest}
-use Rattle.definition.specs.Load.{loadOf}
-use Rattle.definition.specs.Advance.{Reply, AdvanceOutcome, dotsDue, advanceOf}
+use Rattle.definition.specs.Quarters.{quartersFrom}
+use Rattle.definition.specs.ByQuarters.{loadByQuarters, advanceByQuarters}
+use Rattle.definition.specs.Advance.{Reply, AdvanceOutcome, dotsDue}
 use Rattle.definition.specs.Calls.{Call, Held, heldAfterLoad, callOf, heldAfter, modelRefusal}
 use Rattle.definition.specs.Plate.{finishedOf}
 use Rattle.definition.specs.declared.Progress.{Progress}
 use Rattle.refusals.specs.Powers.{side-pow}
 use Rattle.refusals.specs.Lowest.{LoadLent, load-none}
+use Rattle.layouts.specs.Relaid.{length-quarters}
 use Rattle.shares.specs.Kernels.{knit-fit}
 use Rattle.dots.specs.Steps.{Sheet, steps-sheet, steps-made, steps-min}
 use Rattle.guarantee.specs.Lent.{heldOf}
@@ -69,7 +71,7 @@ wholeCall held budget = record { budget = budget; pyramidLent = length (held .py
 
 -- Advance, as a call on what the caller holds
 abbrev advancedFrom : Held → ℕ → AdvanceOutcome
-advancedFrom held budget = advanceOf (held .progress) budget (held .pyramid) (held .serials) (held .order)
+advancedFrom held budget = advanceByQuarters (held .progress) budget (held .pyramid) (held .serials) (held .order)
 
 call-whole : (held : Held) (budget : ℕ) → callOf held (wholeCall held budget) ≡ advancedFrom held budget
 unfolding callOf
@@ -107,7 +109,8 @@ module _ (r : ℕ) (some : 0 < r) (power : powerOf (2 ^ r) ≡ r) (greys : List 
   unfolding modelRefusal lowest
   not-refused =
       rw (
-        le-ltb (length (fresh .pyramid ++ p)) (needed r) (omega (arith, length-append (fresh .pyramid) p, start .sized .pyramid)),
+        le-ltb (length (quartersFrom r (fresh .pyramid) ++ p)) (needed r)
+            (omega (arith, length-append (quartersFrom r (fresh .pyramid)) p, length-quarters r (fresh .pyramid))),
         le-ltb (length (fresh .serials ++ s)) (cellCount r) (omega (arith, length-append (fresh .serials) s, start .sized .serials)),
         le-ltb (length (fresh .order ++ o)) (cellCount r) (omega (arith, length-append (fresh .order) o, start .sized .order)),
       )
@@ -139,7 +142,7 @@ module _ (side : ℕ) (greys : List ℕ) (p : List ℤ) (s o : List ℕ) (asked 
 
   module _ {progress : Progress} (said : Said) {p₁ : List ℤ} {s₁ o₁ : List ℕ}
       (e : record { progress = progress; said = said; pyramid = p₁; serials = s₁; order = o₁ }
-      ≡ loadOf side plain greys p s o) where
+      ≡ loadByQuarters side plain greys p s o) where
     load-held : record { progress = progress; pyramid = p₁; serials = s₁; order = o₁ }
         ≡ heldOf plain r (modelStart r greys) (drop (needed r) p) (drop (cellCount r) s) (drop (cellCount r) o)
     load-held = held-after ∙ loaded-held side plain greys p s o loaded
@@ -150,7 +153,7 @@ module _ (side : ℕ) (greys : List ℕ) (p : List ℤ) (s o : List ℕ) (asked 
 
     pub map-finished : (budget : ℕ) → 1024 ≤ budget → {reply : Reply} {p₂ : List ℤ} {s₂ o₂ : List ℕ}
         → record { reply = reply; pyramid = p₂; serials = s₂; order = o₂ }
-        ≡ advanceOf progress budget p₁ s₁ o₁
+        ≡ advanceByQuarters progress budget p₁ s₁ o₁
         → record { progress = reply .progress; pyramid = p₂; serials = s₂; order = o₂ } ≡ finishedIn r greys p s o
     unfolding heldAfter
     map-finished budget h q =

@@ -19,12 +19,16 @@ use Rattle.definition.specs.Advance.{sheetIn}
 use Rattle.definition.specs.Calls.{Held}
 use Rattle.definition.specs.Text.{TextOutcome, textInto}
 use Rattle.definition.specs.DrillList.{drillText, drillListRefusal, drillListOf}
+use Rattle.definition.specs.Quarters.{quartersFrom, asRows}
+use Rattle.definition.specs.ByQuarters.{drillListByQuarters}
 use Rattle.definition.specs.Plate.{finishedOf}
 use Rattle.definition.specs.declared.Progress.{Progress}
 use Rattle.definition.specs.declared.Refusal.{Refusal}
 use Rattle.definition.specs.declared.TextAnswer.{TextAnswer}
 use Rattle.definition.specs.declared.TextAnswer.the-variants.{Length, Refused}
 use Rattle.integers.specs.Tests.{true-T}
+use Rattle.layouts.specs.Relaid.{length-quarters, rows-back}
+use Rattle.layouts.specs.Lent.{rows-part}
 use Rattle.dots.specs.Steps.{Sheet}
 use Rattle.dots.specs.SoundTest.{sound-test}
 use Rattle.guarantee.specs.Lent.{heldOf}
@@ -35,7 +39,7 @@ use Rattle.program_texts.specs.Finished.{finishedIn, MapAsked, power-aga
 
 -- Drill List, as a call on what the caller holds
 abbrev listedFrom : Held → List ℕ → TextOutcome
-listedFrom held out = drillListOf (held .progress) (held .pyramid) (held .serials) (held .order) out
+listedFrom held out = drillListByQuarters (held .progress) (held .pyramid) (held .serials) (held .order) out
 
 -- an answer that says a text's length and leaves the text
 abbrev printedIn : List ℕ → List ℕ → TextOutcome
@@ -44,6 +48,15 @@ printedIn text out = textInto 0 text out
 -- ---- Drill List on buffers that begin with a sheet
 module _ (r : ℕ) (some : 0 < r) (power : powerOf (2 ^ r) ≡ r) (t : Halftone) (sheet : Sheet r t) (p : List ℤ) (s o out : List ℕ)
     (room : length (drillText r t) ≤ length out) where
+  -- the pyramid's buffer, and the same row after row
+  abbrev buffer : List ℤ
+  buffer = quartersFrom r (t .pyramid) ++ p
+
+  rows-are : asRows r buffer ≡ t .pyramid ++ p
+  rows-are =
+      rows-part r (quartersFrom r (t .pyramid)) p (length-quarters r (t .pyramid))
+      ∙ ap (λ (l : List ℤ). l ++ p) (rows-back r (t .pyramid) (sheet .sized .pyramid))
+
   sheet-is : sheetIn r (t .dots) (t .pyramid ++ p) (t .serials ++ s) (t .order ++ o) ≡ t
   unfolding sheetIn
   sheet-is =
@@ -72,8 +85,8 @@ module _ (r : ℕ) (some : 0 < r) (power : powerOf (2 ^ r) ≡ r) (t : Halftone)
       )
 
   sheet-listed : listedFrom (heldOf plain r t p s o) out ≡ printedIn (drillText r t) out
-  unfolding drillListOf
-  sheet-listed = rw (power, sheet-is, not-refused)
+  unfolding drillListByQuarters drillListOf
+  sheet-listed = rw (power, rows-are, sheet-is, not-refused)
 
 -- ---- Drill List on the finished sheet
 module _ (side : ℕ) (greys : List ℕ) {a b c : ℕ} (asked : MapAsked side greys a b c) (p : List ℤ) (s o out : List ℕ)
@@ -96,7 +109,8 @@ module _ (side : ℕ) (greys : List ℕ) {a b c : ℕ} (asked : MapAsked side gr
   module _ {progress : Progress} {p₁ : List ℤ} {s₁ o₁ : List ℕ}
       (e : record { progress = progress; pyramid = p₁; serials = s₁; order = o₁ } ≡ finishedIn r greys p s o)
       (answer : TextAnswer) {after : List ℕ}
-      (list : record { said = textSays answer; output = after } ≡ drillListOf progress p₁ s₁ o₁ out) where
+      (list : record { said = textSays answer; output = after }
+      ≡ drillListByQuarters progress p₁ s₁ o₁ out) where
     answered : record { said = textSays answer; output = after } ≡ printedIn (drillText r sheet) out
     answered =
         list

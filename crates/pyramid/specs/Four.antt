@@ -18,7 +18,8 @@ pub record FourFit (w x y z : ℤ) : Type 0 where
   pub three : SFits w64 (w +ℤ x +ℤ y)
   pub all : SFits w64 (w +ℤ x +ℤ y +ℤ z)
 
-four-fit : (w x y z : ℤ) → Within (2 ^ 60) w → Within (2 ^ 60) x → Within (2 ^ 60) y → Within (2 ^ 60) z → FourFit w x y z
+four-fit : (w x y z : ℤ) → Within (2 ^ 60) w → Within (2 ^ 60) x → Within (2 ^ 60) y → Within (2 ^ 60) z
+    → FourFit w x y z
 four-fit w x y z a b c d =
     record {
       first = simp words (omega machine);
@@ -31,10 +32,13 @@ four-fit w x y z a b c d =
     }
 
 pub asked-fit : (part : List ℤ) (top wide : ℕ) → FourAsked part top wide
-    → FourFit (getD part top (pos 0)) (getD part (top + 1) (pos 0)) (getD part (top + wide) (pos 0)) (getD part (top + wide + 1) (pos 0))
+    → FourFit (getD part top (pos 0)) (getD part (top + 1) (pos 0))
+    (getD part (top + wide) (pos 0)) (getD part (top + wide + 1) (pos 0))
 asked-fit part top wide h = four-fit _ _ _ _ (h .first) (h .second) (h .third) (h .fourth)
 
-pub within-four : (bound : ℕ) (w x y z : ℤ) → Within bound w → Within bound x → Within bound y → Within bound z → Within (4 * bound) (w +ℤ x +ℤ y +ℤ z)
+pub within-four : (bound : ℕ) (w x y z : ℤ)
+    → Within bound w → Within bound x → Within bound y → Within bound z
+    → Within (4 * bound) (w +ℤ x +ℤ y +ℤ z)
 within-four bound w x y z a b c d = record { low = simp zz (omega ints); high = simp zz (omega ints) }
 
 pub within-mono : (a b : ℕ) (z : ℤ) → a ≤ b → Within a z → Within b z

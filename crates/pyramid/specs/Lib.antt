@@ -1,7 +1,8 @@
 pub mod Asked
 pub mod Four
-pub mod Level
 pub mod Small
 pub mod Turn
+pub mod Sums
 pub mod Upward
+pub mod Cells
 pub mod Fresh

@@ -1,4 +1,5 @@
--- Entries that are all within a bound: of a part of a list, of two lists one behind the other, of a level, and of the four below an entry.
+-- Entries that are all within a bound: of a part of a list, of two lists one behind the other, and of the four below
+-- an entry.
 use mathlib.Core.Path.{_≡_}
 use mathlib.Core.List.{List, [], _∷_, _++_}
 use Prim.Native.Nat.{ℕ, zero, suc, _+_, _*_, _^_, _<_}
@@ -19,29 +20,26 @@ module _ (bound : ℕ) where
   pub zero-within : Within bound (pos 0)
   zero-within = record { low = simp zz (omega arith); high = simp zz (omega arith) }
 
-  pub take-within : (n : ℕ) (l : List ℤ) → ((i : ℕ) → Within bound (getD l i (pos 0))) → (i : ℕ) → Within bound (getD (take n l) i (pos 0))
+  pub take-within : (n : ℕ) (l : List ℤ) → ((i : ℕ) → Within bound (getD l i (pos 0)))
+      → (i : ℕ) → Within bound (getD (take n l) i (pos 0))
   take-within zero l h i = zero-within
   take-within (suc n) [] h i = h i
   take-within (suc n) (x ∷ xs) h zero = h 0
   take-within (suc n) (x ∷ xs) h (suc i) = take-within n xs (λ j. h (suc j)) i
 
-  pub append-within : (xs ys : List ℤ) → ((i : ℕ) → Within bound (getD xs i (pos 0))) → ((i : ℕ) → Within bound (getD ys i (pos 0))) → (i : ℕ) → Within bound (getD (xs ++ ys) i (pos 0))
+  pub append-within : (xs ys : List ℤ) → ((i : ℕ) → Within bound (getD xs i (pos 0)))
+      → ((i : ℕ) → Within bound (getD ys i (pos 0))) → (i : ℕ) → Within bound (getD (xs ++ ys) i (pos 0))
   append-within [] ys h k i = k i
   append-within (x ∷ xs) ys h k zero = h 0
   append-within (x ∷ xs) ys h k (suc i) = append-within xs ys (λ j. h (suc j)) k i
 
-  pub level-within : (m : ℕ) (f : ℕ → ℕ → ℤ) → ((a b : ℕ) → a < 2 ^ m → b < 2 ^ m → Within bound (f a b)) → (i : ℕ) → Within bound (getD (levelOf m f) i (pos 0))
-  unfolding levelOf
-  level-within m f h i = go (decLt i (2 ^ m * 2 ^ m))
-    where
-      go : Dec (i < 2 ^ m * 2 ^ m) → Within bound (getD (levelOf m f) i (pos 0))
-      go (yes lt) = rw (getD-tabulate (2 ^ m * 2 ^ m) _ i (pos 0) lt) (h (rowAt m i) (columnAt m i) (row-lt m i lt) (column-lt m i))
-      go (no ge) = rw (List·getD-eq-default (levelOf m f) (pos 0) {n = i} (omega (arith, length-level m f))) zero-within
-
   -- the sum of the four below an entry of level k
-  pub four-small : (k : ℕ) (below : ℕ → ℕ → ℤ) → ((x y : ℕ) → x < 2 ^ suc k → y < 2 ^ suc k → Within bound (below x y)) → (a b : ℕ) → a < 2 ^ k → b < 2 ^ k → Within (4 * bound) (four below a b)
+  pub four-small : (k : ℕ) (below : ℕ → ℕ → ℤ)
+      → ((x y : ℕ) → x < 2 ^ suc k → y < 2 ^ suc k → Within bound (below x y))
+      → (a b : ℕ) → a < 2 ^ k → b < 2 ^ k → Within (4 * bound) (four below a b)
   unfolding four
   four-small k below h a b p q =
       let two : 2 ^ suc k ≡ 2 * 2 ^ k = pow-succ' 2 k in
-      within-four bound _ _ _ _ (h (2 * a) (2 * b) (omega arith) (omega arith)) (h (2 * a) (2 * b + 1) (omega arith) (omega arith))
+      within-four bound _ _ _ _
+      (h (2 * a) (2 * b) (omega arith) (omega arith)) (h (2 * a) (2 * b + 1) (omega arith) (omega arith))
       (h (2 * a + 1) (2 * b) (omega arith) (omega arith)) (h (2 * a + 1) (2 * b + 1) (omega arith) (omega arith))

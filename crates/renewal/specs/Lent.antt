@@ -1,8 +1,8 @@
 -- The renewal by itself: which pyramids it is made on.
-use mathlib.Core.Path.{_≡_, refl, sym, ap, _∙_}
+use mathlib.Core.Path.{_≡_, refl, sym, ap, ap₂, _∙_}
 use mathlib.Core.Bool.{Bool, true, false, not, _&&_}
 use mathlib.Core.List.{List, _++_}
-use Prim.Native.Nat.{ℕ, _^_, _≤_, _<_}
+use Prim.Native.Nat.{ℕ, zero, suc, _+_, _-_, _*_, _^_, _≤_, _<_}
 use native.Mathlib.Omega.{arith}
 use native.Mathlib.Numerals.{add-one}
 use native.Mathlib.Decide.{ℕ-discrete, decLt}
@@ -14,13 +14,19 @@ use lib.Signed.{leZ, ltZ}
 use mir.Syntax.{w64}
 use mir.Val.{SFits, toZ, ofZ}
 use mir.Facts.{toZ-ofZ}
-use Rattle.definition.specs.Pyramid.{start, needed}
+use Rattle.definition.specs.Pyramid.{start, needed, placeIn, rowAt, columnAt, entry}
+use Rattle.definition.specs.Quarters.{interleaved, rowOf, columnOf, quarterEntry, rowsFrom, asRows, asQuarters}
+use Rattle.definition.specs.ByQuarters.{renewalByQuarters}
 use Rattle.definition.specs.Refusals.{powerOf}
 use Rattle.definition.specs.Renewal.{isNear, renewed, isSmall, entriesSmall, renewable, renewalOf}
 use Rattle.integers.specs.Linear.{zz, ints}
-use Rattle.integers.specs.Tests.{tests, T-true, T-and, and-T, T-four, four-T, same-test, allTo-at}
+use Rattle.integers.specs.Tests.{tests, T-true, T-and, and-T, T-four, four-T, same-test, allTo-at, allTo-all}
 use Rattle.integers.specs.Loops.{Every, held, failed}
 use Rattle.refusals.specs.Powers.{power-small, side-pow}
+use Rattle.quadtree.specs.Levels.{start-thrice, start-suc, start-mono, place-lt, place-row-column, row-lt, column-lt}
+use Rattle.layouts.specs.Interleaved.{interleaved-lt, interleaved-of, row-of-lt, column-of-lt}
+use Rattle.layouts.specs.Relaid.{rows-entry, length-rows, quarters-back}
+use Rattle.layouts.specs.Lent.{rows-length, rows-take, rows-drop, rows-taken, as-quarters-part, quarters-rows}
 use Rattle.pyramid.specs.Asked.{Within, Whole, SmallPyramid}
 use Rattle.pyramid.specs.Small.{zero-within}
 
@@ -57,6 +63,70 @@ within-small z t =
 -- the code reads an entry as a word
 pub small-read : {b : Bool} {z : ℤ} → SFits w64 z → b ≡ isSmall (toZ w64 (ofZ w64 z)) → b ≡ isSmall z
 small-read f e = rw (toZ-ofZ f) at e
+
+-- ---- the test reads a pyramid in either layout
+-- what holds at every place of every level holds at every place
+by-levels : (P : ℕ → Type 0) (r : ℕ) → ((k i : ℕ) → k ≤ r → i < 2 ^ k * 2 ^ k → P (start k + i))
+    → (n : ℕ) → n < start (suc r) → P n
+by-levels P zero h n lt = rw (← at) (h 0 0 (omega arith) (omega arith))
+  where
+    at : start 0 + 0 ≡ n
+    at = omega (arith, start-suc 0, start-thrice 0)
+by-levels P (suc r) h n lt =
+    go (decLt n (start (suc r))) (λ l. by-levels P r (λ k i le. h k i (omega arith)) n l)
+  where
+    go : Dec (n < start (suc r)) → (n < start (suc r) → P n) → P n
+    go (yes l) ih = ih l
+    go (no l) ih =
+        let at : start (suc r) + (n - start (suc r)) ≡ n = omega arith in
+        rw at at (h (suc r) (n - start (suc r)) (omega arith) (omega (arith, start-suc (suc r))))
+
+module _ (r : ℕ) (pyramid : List ℤ) (long : needed r ≤ length pyramid) where
+  abbrev small-in : List ℤ → ℕ → Type 0
+  small-in l n = T (isSmall (getD l n (pos 0)))
+
+  -- row after row, the entry at place i of level k is that at the place of its row and column; and back
+  rows-place : (k i : ℕ) → k ≤ r → i < 2 ^ k * 2 ^ k
+      → getD (rowsFrom r pyramid) (start k + i) (pos 0)
+      ≡ getD pyramid (start k + interleaved k (rowAt k i) (columnAt k i)) (pos 0)
+  unfolding entry quarterEntry
+  rows-place k i le lt =
+      ap (λ (n : ℕ). getD (rowsFrom r pyramid) (start k + n) (pos 0)) (sym (place-row-column k i))
+      ∙ rows-entry r pyramid k (rowAt k i) (columnAt k i) le (row-lt k i lt) (column-lt k i)
+
+  place-rows : (k i : ℕ) → k ≤ r → i < 2 ^ k * 2 ^ k
+      → getD pyramid (start k + i) (pos 0)
+      ≡ getD (rowsFrom r pyramid) (start k + placeIn k (rowOf k i) (columnOf k i)) (pos 0)
+  unfolding entry quarterEntry
+  place-rows k i le lt =
+      ap (λ (n : ℕ). getD pyramid (start k + n) (pos 0)) (sym (interleaved-of k i lt))
+      ∙ sym (rows-entry r pyramid k (rowOf k i) (columnOf k i) le (row-of-lt k i) (column-of-lt k i))
+
+  in-needed : (k i : ℕ) → k ≤ r → i < 2 ^ k * 2 ^ k → start k + i < needed r
+  in-needed k i le lt = omega (arith, start-suc k, start-mono (suc k) (suc r) (omega arith))
+
+  as-rows-at : (n : ℕ) → n < needed r → getD (asRows r pyramid) n (pos 0) ≡ getD (rowsFrom r pyramid) n (pos 0)
+  as-rows-at n lt =
+      sym (getD-take (needed r) (asRows r pyramid) n (pos 0) lt)
+      ∙ ap (λ (l : List ℤ). getD l n (pos 0)) (rows-take r pyramid long)
+
+  rows-small : T (entriesSmall (needed r) pyramid) → T (entriesSmall (needed r) (asRows r pyramid))
+  unfolding entriesSmall
+  rows-small t =
+      allTo-all (needed r) (λ n. isSmall (getD (asRows r pyramid) n (pos 0)))
+      (by-levels (small-in (asRows r pyramid)) r (λ k i le lt.
+      rw (as-rows-at (start k + i) (in-needed k i le lt), rows-place k i le lt)
+      (allTo-at (needed r) (λ n. isSmall (getD pyramid n (pos 0))) t _
+      (in-needed k _ le (interleaved-lt k (rowAt k i) (columnAt k i))))))
+
+  small-rows : T (entriesSmall (needed r) (asRows r pyramid)) → T (entriesSmall (needed r) pyramid)
+  unfolding entriesSmall
+  small-rows t =
+      allTo-all (needed r) (λ n. isSmall (getD pyramid n (pos 0)))
+      (by-levels (small-in pyramid) r (λ k i le lt.
+      let at = in-needed k _ le (place-lt k (rowOf k i) (columnOf k i) (row-of-lt k i) (column-of-lt k i)) in
+      rw (place-rows k i le lt, ← as-rows-at _ at)
+      (allTo-at (needed r) (λ n. isSmall (getD (asRows r pyramid) n (pos 0))) t _ at)))
 
 -- ---- what the test says
 module _ (side row column : ℕ) (pyramid : List ℤ) where
@@ -118,16 +188,75 @@ module _ (side row column : ℕ) (pyramid : List ℤ) where
             go (yes z) = absurd (f (ep ∙ z))
             go (no z) = omega arith
 
-  -- ---- where the code finds it so, or not
-  pub left-alone : {b : Bool} → b ≡ renewable side row column pyramid → not b ≡ true → (false, pyramid) ≡ renewalOf side row column pyramid
+-- the same test in either layout
+module _ (side row column : ℕ) (pyramid : List ℤ) where
+  abbrev shown : List ℤ
+  shown = asRows (powerOf side) pyramid
+
+  renewable-rows : renewable side row column shown ≡ renewable side row column pyramid
+  renewable-rows =
+      same-test (renewable side row column shown) (renewable side row column pyramid)
+      (λ t. fits-all side row column pyramid (to (fitting side row column shown t)))
+      (λ t. fits-all side row column shown (from (fitting side row column pyramid t)))
+    where
+      same : length shown ≡ length pyramid
+      same = rows-length (powerOf side) pyramid
+
+      to : Fitting side row column shown → Fitting side row column pyramid
+      to h =
+          let long : needed (powerOf side) ≤ length pyramid = omega (arith, h .long, same) in
+          record {
+            power = h .power;
+            long = long;
+            above = h .above;
+            left = h .left;
+            small = small-rows (powerOf side) pyramid long (h .small);
+          }
+
+      from : Fitting side row column pyramid → Fitting side row column shown
+      from h =
+          record {
+            power = h .power;
+            long = omega (arith, h .long, same);
+            above = h .above;
+            left = h .left;
+            small = rows-small (powerOf side) pyramid (h .long) (h .small);
+          }
+
+-- the definition's two cases
+module _ (side row column : ℕ) (l : List ℤ) where
+  not-made : renewable side row column l ≡ false → renewalOf side row column l ≡ (false, l)
   unfolding renewalOf
-  left-alone e f = rw (failed e f, renewalOf)
+  not-made e = rw (renewalOf, e)
 
-  module _ {p n : ℕ} (ep : p ≡ r) (en : n ≡ needed p) {b : Bool} (eb : b ≡ renewable side row column pyramid) (f : not b ≡ false) where
-    found : Fitting
-    found = fitting (T-true _ (held eb f))
+  is-made : renewable side row column l ≡ true
+      → renewalOf side row column l
+      ≡ (
+        true,
+        renewed (powerOf side) (isNear row column) (take (needed (powerOf side)) l) ++ drop (needed (powerOf side)) l,
+      )
+  unfolding renewalOf
+  is-made e = rw (renewalOf, e)
 
-    n-is : n ≡ needed r
+-- ---- where the code finds it so, or not
+module _ (side row column : ℕ) (pyramid : List ℤ) where
+  abbrev turned : Bool × List ℤ → Bool × List ℤ
+  turned out = (out .0, asQuarters (powerOf side) (out .1))
+
+  pub left-alone : {b : Bool} → b ≡ renewable side row column pyramid → not b ≡ true
+      → (false, pyramid) ≡ renewalByQuarters side row column pyramid
+  unfolding renewalByQuarters
+  left-alone e f =
+      let lent = asRows (powerOf side) pyramid in
+      ap (λ (p : List ℤ). (false, p)) (sym (quarters-rows (powerOf side) pyramid))
+      ∙ sym (ap turned (not-made side row column lent (renewable-rows side row column pyramid ∙ failed e f)))
+
+  module _ {p n : ℕ} (ep : p ≡ powerOf side) (en : n ≡ needed p)
+      {b : Bool} (eb : b ≡ renewable side row column pyramid) (f : not b ≡ false) where
+    found : Fitting side row column pyramid
+    found = fitting side row column pyramid (T-true _ (held eb f))
+
+    n-is : n ≡ needed (powerOf side)
     n-is = en ∙ ap needed ep
 
     pub part-in : n ≤ length pyramid
@@ -146,12 +275,35 @@ module _ (side row column : ℕ) (pyramid : List ℤ) where
     column-on-map = omega (arith, found .left, side-pow side (found .power), ap (λ (k : ℕ). 2 ^ k) ep)
 
     small-at : (i : ℕ) → Dec (i < n) → Within (2 ^ 40) (getD (take n pyramid) i (pos 0))
-    small-at i (yes lt) = rw (getD-take n pyramid i (pos 0) lt) (within-small (getD pyramid i (pos 0)) (allTo-at (needed r) (λ j. isSmall (getD pyramid j (pos 0))) (unfold entriesSmall in (found .small)) i (rw n-is at lt)))
+    small-at i (yes lt) =
+        rw (getD-take n pyramid i (pos 0) lt)
+        (within-small (getD pyramid i (pos 0))
+        (allTo-at (needed (powerOf side)) (λ j. isSmall (getD pyramid j (pos 0)))
+        (unfold entriesSmall in (found .small)) i (rw n-is at lt)))
     small-at i (no ge) = rw (List·getD-eq-default (take n pyramid) (pos 0) {n = i} (omega (arith, length-part))) (zero-within (2 ^ 40))
 
     pub part-small : SmallPyramid (take n pyramid)
     part-small = record { small = λ i. small-at i (decLt i n) }
 
-    pub made : {z : List ℤ} → z ≡ renewed p (isNear row column) (take n pyramid) → (true, z ++ drop n pyramid) ≡ renewalOf side row column pyramid
-    unfolding renewalOf
-    made e = rw (held eb f, renewalOf, e, n-is, ep)
+    -- the part as it comes back, and the rest
+    module _ (z : List ℤ) (ez : length z ≡ length (take n pyramid))
+        (e : rowsFrom p z ≡ renewed p (isNear row column) (rowsFrom p (take n pyramid))) where
+      abbrev power : ℕ
+      power = powerOf side
+
+      part-is : renewed power (isNear row column) (take (needed power) (asRows power pyramid)) ≡ rowsFrom power z
+      part-is =
+          ap (renewed power (isNear row column))
+          (rows-take power pyramid (found .long) ∙ sym (rows-taken power pyramid))
+          ∙ sym (rw (n-is, ep) at e)
+
+      pub made : (true, z ++ drop n pyramid) ≡ renewalByQuarters side row column pyramid
+      unfolding renewalByQuarters
+      made =
+          sym (ap turned (is-made side row column (asRows power pyramid)
+          (renewable-rows side row column pyramid ∙ held eb f)
+          ∙ ap (λ (l : List ℤ). (true, l)) (ap₂ _++_ part-is (rows-drop power pyramid)))
+          ∙ ap (λ (l : List ℤ). (true, l))
+          (as-quarters-part power (rowsFrom power z) (drop (needed power) pyramid) (length-rows power z)
+          ∙ ap₂ _++_ (quarters-back power z (ez ∙ sym length-part ∙ n-is))
+          (ap (λ (m : ℕ). drop m pyramid) (sym n-is))))

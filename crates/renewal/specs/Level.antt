@@ -1,126 +1,164 @@
--- One level renewed: an entry, the entries of a row, the entries of two rows.
+-- One level renewed: an entry, two of a row, two of each of two rows.
 use mathlib.Core.Path.{_≡_, refl, sym, ap, ap₂, _∙_}
 use mathlib.Core.Logic.{_⊎_, inl, inr}
 use mathlib.Core.Bool.{Bool, true, false, cond, not, _||_}
 use mathlib.Core.List.{List, _++_}
-use Prim.Native.Nat.{ℕ, suc, _+_, _*_, _^_, _≤_, _<_}
+use Prim.Native.Nat.{ℕ, _+_, _*_, _<_}
 use native.Mathlib.Omega.{arith}
-use lib.Dec.{T, T-not}
-use lib.ListN.{length, getD, take, drop, set, length-set, length-append, length-drop, take-append-drop, List·getD-append}
-use lib.Seq.{length-take-le, getD-take, getD-set-same, getD-set-other, drop-set-lt, drop-at, getD-drop}
-use lib.IntN.{ℤ, pos}
-use Rattle.definition.specs.Pyramid.{placeIn, rowAt, columnAt, levelOf, inLevel, four}
-use Rattle.integers.specs.Lists.{eq-tabulate}
-use Rattle.integers.specs.Tests.{cond-T, cond-not, T-or-not}
-use Rattle.quadtree.specs.Levels.{place-lt, place-same, place-row-column, row-lt, column-lt}
-use Rattle.quadtree.specs.Pyramids.{length-level, level-entry}
-use Rattle.quadtree.specs.Renewal.{level-ext}
-use Rattle.pyramid.specs.Asked.{sumBelow, withLevel}
-use Rattle.renewal.specs.Asked.{inBox, renewedAt, Span, LevelGiven}
-use Rattle.renewal.specs.Boxes.{box-in, in-box, columns-join, rows-join}
+use native.Mathlib.Nat.{add-assoc}
+use lib.Dec.{T, eqb}
+use lib.ListN.{length, getD, take, drop, set, length-set, take-append-drop, List·getD-append}
+use lib.Seq.{length-take-le, getD-take, getD-drop, getD-set-same, getD-set-other, drop-set-lt}
+use lib.IntN.{ℤ, pos, _+ℤ_}
+use Rattle.definition.specs.Lists.{tabulate}
+use Rattle.integers.specs.Fill.{filled, length-filled, filled-past, drop-filled}
+use Rattle.integers.specs.Lists.{length-tabulate, getD-tabulate, eq-tabulate, tabulate-ext}
+use Rattle.integers.specs.Tests.{tests, cond-T, cond-not, T-or-not}
+use Rattle.layouts.specs.Sums.{fourFrom}
+use Rattle.pyramid.specs.Asked.{fourAt, FourAsked}
+use Rattle.renewal.specs.Asked.{eitherOf, chosenOf, levelRenewed, LevelGiven, Four}
 
-module _ (k : ℕ) (part : List ℤ) (h : LevelGiven part k) where
-  abbrev size : ℕ
-  size = 2 ^ k * 2 ^ k
-
-  long : length part ≡ size + 2 * 2 ^ k * (2 * 2 ^ k)
-  long = h .asked .whole
-
-  -- a part is known by the entries of its first level and the rest
-  part-is : (l : List ℤ) (f : ℕ → ℕ → ℤ) → length l ≡ length part → ((a b : ℕ) → a < 2 ^ k → b < 2 ^ k → inLevel k l a b ≡ f a b) → drop size l ≡ drop size part → l ≡ withLevel k f part
-  unfolding withLevel levelOf inLevel
-  part-is l f e at rest =
-      sym (take-append-drop size l)
-      ∙ ap₂ _++_
-      (eq-tabulate size (take size l) _ (pos 0) (length-take-le size l (omega (arith, long))) (λ i lt.
-      getD-take size l i (pos 0) lt ∙ ap (λ (n : ℕ). getD l n (pos 0)) (sym (place-row-column k i)) ∙ at (rowAt k i) (columnAt k i) (row-lt k i lt) (column-lt k i)))
-      rest
-
-  -- an entry stored
-  module _ (a b : ℕ) (p : a < 2 ^ k) (q : b < 2 ^ k) {z : ℤ} (e : z ≡ sumBelow k part a b) where
-    stored-at : (x y : ℕ) → x < 2 ^ k → y < 2 ^ k → inLevel k (set part (placeIn k a b) z) x y ≡ renewedAt k (inBox a a b b) part x y
-    unfolding inLevel renewedAt
-    stored-at x y i j = go (T-or-not (inBox a a b b x y))
-      where
-        go : T (inBox a a b b x y) ⊎ T (not (inBox a a b b x y)) → getD (set part (placeIn k a b) z) (placeIn k x y) (pos 0) ≡ cond (inBox a a b b x y) (sumBelow k part x y) (getD part (placeIn k x y) (pos 0))
-        go (inl t) =
-            let u = box-in a a b b x y t in
-            let ea : x ≡ a = omega arith in
-            let eb : y ≡ b = omega arith in
-            rw (cond-T (inBox a a b b x y) (sumBelow k part x y) (getD part (placeIn k x y) (pos 0)) t, ea, eb) (getD-set-same part (placeIn k a b) z (pos 0) (omega (arith, long, place-lt k a b p q)) ∙ e)
-        go (inr t) =
-            getD-set-other part (placeIn k a b) (placeIn k x y) z (pos 0) (λ s. let u = place-same k x y a b j q s in T-not (inBox a a b b x y) t (in-box a a b b x y (omega arith) (omega arith) (omega arith) (omega arith)))
-            ∙ sym (cond-not (inBox a a b b x y) (sumBelow k part x y) (getD part (placeIn k x y) (pos 0)) t)
-
-    pub entry-renewed : set part (placeIn k a b) z ≡ withLevel k (renewedAt k (inBox a a b b) part) part
-    entry-renewed = part-is _ _ (length-set part (placeIn k a b) z) stored-at (drop-set-lt size part (placeIn k a b) z (place-lt k a b p q))
-
-  -- the level made of f
-  module _ (f : ℕ → ℕ → ℤ) where
-    rest-stays : drop size (withLevel k f part) ≡ drop size part
-    unfolding withLevel
-    rest-stays = drop-at (levelOf k f) (drop size part) size (length-level k f)
-
-    made-at : (a b : ℕ) → a < 2 ^ k → b < 2 ^ k → inLevel k (withLevel k f part) a b ≡ f a b
-    unfolding withLevel inLevel
-    made-at a b p q = List·getD-append (levelOf k f) (drop size part) (pos 0) (placeIn k a b) (omega (arith, length-level k f, place-lt k a b p q)) ∙ level-entry k f a b p q
-
-    made-long : length (withLevel k f part) ≡ length part
-    unfolding withLevel
-    made-long = omega (arith, length-append (levelOf k f) (drop size part), length-level k f, length-drop size part, long)
-
-    still-given : LevelGiven (withLevel k f part) k
-    still-given =
+module _ (size : ℕ) (part : List ℤ) (h : LevelGiven part size) where
+  -- ---- one entry
+  module _ (i : ℕ) (lt : i < size) where
+    pub four-asked : FourAsked part (size + 4 * i) 2
+    four-asked =
         record {
-          most = h .most;
-          asked = record {
-            some = h .asked .some;
-            most = h .asked .most;
-            whole = made-long ∙ long;
-            small = λ i. rw (← getD-drop size (withLevel k f part) i (pos 0), rest-stays, getD-drop size part i (pos 0)) (h .asked .small i);
-          };
+          room = omega (arith, h .whole);
+          first = h .small (4 * i);
+          second = rw (add-assoc size (4 * i) 1) (h .small (4 * i + 1));
+          third = rw (add-assoc size (4 * i) 2) (h .small (4 * i + 2));
+          fourth = rw (add-assoc size (4 * i) 2, add-assoc size (4 * i + 2) 1) (h .small (4 * i + 2 + 1));
         }
 
-  cond-twice : (s t : Bool) (x y : ℤ) → cond s x (cond t x y) ≡ cond (s || t) x y
-  cond-twice true t x y = refl
+    at : (j n : ℕ) → n ≡ size + j → getD part n (pos 0) ≡ getD (drop size part) j (pos 0)
+    at j n e = ap (λ (m : ℕ). getD part m (pos 0)) e ∙ sym (getD-drop size part j (pos 0))
+
+    four-are : fourAt part (size + 4 * i) 2 ≡ fourFrom (drop size part) i
+    unfolding fourAt fourFrom
+    four-are =
+        ap₂ _+ℤ_
+        (ap₂ _+ℤ_ (ap₂ _+ℤ_ (at (4 * i) _ refl) (at (4 * i + 1) _ (omega arith)))
+        (at (4 * i + 2) _ (omega arith)))
+        (at (4 * i + 3) _ (omega arith))
+
+    pub sum-stored : {z : ℤ} → z ≡ fourAt part (size + 4 * i) 2
+        → set part i z ≡ set part i (fourFrom (drop size part) i)
+    sum-stored e = ap (set part i) (e ∙ four-are)
+
+  -- ---- as a level renewed at some places
+  module _ (chosen : ℕ → Bool) where
+    abbrev made : ℕ → ℤ
+    made i = cond (chosen i) (fourFrom (drop size part) i) (getD part i (pos 0))
+
+    renewed-is : (l : List ℤ) → length l ≡ length part
+        → ((i : ℕ) → i < size → getD l i (pos 0) ≡ made i) → drop size l ≡ drop size part
+        → l ≡ levelRenewed size chosen part
+    unfolding levelRenewed filled
+    renewed-is l long at rest =
+        sym (take-append-drop size l)
+        ∙ ap₂ _++_
+        (eq-tabulate size (take size l) made (pos 0) (length-take-le size l (omega (arith, long, h .whole)))
+        (λ i lt. getD-take size l i (pos 0) lt ∙ at i lt))
+        rest
+
+    rest-stays : drop size (levelRenewed size chosen part) ≡ drop size part
+    unfolding levelRenewed
+    rest-stays = drop-filled made size part
+
+    renewed-at : (i : ℕ) → i < size → getD (levelRenewed size chosen part) i (pos 0) ≡ made i
+    unfolding levelRenewed filled
+    renewed-at i lt =
+        List·getD-append (tabulate size made) (drop size part) (pos 0) i (omega (arith, length-tabulate 0 size made))
+        ∙ getD-tabulate size made i (pos 0) lt
+
+    pub given-after : {l : List ℤ} → l ≡ levelRenewed size chosen part → LevelGiven l size
+    unfolding levelRenewed
+    given-after e =
+        rw e
+        (record {
+          most = h .most;
+          whole = length-filled made size part (omega (arith, h .whole)) ∙ h .whole;
+          small = λ i. rw (filled-past made size part (size + i) (pos 0) (omega arith)) (h .small i);
+        })
+
+  -- one place
+  entry-renewed : (i : ℕ) → i < size → {l : List ℤ} → l ≡ set part i (fourFrom (drop size part) i)
+      → l ≡ levelRenewed size (λ j. eqb j i) part
+  entry-renewed i lt e =
+      e ∙ renewed-is (λ j. eqb j i) _ (length-set part i _) (λ j l. at j (T-or-not (eqb j i)))
+      (drop-set-lt size part i _ lt)
+    where
+      sum : ℕ → ℤ
+      sum j = fourFrom (drop size part) j
+
+      at : (j : ℕ) → T (eqb j i) ⊎ T (not (eqb j i))
+          → getD (set part i (sum i)) j (pos 0) ≡ cond (eqb j i) (sum j) (getD part j (pos 0))
+      at j (inl t) =
+          let z : j ≡ i = omega tests in
+          rw (cond-T (eqb j i) (sum j) (getD part j (pos 0)) t, z)
+          (getD-set-same part i (sum i) (pos 0) (omega (arith, h .whole)))
+      at j (inr t) =
+          getD-set-other part i j (sum i) (pos 0) (omega tests)
+          ∙ sym (cond-not (eqb j i) (sum j) (getD part j (pos 0)) t)
+
+  cond-twice : (s t : Bool) (x y : ℤ) → cond t x (cond s x y) ≡ cond (s || t) x y
+  cond-twice true true x y = refl
+  cond-twice true false x y = refl
   cond-twice false t x y = refl
 
   -- renewed where f says, then where g does: so where either does
-  module _ (f g either : ℕ → ℕ → Bool) (same : (x y : ℕ) → (g x y || f x y) ≡ either x y) where
-    abbrev once : List ℤ
-    once = withLevel k (renewedAt k f part) part
+  module _ (f g : ℕ → Bool) {first second : List ℤ} (e : first ≡ levelRenewed size f part) where
+    renewed-joined : second ≡ levelRenewed size g first → second ≡ levelRenewed size (λ i. f i || g i) part
+    unfolding levelRenewed filled
+    renewed-joined q =
+        q ∙ rw e
+        (ap₂ _++_
+        (tabulate-ext size _ _ (λ i lt.
+        ap₂ (cond (g i)) (ap (λ (l : List ℤ). fourFrom l i) (rest-stays f)) (renewed-at f i lt)
+        ∙ cond-twice (f i) (g i) (fourFrom (drop size part) i) (getD part i (pos 0))))
+        (rest-stays f))
 
-    sum-stays : (a b : ℕ) → sumBelow k once a b ≡ sumBelow k part a b
-    unfolding sumBelow
-    sum-stays a b = ap (λ (l : List ℤ). four (inLevel (suc k) l) a b) (rest-stays (renewedAt k f part))
+-- places that agree on the level
+renewed-same : (size : ℕ) (f g : ℕ → Bool) (part : List ℤ) → ((i : ℕ) → f i ≡ g i)
+    → levelRenewed size f part ≡ levelRenewed size g part
+unfolding levelRenewed filled
+renewed-same size f g part h =
+    ap (λ (l : List ℤ). l ++ drop size part) (tabulate-ext size _ _ (λ i lt. rw (h i)))
 
-    twice-at : (a b : ℕ) → a < 2 ^ k → b < 2 ^ k → renewedAt k g once a b ≡ renewedAt k either part a b
-    unfolding renewedAt
-    twice-at a b p q =
-        ap₂ (λ (x y : ℤ). cond (g a b) x y) (sum-stays a b) (made-at (renewedAt k f part) a b p q)
-        ∙ cond-twice (g a b) (f a b) (sumBelow k part a b) (inLevel k part a b)
-        ∙ ap (λ (t : Bool). cond t (sumBelow k part a b) (inLevel k part a b)) (same a b)
+-- ---- as the code goes: two places of one row or one, then two rows or one
+or-same : (t : Bool) → (t || t) ≡ t
+or-same true = refl
+or-same false = refl
 
-    renewed-joined : {first second : List ℤ} → first ≡ once → second ≡ withLevel k (renewedAt k g first) first → second ≡ withLevel k (renewedAt k either part) part
-    unfolding withLevel
-    renewed-joined e₁ e₂ = e₂ ∙ rw e₁ (ap₂ _++_ (level-ext k _ _ twice-at) (rest-stays (renewedAt k f part)))
+module _ (size : ℕ) (part : List ℤ) (h : LevelGiven part size) where
+  module _ (left right : ℕ) (p : left < size) {first : List ℤ}
+      (e : first ≡ set part left (fourFrom (drop size part) left)) where
+    pub first-given : LevelGiven first size
+    first-given = given-after size part h _ (entry-renewed size part h left p e)
 
-  -- ---- as the code goes: a row of one entry or two, then one row or two
-  module _ (a left right : ℕ) {first : List ℤ} (e₁ : first ≡ withLevel k (renewedAt k (inBox a a left left) part) part) where
-    pub row-of-two : left < right → Span 1 (2 ^ k) left right → {second : List ℤ} → second ≡ withLevel k (renewedAt k (inBox a a right right) first) first
-        → second ≡ withLevel k (renewedAt k (inBox a a left right) part) part
-    row-of-two lt s e₂ = renewed-joined (inBox a a left left) (inBox a a right right) (inBox a a left right) (λ x y. columns-join a a left right x y lt (s .near)) e₁ e₂
+    pub two-renewed : right < size → {second : List ℤ}
+        → second ≡ set first right (fourFrom (drop size first) right)
+        → second ≡ levelRenewed size (eitherOf left right) part
+    unfolding eitherOf
+    two-renewed q u =
+        renewed-joined size part h (λ i. eqb i left) (λ i. eqb i right) (entry-renewed size part h left p e)
+        (entry-renewed size first first-given right q u)
 
-    pub row-of-one : right ≤ left → Span 1 (2 ^ k) left right → first ≡ withLevel k (renewedAt k (inBox a a left right) part) part
-    row-of-one le s = let z : left ≡ right = omega (arith, s .in-order) in e₁ ∙ ap (λ (n : ℕ). withLevel k (renewedAt k (inBox a a left n) part) part) z
+    pub one-renewed : left ≡ right → first ≡ levelRenewed size (eitherOf left right) part
+    unfolding eitherOf
+    one-renewed z =
+        entry-renewed size part h left p e
+        ∙ renewed-same size _ _ part (λ i. rw (← z) (sym (or-same (eqb i left))))
 
-  module _ (top low left right : ℕ) {first : List ℤ} (e₁ : first ≡ withLevel k (renewedAt k (inBox top top left right) part) part) where
-    pub two-rows : top < low → Span 1 (2 ^ k) top low → {second : List ℤ} → second ≡ withLevel k (renewedAt k (inBox low low left right) first) first
-        → second ≡ withLevel k (renewedAt k (inBox top low left right) part) part
-    two-rows lt s e₂ = renewed-joined (inBox top top left right) (inBox low low left right) (inBox top low left right) (λ x y. rows-join top low left right x y lt (s .near)) e₁ e₂
+  module _ (nw ne sw se : ℕ) (four : Four size nw ne sw se) {first : List ℤ}
+      (e : first ≡ levelRenewed size (eitherOf nw ne) part) where
+    pub two-rows : {second : List ℤ} → second ≡ levelRenewed size (eitherOf sw se) first
+        → second ≡ levelRenewed size (chosenOf nw ne sw se) part
+    unfolding chosenOf
+    two-rows u = renewed-joined size part h (eitherOf nw ne) (eitherOf sw se) e u
 
-    pub one-row : low ≤ top → Span 1 (2 ^ k) top low → first ≡ withLevel k (renewedAt k (inBox top low left right) part) part
-    one-row le s = let z : top ≡ low = omega (arith, s .in-order) in e₁ ∙ ap (λ (n : ℕ). withLevel k (renewedAt k (inBox top n left right) part) part) z
-
-  pub given-after : (f : ℕ → ℕ → ℤ) {first : List ℤ} → first ≡ withLevel k f part → LevelGiven first k
-  given-after f e = rw e (still-given f)
+    pub one-row : nw ≡ sw → first ≡ levelRenewed size (chosenOf nw ne sw se) part
+    unfolding chosenOf
+    one-row z =
+        e ∙ renewed-same size _ _ part (λ i. rw (← z, ← four .one-row z) (sym (or-same (eitherOf nw ne i))))

@@ -1,7 +1,6 @@
 pub mod Asked
-pub mod Boxes
 pub mod Level
-pub mod Entry
+pub mod Chosen
 pub mod Upward
 pub mod Around
 pub mod Lent

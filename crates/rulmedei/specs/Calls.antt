@@ -16,10 +16,10 @@ use Rattle.definition.specs.Answers.{
   textSays,
   compareSays,
   shelfSays,
+  relaySays,
 }
-use Rattle.definition.specs.Load.{loadOf}
-use Rattle.definition.specs.Advance.{advanceOf}
-use Rattle.definition.specs.Checkpoints.{keepOf, restoreOf}
+use Rattle.definition.specs.Checkpoints.{keepOf}
+use Rattle.definition.specs.ByQuarters.{loadByQuarters, advanceByQuarters, restoreByQuarters, RelayOutcome}
 use Rattle.definition.specs.Survey.{tallyOf, levelsOf}
 use Rattle.definition.specs.Text.{TextOutcome}
 use Rattle.definition.specs.Shelf.{ShelfOutcome}
@@ -35,6 +35,7 @@ use Rattle.definition.specs.declared.LevelsStatus.{LevelsStatus}
 use Rattle.definition.specs.declared.TextAnswer.{TextAnswer}
 use Rattle.definition.specs.declared.CompareAnswer.{CompareAnswer}
 use Rattle.definition.specs.declared.ShelfAnswer.{ShelfAnswer}
+use Rattle.definition.specs.declared.RelayAnswer.{RelayAnswer}
 use Rattle.rulmedei.specs.Codes.{
   codeOf,
   valueOf,
@@ -49,6 +50,7 @@ use Rattle.rulmedei.specs.Codes.{
   textCode,
   compareCode,
   shelfCode,
+  relayCode,
   renewCode,
 }
 
@@ -56,7 +58,7 @@ use Rattle.rulmedei.specs.Codes.{
 pub load-coded : (side knit : ℕ) (g : List ℕ) (p : List ℤ) (s o : List ℕ) (a : LoadAnswer)
     {p′ : List ℤ} {s′ o′ : List ℕ}
     → record { progress = a .progress; said = loadSays (a .status); pyramid = p′; serials = s′; order = o′ }
-    ≡ loadOf side knit g p s o
+    ≡ loadByQuarters side knit g p s o
     → {t : LoadStatus} → a .status ≡ t → {n : ℕ} → n ≡ codeOf (loadSays t)
     → record {
       code = n;
@@ -79,7 +81,7 @@ pub advance-coded : (side dots knit budget : ℕ) (p : List ℤ) (s o : List ℕ
       serials = s′;
       order = o′;
     }
-    ≡ advanceOf (record { side = side; dots = dots; knit = knit }) budget p s o
+    ≡ advanceByQuarters (record { side = side; dots = dots; knit = knit }) budget p s o
     → {t : AdvanceStatus} → a .status ≡ t → {n : ℕ} → n ≡ codeOf (advanceSays t)
     → record {
       code = n;
@@ -116,7 +118,7 @@ pub restore-coded : (side dots knit : ℕ) (kept : List ℕ) (name : ℕ) (g : L
       serials = s′;
       order = o′;
     }
-    ≡ restoreOf (record { side = side; dots = dots; knit = knit }) (record { kept = kept }) name g p s o
+    ≡ restoreByQuarters (record { side = side; dots = dots; knit = knit }) (record { kept = kept }) name g p s o
     → {n : ℕ} → n ≡ codeOf (checkpointSays (a .status))
     → record { code = n; dots = a .progress .dots; pyramid = p′; serials = s′; order = o′ }
     ≡ restoreCode side dots knit kept name g p s o
@@ -165,6 +167,14 @@ pub shelf-coded : {o : ShelfOutcome} {after : List ℕ} (a : ShelfAnswer)
     → record { code = n; list = after } ≡ shelfCode o
 unfolding shelfCode
 shelf-coded a h is n = rw (← h, is, n)
+
+-- ---- Relay
+pub relay-coded : {o : RelayOutcome} {after : List ℤ} (a : RelayAnswer)
+    → record { said = relaySays a; second = after } ≡ o → {t : RelayAnswer} → a ≡ t → {n : ℕ}
+    → n ≡ codeOf (relaySays t)
+    → record { code = n; second = after } ≡ relayCode o
+unfolding relayCode
+relay-coded a h is n = rw (← h, is, n)
 
 -- ---- the renewal, which answers whether it is made
 pub renew-coded : (outcome : Bool × List ℤ) {b : Bool} {p′ : List ℤ} → (b, p′) ≡ outcome → {t : Bool} → b ≡ t → {n : ℕ} → n ≡ cond t 0 101 → record { code = n; pyramid = p′ } ≡ renewCode outcome

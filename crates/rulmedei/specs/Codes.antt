@@ -19,9 +19,8 @@ use Rattle.definition.specs.Answers.{
   afterAt,
   after,
 }
-use Rattle.definition.specs.Load.{loadOf}
-use Rattle.definition.specs.Advance.{advanceOf}
-use Rattle.definition.specs.Checkpoints.{keepOf, restoreOf}
+use Rattle.definition.specs.Checkpoints.{keepOf}
+use Rattle.definition.specs.ByQuarters.{loadByQuarters, advanceByQuarters, restoreByQuarters, RelayOutcome}
 use Rattle.definition.specs.Survey.{tallyOf, levelsOf}
 use Rattle.definition.specs.Text.{TextOutcome}
 use Rattle.definition.specs.Shelf.{ShelfOutcome}
@@ -62,7 +61,7 @@ pub record LoadCode : Type 0 where
 
 unfoldable pub loadCode : ℕ → ℕ → List ℕ → List ℤ → List ℕ → List ℕ → LoadCode
 loadCode side knit greys pyramid serials order =
-    let o = loadOf side knit greys pyramid serials order in
+    let o = loadByQuarters side knit greys pyramid serials order in
     record {
       code = codeOf (o .said);
       side = o .progress .side;
@@ -83,7 +82,7 @@ pub record AdvanceCode : Type 0 where
 
 unfoldable pub advanceCode : ℕ → ℕ → ℕ → ℕ → List ℤ → List ℕ → List ℕ → AdvanceCode
 advanceCode side dots knit budget pyramid serials order =
-    let o = advanceOf (record { side = side; dots = dots; knit = knit }) budget pyramid serials order in
+    let o = advanceByQuarters (record { side = side; dots = dots; knit = knit }) budget pyramid serials order in
     record {
       code = codeOf (o .reply .said);
       dots = o .reply .progress .dots;
@@ -114,7 +113,7 @@ pub record RestoreCode : Type 0 where
 unfoldable pub restoreCode :
     ℕ → ℕ → ℕ → List ℕ → ℕ → List ℕ → List ℤ → List ℕ → List ℕ → RestoreCode
 restoreCode side dots knit kept name greys pyramid serials order =
-    let o = restoreOf (record { side = side; dots = dots; knit = knit }) (record { kept = kept }) name
+    let o = restoreByQuarters (record { side = side; dots = dots; knit = knit }) (record { kept = kept }) name
     greys pyramid serials order in
     record {
       code = codeOf (o .said);
@@ -183,6 +182,14 @@ pub record ShelfCode : Type 0 where
 
 unfoldable pub shelfCode : ShelfOutcome → ShelfCode
 shelfCode o = record { code = codeOf (o .said); list = o .list }
+
+-- Relay: the second pyramid
+pub record RelayCode : Type 0 where
+  pub code : ℕ
+  pub second : List ℤ
+
+unfoldable pub relayCode : RelayOutcome → RelayCode
+relayCode o = record { code = codeOf (o .said); second = o .second }
 
 -- the renewal by itself: whether it is made, and the pyramid
 pub record RenewCode : Type 0 where

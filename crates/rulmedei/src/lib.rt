@@ -10,6 +10,7 @@ use definition::LevelsStatus;
 use definition::LoadStatus;
 use definition::MapTextAnswer;
 use definition::Progress;
+use definition::RelayAnswer;
 use definition::SampleAnswer;
 use definition::ShelfAnswer;
 use definition::TallyAnswer;
@@ -19,14 +20,13 @@ ghost use lib.ListN.{set};
 ghost use lib.Seq.{sets};
 ghost use Rattle.definition.specs.Answers.{checkpointSays, textSays, compareSays};
 ghost use Rattle.definition.specs.MapText.{mapTextOf};
-ghost use Rattle.definition.specs.DrillList.{drillListOf};
 ghost use Rattle.definition.specs.QuotePage.{quotePageOf};
-ghost use Rattle.definition.specs.Renewal.{renewalOf};
+ghost use Rattle.definition.specs.ByQuarters.{drillListByQuarters, renewalByQuarters, relayOf};
 ghost use Rattle.definition.specs.Sample.{sampleOf};
 ghost use Rattle.definition.specs.Shelf.{compareOf, shelfOf};
 ghost use Rattle.rulmedei.specs.Codes.{codeOf, valueOf, loadCode, advanceCode, tallyCode, levelsCode};
 ghost use Rattle.rulmedei.specs.Codes.{keepCode, restoreCode};
-ghost use Rattle.rulmedei.specs.Codes.{greysCode, textCode, compareCode, shelfCode, renewCode};
+ghost use Rattle.rulmedei.specs.Codes.{greysCode, textCode, compareCode, shelfCode, relayCode, renewCode};
 
 // Load. The record is written to `progress_side`, `progress_dots` and `progress_knit`.
 #[no_mangle]
@@ -294,7 +294,7 @@ pub extern "C" fn rulmedei_drill_list(
     ensures { λ n. ⌜
         record { code = n; length = now (length .exit); output = now (out .exit) }
         ≡ textCode
-        (drillListOf (record { side = side; dots = dots; knit = knit })
+        (drillListByQuarters (record { side = side; dots = dots; knit = knit })
         (now (pyramid .entry)) (now (serials .entry)) (now (order .entry)) (now (out .entry)))
         ⌝ }
 {
@@ -384,10 +384,38 @@ pub extern "C" fn rulmedei_shelf(side: u32, n: u32, plates: &[u32], list: &mut [
     }
 }
 
+// Relay, with the record (side, dots, knit). The pyramid is written by quarters into `second`.
+#[no_mangle]
+pub extern "C" fn rulmedei_relay(
+    side: u32,
+    dots: u32,
+    knit: u32,
+    pyramid: &[i64],
+    serials: &[u32],
+    order: &[u32],
+    second: &mut [i64],
+) -> u32
+    ensures { λ n. ⌜
+        record { code = n; second = now (second .exit) }
+        ≡ relayCode
+        (relayOf (record { side = side; dots = dots; knit = knit })
+        (now (pyramid .entry)) (now (serials .entry)) (now (order .entry)) (now (second .entry)))
+        ⌝ }
+{
+    let older = Progress { side, dots, knit };
+    match relay::relay(older, pyramid, serials, order, second) {
+        RelayAnswer::Relaid => 0,
+        RelayAnswer::Refused(why) => checks::number_of(why),
+    }
+}
+
 // The renewal by itself, around the cell in this row and column. It is no call of document 01: 101 where it isn't made.
 #[no_mangle]
 pub extern "C" fn rulmedei_renew(side: u32, row: u32, column: u32, pyramid: &mut [i64]) -> u32
-    ensures { λ n. ⌜ record { code = n; pyramid = now (pyramid .exit) } ≡ renewCode (renewalOf side row column (now (pyramid .entry))) ⌝ }
+    ensures { λ n. ⌜
+        record { code = n; pyramid = now (pyramid .exit) }
+        ≡ renewCode (renewalByQuarters side row column (now (pyramid .entry)))
+        ⌝ }
 {
     if renewal::renew_lent(side, row, column, pyramid) {
         return 0;

@@ -1,5 +1,5 @@
 -- The checks of a sheet: its lengths, then whether it is sound.
-use mathlib.Core.Path.{_≡_, refl, sym, _∙_}
+use mathlib.Core.Path.{_≡_, refl, sym, ap, _∙_}
 use mathlib.Core.Bool.{Bool, true, false, not, cond}
 use mathlib.Core.List.{List}
 use Prim.Native.Nat.{ℕ, suc, _-_, _≤_, _<_}
@@ -14,6 +14,7 @@ use Rattle.definition.specs.Pyramid.{needed, cellCount}
 use Rattle.definition.specs.Refusals.{lowest}
 use Rattle.definition.specs.Sound.{isSound}
 use Rattle.definition.specs.Advance.{sheetIn, advanceRefusal}
+use Rattle.definition.specs.Quarters.{rowsFrom, asRows}
 use Rattle.definition.specs.declared.Refusal.{Refusal}
 use Rattle.definition.specs.declared.Refusal.the-variants.{SheetUnsound}
 use Rattle.refusals.specs.Lowest.{lowest-none}
@@ -21,7 +22,8 @@ use Rattle.refusals.specs.Numbers.{number-positive}
 use Rattle.checks.specs.Checks.{checked, passed-none, failed-number}
 use Rattle.checks.specs.declared.Check.{Check}
 use Rattle.checks.specs.declared.Check.the-variants.{Passed, Failed}
-use Rattle.sound.specs.Asked.{SoundAsked}
+use Rattle.layouts.specs.Lent.{rows-taken, rows-take}
+use Rattle.sound.specs.Asked.{SoundAsked, inRows}
 
 -- a sheet that is long enough
 pub record SheetLent (r pyramid serials order : ℕ) : Type 0 where
@@ -84,22 +86,27 @@ module _ (r knit p s o : ℕ) where
       go true = refl
       go false = refl
 
--- a sheet that is not refused
+-- a sheet that is not refused, its pyramid p by quarters
 pub record SheetAsked (r dots : ℕ) (p : List ℤ) (s o : List ℕ) : Type 0 where
   pub small : r ≤ 8
   pub lent : SheetLent r (length p) (length s) (length o)
-  pub sound : isSound r (sheetIn r dots p s o) ≡ true
+  pub sound : isSound r (sheetIn r dots (asRows r p) s o) ≡ true
 
 pub sheet-asked : {r : ℕ} (knit : ℕ) → r ≤ 8 → (dots : ℕ) (p : List ℤ) (s o : List ℕ) (check : Check)
     → checked check
-    ≡ advanceRefusal r knit (length p) (length s) (length o) (isSound r (sheetIn r dots p s o))
+    ≡ advanceRefusal r knit (length p) (length s) (length o) (isSound r (sheetIn r dots (asRows r p) s o))
     → check ≡ Passed → SheetAsked r dots p s o
 sheet-asked {r} knit small dots p s o check e passed =
-    let sound = isSound r (sheetIn r dots p s o) in
+    let sound = isSound r (sheetIn r dots (asRows r p) s o) in
     let q = sheet-lent r knit (length p) (length s) (length o) sound (passed-none check e passed) in
     record { small = small; lent = q .0; sound = q .2 }
 
 -- ---- the test of a sheet; n and c are what the code has worked out for the needed length and the number of cells
+-- a pyramid in either layout, written row after row
+unfoldable pub shownRows : Bool → ℕ → List ℤ → List ℤ
+shownRows true r pyramid = pyramid
+shownRows false r pyramid = asRows r pyramid
+
 module _ {r : ℕ} (small : r ≤ 8) (p : List ℤ) (s o : List ℕ)
     (lent : SheetLent r (length p) (length s) (length o))
     {n c : ℕ} (en : n ≡ needed r) (ec : c ≡ cellCount r) where
@@ -122,50 +129,62 @@ module _ {r : ℕ} (small : r ≤ 8) (p : List ℤ) (s o : List ℕ)
         places = sym order-part ∙ ec;
       }
 
-  pub sound-is : (dots : ℕ) {b : Bool}
-      → b ≡ isSound r (record { pyramid = take n p; serials = take c s; order = take c o; dots = dots })
-      → b ≡ isSound r (sheetIn r dots p s o)
+  -- the part tested is the needed part of the pyramid, row after row
+  part-rows : (rows : Bool) → inRows rows r (take n p) ≡ take (needed r) (shownRows rows r p)
+  unfolding inRows shownRows
+  part-rows true = ap (λ (m : ℕ). take m p) en
+  part-rows false =
+      ap (λ (m : ℕ). rowsFrom r (take m p)) en ∙ rows-taken r p ∙ sym (rows-take r p (lent .pyramid-long))
+
+  pub sound-is : (rows : Bool) (dots : ℕ) {b : Bool}
+      → b
+      ≡ isSound r (record { pyramid = inRows rows r (take n p); serials = take c s; order = take c o; dots = dots })
+      → b ≡ isSound r (sheetIn r dots (shownRows rows r p) s o)
   unfolding sheetIn
-  sound-is dots eb = eb ∙ rw (en, ec)
+  sound-is rows dots eb = eb ∙ rw (part-rows rows, ec)
 
--- ---- the code's way: side, knit and lengths are checked first
-module _ {r : ℕ} (knit : ℕ) (small : r ≤ 8) (p : List ℤ) (s o : List ℕ) (dots : ℕ) (lengths : Check)
-    (e : checked lengths ≡ advanceRefusal r knit (length p) (length s) (length o) true) where
-  abbrev sound : Bool
-  sound = isSound r (sheetIn r dots p s o)
-
-  abbrev refusal : Bool → ℕ
-  refusal = advanceRefusal r knit (length p) (length s) (length o)
-
-  pub lengths-failed : {why : Refusal} → lengths ≡ Failed why
-      → checked (Failed why)
-      ≡ advanceRefusal r knit (length p) (length s) (length o) (isSound r (sheetIn r dots p s o))
+-- ---- the code's way: side, knit and lengths are checked first, then whether the sheet is sound
+module _ (r knit p s o : ℕ) (lengths : Check)
+    (e : checked lengths ≡ advanceRefusal r knit p s o true) where
+  pub lengths-failed : (sound : Bool) {why : Refusal} → lengths ≡ Failed why
+      → checked (Failed why) ≡ advanceRefusal r knit p s o sound
   unfolding checked
-  lengths-failed {why} failed =
+  lengths-failed sound {why} failed =
       let number = failed-number lengths e why failed in
-      number-positive why
-      ∙ sym (lengths-first r knit (length p) (length s) (length o) (numberOf why - 1) number sound)
+      number-positive why ∙ sym (lengths-first r knit p s o (numberOf why - 1) number sound)
 
   module _ (passed : lengths ≡ Passed) where
-    lent-and-known : SheetLent r (length p) (length s) (length o) × (knit ≤ 1)
+    lent-and-known : SheetLent r p s o × (knit ≤ 1)
     lent-and-known =
-        let q = sheet-lent r knit (length p) (length s) (length o) true (passed-none lengths e passed) in
+        let q = sheet-lent r knit p s o true (passed-none lengths e passed) in
         (q .0, q .1)
 
-    pub lengths-passed : SheetLent r (length p) (length s) (length o)
+    pub lengths-passed : SheetLent r p s o
     lengths-passed = lent-and-known .0
 
-    then : (b : Bool) → refusal b ≡ cond b 0 5
-    then = then-sound r knit (length p) (length s) (length o) lengths-passed (lent-and-known .1)
+    then : (b : Bool) → advanceRefusal r knit p s o b ≡ cond b 0 5
+    then = then-sound r knit p s o lengths-passed (lent-and-known .1)
 
-    module _ {b : Bool} (eb : b ≡ isSound r (sheetIn r dots p s o)) where
-      pub is-sound : b ≡ true
-          → checked Passed
-          ≡ advanceRefusal r knit (length p) (length s) (length o) (isSound r (sheetIn r dots p s o))
+    module _ {b : Bool} (sound : Bool) (eb : b ≡ sound) where
+      pub is-sound : b ≡ true → checked Passed ≡ advanceRefusal r knit p s o sound
       unfolding checked
       is-sound yes′ = sym (rw (← eb, yes′) (then true))
 
-      pub is-unsound : b ≡ false → checked (Failed SheetUnsound)
-          ≡ advanceRefusal r knit (length p) (length s) (length o) (isSound r (sheetIn r dots p s o))
+      pub is-unsound : b ≡ false → checked (Failed SheetUnsound) ≡ advanceRefusal r knit p s o sound
       unfolding checked numberOf
       is-unsound no′ = sym (rw (← eb, no′) (then false))
+
+-- the same of a pyramid p by quarters
+module _ (r knit dots : ℕ) (p : List ℤ) (s o : List ℕ) (lengths : Check)
+    (e : checked lengths ≡ advanceRefusal r knit (length p) (length s) (length o) true) (passed : lengths ≡ Passed)
+    {b : Bool} (eb : b ≡ isSound r (sheetIn r dots (shownRows false r p) s o)) where
+  abbrev refusal : ℕ
+  refusal = advanceRefusal r knit (length p) (length s) (length o) (isSound r (sheetIn r dots (asRows r p) s o))
+
+  pub quarters-sound : b ≡ true → checked Passed ≡ refusal
+  unfolding shownRows
+  quarters-sound yes′ = is-sound r knit (length p) (length s) (length o) lengths e passed _ eb yes′
+
+  pub quarters-unsound : b ≡ false → checked (Failed SheetUnsound) ≡ refusal
+  unfolding shownRows
+  quarters-unsound no′ = is-unsound r knit (length p) (length s) (length o) lengths e passed _ eb no′

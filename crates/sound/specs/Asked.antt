@@ -1,6 +1,6 @@
 -- What the tests of a sheet are asked, and the same tests of one place.
 use mathlib.Core.Path.{_≡_}
-use mathlib.Core.Bool.{Bool, cond, not, _&&_, _||_}
+use mathlib.Core.Bool.{Bool, true, false, cond, not, _&&_, _||_}
 use mathlib.Core.List.{List}
 use Prim.Native.Nat.{ℕ, suc, _+_, _*_, _-_, _/_, _%_, _^_, _≤_, _<_}
 use lib.Dec.{leb, ltb, eqb}
@@ -11,7 +11,33 @@ use Rattle.definition.specs.Lists.{sumTo, eqZ}
 use Rattle.definition.specs.Pyramid.{oneDot, cellCount, needed, start, entry, four}
 use Rattle.definition.specs.Blocks.{burnt}
 use Rattle.definition.specs.Diffusion.{rowNear, columnNear}
+use Rattle.definition.specs.Quarters.{interleaved, quarterEntry, rowsFrom}
 use Rattle.pyramid.specs.Asked.{fourAt, Within, FourAsked}
+
+-- ════ either layout
+
+-- a pyramid of power r that lies row after row, or by quarters, row after row
+unfoldable pub inRows : Bool → ℕ → List ℤ → List ℤ
+inRows true r pyramid = pyramid
+inRows false r pyramid = rowsFrom r pyramid
+
+-- its entry (a, b) of level k
+unfoldable pub entryIn : Bool → List ℤ → ℕ → ℕ → ℕ → ℤ
+entryIn true pyramid k a b = entry pyramid k a b
+entryIn false pyramid k a b = quarterEntry pyramid k a b
+
+-- the place of cell i of a map of side `side`, within the level of the cells
+unfoldable pub cellPlace : Bool → ℕ → ℕ → ℕ
+cellPlace true side i = i
+cellPlace false side i = interleaved 8 (i / side) (i % side)
+
+-- a cell of a map of side `side`
+pub record PlaceAsked (side i : ℕ) : Type 0 where
+  pub some : 0 < side
+  pub small : side ≤ 256
+  pub within : i < side * side
+
+-- ════ serials and order
 
 -- parts of just the lengths that a map of power r needs
 pub record SoundAsked (r pyramid serials order : ℕ) : Type 0 where
@@ -57,12 +83,15 @@ pub record GridAsked (r pyramid serials : ℕ) : Type 0 where
 abbrev pub boundedCell : ℤ → ℕ → Bool
 boundedCell residual serial = leZ residual (pos oneDot) && (eqb (burnt serial) 0 || leZ residual (pos 0))
 
--- so for cell i, the cells beginning at place `off`
-abbrev pub boundedAt : ℕ → List ℤ → List ℕ → ℕ → Bool
-boundedAt off pyramid serials i = boundedCell (getD pyramid (off + i) (pos 0)) (getD serials i 0)
+-- so for cell i, whose residual is at place `at`; and for each cell, the cells beginning at place `off`
+abbrev pub boundedAt : List ℤ → List ℕ → ℕ → ℕ → Bool
+boundedAt pyramid serials at i = boundedCell (getD pyramid at (pos 0)) (getD serials i 0)
 
-pub record CellAsked (off pyramid serials i : ℕ) : Type 0 where
-  pub residual : off + i < pyramid
+abbrev pub boundedIn : Bool → ℕ → ℕ → List ℤ → List ℕ → ℕ → Bool
+boundedIn rows side off pyramid serials i = boundedAt pyramid serials (off + cellPlace rows side i) i
+
+pub record CellAsked (at pyramid serials i : ℕ) : Type 0 where
+  pub residual : at < pyramid
   pub serial : i < serials
 
 -- a row or column counted from one before the map lies on a map of side `side`
@@ -97,14 +126,18 @@ pub record NearPlace (side serials x y : ℕ) : Type 0 where
 abbrev pub owingCell : ℤ → ℕ → Bool
 owingCell residual near = leZ (negℤ (pos (oneDot * near))) residual
 
-abbrev pub owingAt : ℕ → ℕ → List ℤ → List ℕ → ℕ → Bool
-owingAt side off pyramid serials i = owingCell (getD pyramid (off + i) (pos 0)) (sumTo 9 (nearAt side serials (i / side) (i % side)))
+abbrev pub owingAt : ℕ → List ℤ → List ℕ → ℕ → ℕ → Bool
+owingAt side pyramid serials at i =
+    owingCell (getD pyramid at (pos 0)) (sumTo 9 (nearAt side serials (i / side) (i % side)))
 
-pub record OwingAsked (side off pyramid serials i : ℕ) : Type 0 where
+abbrev pub owingIn : Bool → ℕ → ℕ → List ℤ → List ℕ → ℕ → Bool
+owingIn rows side off pyramid serials i = owingAt side pyramid serials (off + cellPlace rows side i) i
+
+pub record OwingAsked (side at pyramid serials i : ℕ) : Type 0 where
   pub some : 0 < side
   pub small : side ≤ 256
   pub cells : serials ≡ side * side
-  pub whole : pyramid ≡ off + side * side
+  pub residual : at < pyramid
   pub within : i < side * side
 
 -- ════ sums
@@ -117,17 +150,21 @@ pub record SumAsked (pyramid : List ℤ) (at top wide : ℕ) : Type 0 where
   pub room : at < length pyramid
   pub below : FourAsked pyramid top wide
 
--- where the four below place i of a level of side `side` begin, the next finer level beginning at `next`
+-- row after row, where the four below place i of a level of side `side` begin, the next finer level beginning at `next`
 abbrev pub belowPlace : ℕ → ℕ → ℕ → ℕ
 belowPlace next side i = next + (2 * (i / side) * (2 * side) + 2 * (i % side))
 
--- place i of a level of side `side` that begins at `off`
-abbrev pub sumAt : List ℤ → ℕ → ℕ → ℕ → ℕ → Bool
-sumAt pyramid off next side i = sumHolds pyramid (off + i) (belowPlace next side i) (2 * side)
+-- place i of a level of side `side` that begins at `off`: row after row, and in either layout
+abbrev pub rowSumAt : List ℤ → ℕ → ℕ → ℕ → ℕ → Bool
+rowSumAt pyramid off next side i = sumHolds pyramid (off + i) (belowPlace next side i) (2 * side)
+
+unfoldable pub sumAt : Bool → List ℤ → ℕ → ℕ → ℕ → ℕ → Bool
+sumAt true pyramid off next side i = rowSumAt pyramid off next side i
+sumAt false pyramid off next side i = sumHolds pyramid (off + i) (next + 4 * i) 2
 
 -- so for every entry of level k
-abbrev pub levelSummed : List ℤ → ℕ → ℕ → ℕ → Bool
-levelSummed pyramid k a b = eqZ (entry pyramid k a b) (four (entry pyramid (suc k)) a b)
+abbrev pub levelSummed : Bool → List ℤ → ℕ → ℕ → ℕ → Bool
+levelSummed rows pyramid k a b = eqZ (entryIn rows pyramid k a b) (four (entryIn rows pyramid (suc k)) a b)
 
 -- a level of side `side`, and the next finer one, far from overflow
 pub record SidesAsked (pyramid : List ℤ) (off next side : ℕ) : Type 0 where
@@ -145,7 +182,7 @@ pub record LevelAsked (pyramid : List ℤ) (k : ℕ) : Type 0 where
   pub small : (i : ℕ) → i < 2 ^ (k + 1) * 2 ^ (k + 1) → Within (2 ^ 60) (getD pyramid (start (k + 1) + i) (pos 0))
 
 -- a pyramid of just the needed length, whose cells are small
-pub record SummedAsked (pyramid : List ℤ) (r : ℕ) : Type 0 where
+pub record SummedAsked (rows : Bool) (pyramid : List ℤ) (r : ℕ) : Type 0 where
   pub most : r ≤ 8
   pub whole : length pyramid ≡ needed r
-  pub small : (x y : ℕ) → x < 2 ^ r → y < 2 ^ r → Within (2 ^ 20) (entry pyramid r x y)
+  pub small : (x y : ℕ) → x < 2 ^ r → y < 2 ^ r → Within (2 ^ 20) (entryIn rows pyramid r x y)

@@ -1,8 +1,8 @@
 -- The tests of every cell as tests of one cell after another, and of one cell.
-use mathlib.Core.Path.{_≡_, refl, sym, ap, _∙_, fun-ext}
+use mathlib.Core.Path.{_≡_, refl, sym, ap, _∙_}
 use mathlib.Core.Bool.{Bool, true, false, not, _&&_}
 use mathlib.Core.List.{List}
-use Prim.Native.Nat.{ℕ, _+_, _*_, _-_, _/_, _%_, _^_, _≤_, _<_}
+use Prim.Native.Nat.{ℕ, suc, _+_, _*_, _-_, _/_, _%_, _^_, _≤_, _<_}
 use native.Mathlib.Omega.{arith}
 use native.Mathlib.Nat.{mul-le-mul, div-lt-iff-lt-mul, mod-lt}
 use lib.Dec.{T, leb, eqb}
@@ -14,43 +14,55 @@ use mir.Syntax.{w64}
 use mir.Val.{SFits, toZ, ofZ}
 use mir.Facts.{toZ-ofZ}
 use borrow.Author.Tests.{le-leb}
-use Rattle.definition.specs.Lists.{allTo, sumTo}
-use Rattle.definition.specs.Pyramid.{oneDot, cellCount, start, placeIn, rowAt, columnAt, entry}
+use Rattle.definition.specs.Lists.{sumTo}
+use Rattle.definition.specs.Pyramid.{oneDot, cellCount, start, placeIn, rowAt, columnAt}
+use Rattle.definition.specs.Quarters.{interleaved}
 use Rattle.definition.specs.Blocks.{burnt, burntAt}
 use Rattle.definition.specs.Diffusion.{rowNear, columnNear, within, onMap}
-use Rattle.definition.specs.Sound.{burntNear, everyEntry, bounded, owing}
-use Rattle.integers.specs.Tests.{T-true, T-and, and-T, ne→neqb, cond-T, cond-not, tests, allTo-at, allTo-all, everyEntry-at, everyEntry-all, same-test, and-true, and-false}
+use Rattle.definition.specs.Sound.{burntNear, bounded, owing}
+use Rattle.integers.specs.Tests.{T-true, T-and, and-T, ne→neqb, cond-T, cond-not, tests, same-test}
+use Rattle.integers.specs.Tests.{and-true, and-false}
 use Rattle.integers.specs.Linear.{zz, ints}
 use Rattle.integers.specs.Machine.{back64, of-bits, natAbs-fits, words, machine}
-use Rattle.quadtree.specs.Levels.{start-suc, cell-lt, place-lt, row-place, column-place, place-row-column, row-lt, column-lt}
+use Rattle.quadtree.specs.Levels.{start-thrice, start-suc, start-mono, cell-lt, place-row-column}
 use Rattle.integers.specs.Totals.{Total}
 use Rattle.blocks.specs.Squares.{dot-none, dot-one}
-use Rattle.sound.specs.Asked.{CellAsked, GridAsked, NearAsked, NearPlace, OwingAsked, isNeighbour, burntThere, boundedCell, boundedAt, onSide, nearAt, owingCell, owingAt}
+use Rattle.sound.specs.Asked.{inRows, cellPlace, PlaceAsked, CellAsked, GridAsked, NearAsked, NearPlace}
+use Rattle.sound.specs.Asked.{OwingAsked, isNeighbour, burntThere, boundedCell, boundedAt, boundedIn, onSide}
+use Rattle.sound.specs.Asked.{nearAt, owingCell, owingAt, owingIn}
+use Rattle.sound.specs.Either.{every-place, allTo-ext, cell-place-lt, cell-entry}
 use Rattle.integers.specs.Loops.{Every, held, failed}
-
--- a test of each entry of a level is one of each of its places
-pub every-place : (k : ℕ) (test : ℕ → ℕ → Bool) → everyEntry k test ≡ allTo (2 ^ k * 2 ^ k) (λ i. test (rowAt k i) (columnAt k i))
-every-place k test =
-    let at : ℕ → Bool = λ i. test (rowAt k i) (columnAt k i) in
-    same-test (everyEntry k test) (allTo (2 ^ k * 2 ^ k) at)
-    (λ t. allTo-all (2 ^ k * 2 ^ k) at (λ i lt. everyEntry-at k test t (rowAt k i) (columnAt k i) (row-lt k i lt) (column-lt k i)))
-    (λ t. everyEntry-all k test (λ a b p q. rw (row-place k a b q, column-place k a b q) at (allTo-at (2 ^ k * 2 ^ k) at t (placeIn k a b) (place-lt k a b p q))))
-
--- the entry at a place
-pub entry-place : (k : ℕ) (pyramid : List ℤ) (i : ℕ) → entry pyramid k (rowAt k i) (columnAt k i) ≡ getD pyramid (start k + i) (pos 0)
-unfolding entry
-entry-place k pyramid i = rw (place-row-column k i)
 
 burnt-place : (r : ℕ) (serials : List ℕ) (i : ℕ) → burntAt r serials (rowAt r i) (columnAt r i) ≡ burnt (getD serials i 0)
 unfolding burntAt placeIn
 burnt-place r serials i = ap (λ (n : ℕ). burnt (getD serials n 0)) (place-row-column r i)
 
-pub bounded-every : (r : ℕ) {cells off : ℕ} → cells ≡ cellCount r → off ≡ start r → (pyramid : List ℤ) (serials : List ℕ) → Every (bounded r pyramid serials) (boundedAt off pyramid serials) cells
+pub bounded-every : (rows : Bool) (r : ℕ) {side cells off : ℕ} → r ≤ 8 → side ≡ 2 ^ r
+    → cells ≡ cellCount r → off ≡ start r → (pyramid : List ℤ) (serials : List ℕ)
+    → Every (bounded r (inRows rows r pyramid) serials) (boundedIn rows side off pyramid serials) cells
 unfolding bounded
-bounded-every r e o pyramid serials =
+bounded-every rows r most es e o pyramid serials =
     record {
-      is = every-place r _ ∙ rw (e, o) (ap (allTo (cellCount r)) (fun-ext (λ i. rw (entry-place r pyramid i, burnt-place r serials i))));
+      is = every-place r _
+          ∙ rw (es, e, o) (allTo-ext (cellCount r) _ _ (λ i lt.
+          rw (cell-entry rows r most i lt pyramid, burnt-place r serials i)));
     }
+
+-- ════ the place of a cell
+
+module _ {side i : ℕ} (h : PlaceAsked side i) where
+  pub row-small : i / side < 256
+  row-small = let lt : i / side < side = div-lt-iff-lt-mul (h .some) .1 (h .within) in omega (arith, h .small)
+
+  pub column-small : i % side < 256
+  column-small = omega (arith, mod-lt i (h .some), h .small)
+
+pub place-by-rows : {rows : Bool} (side i : ℕ) → rows ≡ true → i ≡ cellPlace rows side i
+place-by-rows side i e = rw e (unfold cellPlace in refl)
+
+pub place-by-quarters : {rows : Bool} (side i : ℕ) {p : ℕ} → rows ≡ false
+    → p ≡ interleaved 8 (i / side) (i % side) → p ≡ cellPlace rows side i
+place-by-quarters side i e q = rw e (unfold cellPlace in q)
 
 -- ════ one cell's bound from above
 
@@ -67,8 +79,47 @@ module _ (residual : ℤ) {serial : ℕ} (fits : mag residual < 2 ^ 63) where
       let low = leZ residual (pos 0) in
       rw (back64 residual fits, ← dot-one n .is) (same-test low (high && low) (λ t. and-T high low (lower residual t) t) (λ t. T-and high low t .1))
 
-pub cell-asked : (r : ℕ) {cells off pyramid serials i : ℕ} → GridAsked r pyramid serials → cells ≡ cellCount r → off ≡ start r → i < cells → CellAsked off pyramid serials i
-cell-asked r h e o lt = record { residual = omega (arith, h .whole, start-suc r); serial = omega (arith, h .cells) }
+-- cell i of a map of power r, whose cells begin at `off`
+module _ (r : ℕ) {side cells i pyramid serials : ℕ} (h : GridAsked r pyramid serials)
+    (es : side ≡ 2 ^ r) (ec : cells ≡ cellCount r) (lt : i < cells) where
+  pub place-asked : PlaceAsked side i
+  place-asked =
+      rw es (record { some = pow-pos r; small = pow-mono {i = r} {j = 8} (h .most); within = omega arith })
+
+  module _ (rows : Bool) {off p : ℕ} (eo : off ≡ start r) (e : p ≡ cellPlace rows side i) where
+    pub place-in : off + p < pyramid
+    place-in =
+        let q : p < 2 ^ r * 2 ^ r = rw (e, es) (cell-place-lt rows r (h .most) i (omega arith)) in
+        omega (arith, h .whole, start-suc r)
+
+    pub place-few : off + p < 2 ^ 20
+    place-few =
+        omega (arith, place-in, h .whole, start-mono (suc r) 9 (omega (arith, h .most)), start-thrice 9)
+
+    pub cell-asked : CellAsked (off + p) pyramid serials i
+    cell-asked = record { residual = place-in; serial = omega (arith, h .cells) }
+
+    pub owing-asked : OwingAsked side (off + p) pyramid serials i
+    owing-asked =
+        let k = place-asked in
+        record {
+          some = k .some;
+          small = k .small;
+          cells = rw es (h .cells);
+          residual = place-in;
+          within = k .within;
+        }
+
+-- a test at the place that the code has found
+pub bounded-there : (rows : Bool) (side off : ℕ) (pyramid : List ℤ) (serials : List ℕ) (i : ℕ)
+    → {p : ℕ} {b : Bool} → p ≡ cellPlace rows side i → b ≡ boundedAt pyramid serials (off + p) i
+    → b ≡ boundedIn rows side off pyramid serials i
+bounded-there rows side off pyramid serials i e q = rw e at q
+
+pub owing-there : (rows : Bool) (side off : ℕ) (pyramid : List ℤ) (serials : List ℕ) (i : ℕ)
+    → {p : ℕ} {b : Bool} → p ≡ cellPlace rows side i → b ≡ owingAt side pyramid serials (off + p) i
+    → b ≡ owingIn rows side off pyramid serials i
+owing-there rows side off pyramid serials i e q = rw e at q
 
 -- ════ burnt neighbours
 
@@ -132,24 +183,30 @@ module _ (near : ℕ) (few : near ≤ 9) where
       → leZ (toZ w64 (ofZ w64 (pos 0 -ℤ toZ w64 (ofZ w64 (pos 65280 *ℤ toZ w64 near))))) (toZ w64 (ofZ w64 residual)) ≡ owingCell residual near
   owing-is residual fits = rw (toZ-ofZ least-fits, least, back64 residual fits)
 
-pub near-asked : {side off pyramid serials i : ℕ} → OwingAsked side off pyramid serials i → NearAsked side serials (i / side) (i % side)
-near-asked {i = i} h = record { small = h .small; cells = h .cells; down = div-lt-iff-lt-mul (h .some) .1 (h .within); across = mod-lt i (h .some) }
+pub near-asked : {side at pyramid serials i : ℕ} → OwingAsked side at pyramid serials i
+    → NearAsked side serials (i / side) (i % side)
+near-asked {i = i} h =
+    record {
+      small = h .small;
+      cells = h .cells;
+      down = div-lt-iff-lt-mul (h .some) .1 (h .within);
+      across = mod-lt i (h .some);
+    }
 
 pub owing-near : (residual : ℤ) {near value most : ℕ} {b : Bool} → mag residual < 2 ^ 63 → Total value most near → b ≡ owingCell (toZ w64 (ofZ w64 residual)) near → b ≡ owingCell residual value
 owing-near residual fits h e = rw (back64 residual fits, h .is) at e
-
-pub owing-asked : (r : ℕ) {side off pyramid serials i cells : ℕ} → GridAsked r pyramid serials → side ≡ 2 ^ r → cells ≡ cellCount r → off ≡ start r → i < cells → OwingAsked side off pyramid serials i
-owing-asked r h e c o lt =
-    rw (e, o)
-    (record { some = pow-pos r; small = pow-mono {i = r} {j = 8} (h .most); cells = h .cells; whole = omega (arith, h .whole, start-suc r); within = omega arith })
 
 near-same : (r : ℕ) (serials : List ℕ) (i : ℕ) → burntNear r serials (rowAt r i) (columnAt r i) ≡ sumTo 9 (nearAt (2 ^ r) serials (i / 2 ^ r) (i % 2 ^ r))
 unfolding burntNear onMap within burntAt rowAt columnAt
 near-same r serials i = refl
 
-pub owing-every : (r : ℕ) {side cells off : ℕ} → side ≡ 2 ^ r → cells ≡ cellCount r → off ≡ start r → (pyramid : List ℤ) (serials : List ℕ) → Every (owing r pyramid serials) (owingAt side off pyramid serials) cells
+pub owing-every : (rows : Bool) (r : ℕ) {side cells off : ℕ} → r ≤ 8 → side ≡ 2 ^ r
+    → cells ≡ cellCount r → off ≡ start r → (pyramid : List ℤ) (serials : List ℕ)
+    → Every (owing r (inRows rows r pyramid) serials) (owingIn rows side off pyramid serials) cells
 unfolding owing
-owing-every r e c o pyramid serials =
+owing-every rows r most e c o pyramid serials =
     record {
-      is = every-place r _ ∙ rw (e, c, o) (ap (allTo (cellCount r)) (fun-ext (λ i. rw (entry-place r pyramid i, near-same r serials i))));
+      is = every-place r _
+          ∙ rw (e, c, o) (allTo-ext (cellCount r) _ _ (λ i lt.
+          rw (cell-entry rows r most i lt pyramid, near-same r serials i)));
     }

@@ -1,4 +1,5 @@
 pub mod Asked
+pub mod Either
 pub mod Places
 pub mod Cells
 pub mod Sums

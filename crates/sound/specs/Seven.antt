@@ -3,6 +3,7 @@ use mathlib.Core.Path.{_≡_, _∙_}
 use mathlib.Core.Bool.{Bool, true, false, not, _&&_, _||_}
 use mathlib.Core.List.{List}
 use Prim.Native.Nat.{ℕ, _*_, _^_, _≤_, _<_}
+use native.Mathlib.Omega.{arith}
 use lib.Dec.{T, eqb}
 use lib.ListN.{length}
 use lib.IntN.{ℤ, pos, negℤ}
@@ -14,7 +15,8 @@ use Rattle.definition.specs.Sound.{burntNear, fewDots, numbered, counted, unuse
 use Rattle.integers.specs.Tests.{T-true, T-and, everyEntry-at, tests, and-true, and-false}
 use Rattle.integers.specs.Linear.{neg-le-up, zz, ints}
 use Rattle.pyramid.specs.Asked.{Within}
-use Rattle.sound.specs.Asked.{SoundAsked, NumberedAsked, SummedAsked}
+use Rattle.sound.specs.Asked.{inRows, SoundAsked, NumberedAsked, SummedAsked}
+use Rattle.sound.specs.Either.{in-rows}
 use Rattle.integers.specs.Loops.{held}
 use Rattle.dots.specs.Near.{burntNear-most}
 
@@ -39,8 +41,18 @@ module _ (r : ℕ) (pyramid : List ℤ) (serials : List ℕ) where
       let spent = eqb (burntAt r serials x y) 0 || leZ (entry pyramid r x y) (pos 0) in
       cell-within (entry pyramid r x y) (burntNear r serials x y) (burntNear-most r serials x y) (T-and high spent (everyEntry-at r _ s x y p q) .0) (everyEntry-at r _ t x y p q)
 
-  pub summed-asked : {order : ℕ} {a b : Bool} → SoundAsked r (length pyramid) (length serials) order → a ≡ bounded r pyramid serials → not a ≡ false → b ≡ owing r pyramid serials → not b ≡ false → SummedAsked pyramid r
-  summed-asked h e f g k = record { most = h .most; whole = h .whole; small = cells-within (T-true _ (held e f)) (T-true _ (held g k)) }
+pub summed-asked : (rows : Bool) (r : ℕ) (pyramid : List ℤ) (serials : List ℕ) {order : ℕ} {a b : Bool}
+    → SoundAsked r (length pyramid) (length serials) order
+    → a ≡ bounded r (inRows rows r pyramid) serials → not a ≡ false
+    → b ≡ owing r (inRows rows r pyramid) serials → not b ≡ false → SummedAsked rows pyramid r
+summed-asked rows r pyramid serials h e f g k =
+    record {
+      most = h .most;
+      whole = h .whole;
+      small = λ x y p q.
+          rw (← in-rows rows r pyramid r x y (omega arith) p q)
+          (cells-within r (inRows rows r pyramid) serials (T-true _ (held e f)) (T-true _ (held g k)) x y p q);
+    }
 
 -- ════ one test fails, or none
 

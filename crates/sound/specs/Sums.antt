@@ -1,5 +1,6 @@
 -- The test of the sums as one of each place of a level, and of one place.
-use mathlib.Core.Path.{_≡_, refl, sym, ap, ap₂, _∙_, fun-ext}
+use mathlib.Core.Path.{_≡_, refl, sym, ap, ap₂, _∙_}
+use mathlib.Core.Bool.{Bool, true, false}
 use mathlib.Core.List.{List}
 use Prim.Native.Nat.{ℕ, suc, _+_, _*_, _/_, _%_, _^_, _≤_, _<_}
 use native.Mathlib.Omega.{arith}
@@ -12,16 +13,19 @@ use lib.Signed.{mag}
 use mir.Syntax.{w64}
 use mir.Val.{SFits, ofZ}
 use lib.IntN.{ℤ, pos, _+ℤ_}
-use Rattle.definition.specs.Lists.{allTo, eqZ}
+use Rattle.definition.specs.Lists.{eqZ}
 use Rattle.definition.specs.Pyramid.{cellCount, start, placeIn, rowAt, columnAt, entry, four}
+use Rattle.definition.specs.Quarters.{interleaved, rowOf, columnOf, quarterEntry}
 use Rattle.definition.specs.Sound.{everyEntry}
 use Rattle.integers.specs.Tests.{eq→eqb, eqZ-eq, eq-eqZ, same-test}
 use Rattle.integers.specs.Machine.{ok64, eq-back}
 use Rattle.quadtree.specs.Levels.{quadruple, start-thrice, start-suc, start-mono}
+use Rattle.layouts.specs.Interleaved.{quarter, interleaved-of}
 use Rattle.pyramid.specs.Asked.{fourAt}
-use Rattle.sound.specs.Asked.{SumAsked, SidesAsked, LevelAsked, belowPlace, sumHolds, sumAt, levelSummed}
+use Rattle.sound.specs.Asked.{entryIn, SumAsked, SidesAsked, LevelAsked, belowPlace, sumHolds, rowSumAt, sumAt}
+use Rattle.sound.specs.Asked.{levelSummed}
 use Rattle.integers.specs.Loops.{Every}
-use Rattle.sound.specs.Cells.{every-place, entry-place}
+use Rattle.sound.specs.Either.{rowIn, columnIn, every-in, allTo-ext, entry-at}
 
 -- ════ one place
 
@@ -71,6 +75,36 @@ module _ {pyramid : List ℤ} {off next side i : ℕ} (h : SidesAsked pyramid of
         };
       }
 
+  -- by quarters they lie side by side
+  pub below-quarter : (off + i < 2 ^ 20) × (next + 4 * i < 2 ^ 20)
+  below-quarter =
+      let k : side * side ≤ 16384 = mul-le-mul (h .most) (h .most) in
+      (omega (arith, h .room, h .low), omega (arith, h .low))
+
+  pub quarter-asked : SumAsked pyramid (off + i) (next + 4 * i) 2
+  quarter-asked =
+      let k : 4 * i + 3 < 2 * side * (2 * side) = omega arith in
+      record {
+        room = omega (arith, h .room, h .whole);
+        below = record {
+          room = omega (arith, h .whole);
+          first = h .small (4 * i) (omega arith);
+          second = rw (add-assoc next (4 * i) 1) (h .small (4 * i + 1) (omega arith));
+          third = rw (add-assoc next (4 * i) 2) (h .small (4 * i + 2) (omega arith));
+          fourth = rw (add-assoc next (4 * i) 2, add-assoc next (4 * i + 2) 1) (h .small (4 * i + 2 + 1) (omega arith));
+        };
+      }
+
+-- a place in either layout
+module _ {rows : Bool} (pyramid : List ℤ) (off next side i : ℕ) {b : Bool} where
+  pub sum-by-rows : rows ≡ true → b ≡ rowSumAt pyramid off next side i
+      → b ≡ sumAt rows pyramid off next side i
+  sum-by-rows e q = rw e (unfold sumAt in q)
+
+  pub sum-by-quarters : rows ≡ false → b ≡ sumHolds pyramid (off + i) (next + 4 * i) 2
+      → b ≡ sumAt rows pyramid off next side i
+  sum-by-quarters e q = rw e (unfold sumAt in q)
+
 -- two words are the same where their numbers are
 pub same-word : (x y : ℤ) → mag x < 2 ^ 63 → SFits w64 y → eqb (ofZ w64 x) (ofZ w64 y) ≡ eqZ x y
 same-word x y h k = same-test (eqb (ofZ w64 x) (ofZ w64 y)) (eqZ x y) (λ t. eq-eqZ x y (eq-back (ok64 x h) k (eqb→eq (ofZ w64 x) (ofZ w64 y) t))) (λ t. eq→eqb (ofZ w64 x) (ofZ w64 y) (ap (ofZ w64) (eqZ-eq x y t)))
@@ -117,8 +151,53 @@ module _ (k : ℕ) (pyramid : List ℤ) where
       (ap₂ _+ℤ_ (ap₂ _+ℤ_ (finer-at (2 * a) (2 * b) _ refl) (finer-at (2 * a) (2 * b + 1) _ (omega arith))) (finer-at (2 * a + 1) (2 * b) _ (omega arith)))
       (finer-at (2 * a + 1) (2 * b + 1) _ (omega arith))
 
-  pub level-every : {off next side size : ℕ} → side ≡ 2 ^ k → off ≡ start k → next ≡ start (k + 1) → size ≡ cellCount k → Every (everyEntry k (levelSummed pyramid k)) (sumAt pyramid off next side) size
-  level-every es eo en ez =
+  -- by quarters
+  module _ (i : ℕ) (lt : i < 2 ^ k * 2 ^ k) where
+    abbrev a : ℕ
+    a = rowOf k i
+
+    abbrev b : ℕ
+    b = columnOf k i
+
+    one : (x y u v n : ℕ) → x < 2 → y < 2 → u ≡ 2 * a + x → v ≡ 2 * b + y
+        → n ≡ start (suc k) + (4 * i + (2 * x + y)) → quarterEntry pyramid (suc k) u v ≡ getD pyramid n (pos 0)
+    unfolding quarterEntry
+    one x y u v n p q eu ev en =
+        ap (λ (m : ℕ). getD pyramid m (pos 0))
+        (ap (λ (m : ℕ). start (suc k) + m)
+        (ap₂ (interleaved (suc k)) eu ev ∙ quarter k a b x y p q
+        ∙ ap (λ (m : ℕ). 4 * m + (2 * x + y)) (interleaved-of k i lt))
+        ∙ sym en)
+
+    four-quarter :
+        four (quarterEntry pyramid (suc k)) (rowOf k i) (columnOf k i) ≡ fourAt pyramid (start (suc k) + 4 * i) 2
+    unfolding four fourAt
+    four-quarter =
+        let nw = one 0 0 (2 * a) (2 * b) (start (suc k) + 4 * i)
+        (omega arith) (omega arith) (omega arith) (omega arith) (omega arith) in
+        let ne = one 0 1 (2 * a) (2 * b + 1) (start (suc k) + 4 * i + 1)
+        (omega arith) (omega arith) (omega arith) (omega arith) (omega arith) in
+        let sw = one 1 0 (2 * a + 1) (2 * b) (start (suc k) + 4 * i + 2)
+        (omega arith) (omega arith) (omega arith) (omega arith) (omega arith) in
+        let se = one 1 1 (2 * a + 1) (2 * b + 1) (start (suc k) + 4 * i + 2 + 1)
+        (omega arith) (omega arith) (omega arith) (omega arith) (omega arith) in
+        ap₂ _+ℤ_ (ap₂ _+ℤ_ (ap₂ _+ℤ_ nw ne) sw) se
+
+  -- either
+  level-at : (rows : Bool) (i : ℕ) → i < 2 ^ k * 2 ^ k
+      → levelSummed rows pyramid k (rowIn rows k i) (columnIn rows k i)
+      ≡ sumAt rows pyramid (start k) (start (suc k)) (2 ^ k) i
+  unfolding sumAt
+  level-at true i lt =
+      ap₂ eqZ (entry-at true pyramid k i lt) (unfold entryIn rowIn columnIn in four-place i)
+  level-at false i lt =
+      ap₂ eqZ (entry-at false pyramid k i lt) (unfold entryIn rowIn columnIn in four-quarter i lt)
+
+  pub level-every : (rows : Bool) {off next side size : ℕ} → side ≡ 2 ^ k → off ≡ start k
+      → next ≡ start (k + 1) → size ≡ cellCount k
+      → Every (everyEntry k (levelSummed rows pyramid k)) (sumAt rows pyramid off next side) size
+  level-every rows es eo en ez =
       record {
-        is = every-place k _ ∙ rw (es, eo, en, ez, add-one k) (ap (allTo (cellCount k)) (fun-ext (λ i. rw (entry-place k pyramid i, four-place i))));
+        is = every-in rows k _
+            ∙ rw (es, eo, en, ez, add-one k) (allTo-ext (cellCount k) _ _ (λ i lt. level-at rows i lt));
       }

@@ -1,4 +1,5 @@
-// Whether a sheet is sound: document 01's seven tests, for any contents of the three buffers.
+// Whether a sheet is sound: document 01's seven tests, for any contents of the three buffers, in either layout of the
+// pyramid.
 ghost use mathlib.Core.Path.{_≡_};
 ghost use Prim.Native.Nat.{_≤_, _<_, _+_, _*_, _-_};
 ghost use lib.ListN.{length, getD};
@@ -6,7 +7,12 @@ ghost use Rattle.definition.specs.Lists.{sumTo};
 ghost use Rattle.definition.specs.Blocks.{burnt};
 ghost use Rattle.definition.specs.Sound.{fewDots, numbered, counted, unused, summed, bounded, owing, isSound, everyEntry};
 ghost use Rattle.integers.specs.Totals.{Total};
-ghost use Rattle.sound.specs.Asked.{SoundAsked, CellsAsked, NumberedAsked, NextAsked, CellAsked, GridAsked, NearAsked, NearPlace, OwingAsked, nextAt, freeAt, boundedAt, onSide, nearAt, owingCell, owingAt, SumAsked, SidesAsked, LevelAsked, SummedAsked, sumHolds, sumAt, levelSummed};
+ghost use Rattle.places.specs.Table.{places};
+ghost use Rattle.sound.specs.Asked.{inRows, SoundAsked, CellsAsked, NumberedAsked, NextAsked, nextAt, freeAt};
+ghost use Rattle.sound.specs.Asked.{PlaceAsked, cellPlace, CellAsked, boundedAt, GridAsked};
+ghost use Rattle.sound.specs.Asked.{onSide, NearPlace, NearAsked, nearAt, owingCell, OwingAsked, owingAt};
+ghost use Rattle.sound.specs.Asked.{SumAsked, sumHolds, SidesAsked, rowSumAt, sumAt, LevelAsked, levelSummed};
+ghost use Rattle.sound.specs.Asked.{SummedAsked};
 
 // What one dot is worth.
 const DOT: i64 = 65280;
@@ -90,12 +96,25 @@ fn unused(r: usize, order: &[u32], dots: u32) -> bool
     true
 }
 
-// Whether the residual of cell i is at most one dot, and at most 0 if the cell is burnt; the cells begin at place `off`.
-fn cell_bounded(off: usize, pyramid: &[i64], serials: &[u32], i: usize) -> bool
-    requires { ⌜ CellAsked off (length (now pyramid)) (length (now serials)) i ⌝ }
-    ensures { λ b. ⌜ b ≡ boundedAt off (now (pyramid .entry)) (now (serials .entry)) i ⌝ }
+// The place of cell i of a map of side `side` within the level of the cells: the i-th one row after row, and by
+// quarters where the table has it.
+fn cell_place(rows: bool, table: &[u16; 1024], side: usize, i: usize) -> usize
+    requires { ⌜ PlaceAsked side i ⌝ }
+    requires { ⌜ now table ≡ places ⌝ }
+    ensures { λ p. ⌜ p ≡ cellPlace rows side i ⌝ }
 {
-    let residual = pyramid[off + i];
+    if rows {
+        return i;
+    }
+    places::place(table, i / side, i % side)
+}
+
+// Whether the residual of cell i, which is at place `at`, is at most one dot, and at most 0 if the cell is burnt.
+fn cell_bounded(at: usize, pyramid: &[i64], serials: &[u32], i: usize) -> bool
+    requires { ⌜ CellAsked at (length (now pyramid)) (length (now serials)) i ⌝ }
+    ensures { λ b. ⌜ b ≡ boundedAt (now (pyramid .entry)) (now (serials .entry)) at i ⌝ }
+{
+    let residual = pyramid[at];
     if serials[i] == 0 {
         return residual <= DOT;
     }
@@ -103,15 +122,18 @@ fn cell_bounded(off: usize, pyramid: &[i64], serials: &[u32], i: usize) -> bool
 }
 
 // Whether this holds of every cell.
-fn bounded(r: usize, pyramid: &[i64], serials: &[u32]) -> bool
+fn bounded(r: usize, rows: bool, table: &[u16; 1024], pyramid: &[i64], serials: &[u32]) -> bool
     requires { ⌜ GridAsked r (length (now pyramid)) (length (now serials)) ⌝ }
-    ensures { λ b. ⌜ b ≡ bounded r (now (pyramid .entry)) (now (serials .entry)) ⌝ }
+    requires { ⌜ now table ≡ places ⌝ }
+    ensures { λ b. ⌜ b ≡ bounded r (inRows rows r (now (pyramid .entry))) (now (serials .entry)) ⌝ }
 {
+    let side = sizes::pow2(r);
     let cells = sizes::cell_count(r);
     let off = sizes::level_start(r);
     let mut i = 0;
     while i < cells {
-        if !cell_bounded(off, pyramid, serials, i) {
+        let at = off + cell_place(rows, table, side, i);
+        if !cell_bounded(at, pyramid, serials, i) {
             return false;
         }
         i += 1;
@@ -179,26 +201,28 @@ fn is_owing(residual: i64, near: u32) -> bool
     0 - DOT * (near as i64) <= residual
 }
 
-// Whether this holds of cell i, the cells beginning at place `off`.
-fn cell_owing(side: usize, off: usize, pyramid: &[i64], serials: &[u32], i: usize) -> bool
-    requires { ⌜ OwingAsked side off (length (now pyramid)) (length (now serials)) i ⌝ }
-    ensures { λ b. ⌜ b ≡ owingAt side off (now (pyramid .entry)) (now (serials .entry)) i ⌝ }
+// Whether this holds of cell i, whose residual is at place `at`.
+fn cell_owing(side: usize, at: usize, pyramid: &[i64], serials: &[u32], i: usize) -> bool
+    requires { ⌜ OwingAsked side at (length (now pyramid)) (length (now serials)) i ⌝ }
+    ensures { λ b. ⌜ b ≡ owingAt side (now (pyramid .entry)) (now (serials .entry)) at i ⌝ }
 {
     let near = burnt_near(side, serials, i / side, i % side);
-    is_owing(pyramid[off + i], near)
+    is_owing(pyramid[at], near)
 }
 
 // Whether it holds of every cell.
-fn owing(r: usize, pyramid: &[i64], serials: &[u32]) -> bool
+fn owing(r: usize, rows: bool, table: &[u16; 1024], pyramid: &[i64], serials: &[u32]) -> bool
     requires { ⌜ GridAsked r (length (now pyramid)) (length (now serials)) ⌝ }
-    ensures { λ b. ⌜ b ≡ owing r (now (pyramid .entry)) (now (serials .entry)) ⌝ }
+    requires { ⌜ now table ≡ places ⌝ }
+    ensures { λ b. ⌜ b ≡ owing r (inRows rows r (now (pyramid .entry))) (now (serials .entry)) ⌝ }
 {
     let side = sizes::pow2(r);
     let cells = sizes::cell_count(r);
     let off = sizes::level_start(r);
     let mut i = 0;
     while i < cells {
-        if !cell_owing(side, off, pyramid, serials, i) {
+        let at = off + cell_place(rows, table, side, i);
+        if !cell_owing(side, at, pyramid, serials, i) {
             return false;
         }
         i += 1;
@@ -215,11 +239,12 @@ fn is_sum(pyramid: &[i64], at: usize, top: usize, wide: usize) -> bool
     pyramid[at] == sum
 }
 
-// Whether this holds of place i of a level of side `side`, which begins at `off`, the next finer one at `next`.
-fn place_summed(pyramid: &[i64], off: usize, next: usize, side: usize, i: usize) -> bool
+// Whether this holds of place i of a level of side `side`, which begins at `off`, the next finer one at `next`, row
+// after row.
+fn row_summed(pyramid: &[i64], off: usize, next: usize, side: usize, i: usize) -> bool
     requires { ⌜ SidesAsked (now pyramid) off next side ⌝ }
     requires { ⌜ i < side * side ⌝ }
-    ensures { λ b. ⌜ b ≡ sumAt (now (pyramid .entry)) off next side i ⌝ }
+    ensures { λ b. ⌜ b ≡ rowSumAt (now (pyramid .entry)) off next side i ⌝ }
 {
     let wide = 2 * side;
     let a = i / side;
@@ -227,10 +252,22 @@ fn place_summed(pyramid: &[i64], off: usize, next: usize, side: usize, i: usize)
     is_sum(pyramid, off + i, next + (2 * a * wide + 2 * b), wide)
 }
 
+// The same in either layout: by quarters the four follow each other, from four times the place on.
+fn place_summed(rows: bool, pyramid: &[i64], off: usize, next: usize, side: usize, i: usize) -> bool
+    requires { ⌜ SidesAsked (now pyramid) off next side ⌝ }
+    requires { ⌜ i < side * side ⌝ }
+    ensures { λ b. ⌜ b ≡ sumAt rows (now (pyramid .entry)) off next side i ⌝ }
+{
+    if rows {
+        return row_summed(pyramid, off, next, side, i);
+    }
+    is_sum(pyramid, off + i, next + 4 * i, 2)
+}
+
 // Whether it holds of every entry of level k.
-fn level_summed(k: usize, pyramid: &[i64]) -> bool
+fn level_summed(k: usize, rows: bool, pyramid: &[i64]) -> bool
     requires { ⌜ LevelAsked (now pyramid) k ⌝ }
-    ensures { λ b. ⌜ b ≡ everyEntry k (levelSummed (now (pyramid .entry)) k) ⌝ }
+    ensures { λ b. ⌜ b ≡ everyEntry k (levelSummed rows (now (pyramid .entry)) k) ⌝ }
 {
     let side = sizes::pow2(k);
     let off = sizes::level_start(k);
@@ -238,7 +275,7 @@ fn level_summed(k: usize, pyramid: &[i64]) -> bool
     let size = sizes::cell_count(k);
     let mut i = 0;
     while i < size {
-        if !place_summed(pyramid, off, next, side, i) {
+        if !place_summed(rows, pyramid, off, next, side, i) {
             return false;
         }
         i += 1;
@@ -246,15 +283,15 @@ fn level_summed(k: usize, pyramid: &[i64]) -> bool
     true
 }
 
-// Whether it holds of every level over the cells. It goes from the finest on, so that no sum overflows: the entries of a level that holds are sums
-// of small entries.
-fn summed(r: usize, pyramid: &[i64]) -> bool
-    requires { ⌜ SummedAsked (now pyramid) r ⌝ }
-    ensures { λ b. ⌜ b ≡ summed r (now (pyramid .entry)) ⌝ }
+// Whether it holds of every level over the cells. It goes from the finest on, so that no sum overflows: the entries of
+// a level that holds are sums of small entries.
+fn summed(r: usize, rows: bool, pyramid: &[i64]) -> bool
+    requires { ⌜ SummedAsked rows (now pyramid) r ⌝ }
+    ensures { λ b. ⌜ b ≡ summed r (inRows rows r (now (pyramid .entry))) ⌝ }
 {
     let mut k = r;
     while 0 < k {
-        if !level_summed(k - 1, pyramid) {
+        if !level_summed(k - 1, rows, pyramid) {
             return false;
         }
         k -= 1;
@@ -262,10 +299,29 @@ fn summed(r: usize, pyramid: &[i64]) -> bool
     true
 }
 
-// Whether a sheet of power r is sound. The bounds of the cells are tested before the sums, which then do not overflow.
-pub fn is_sound(r: usize, dots: u32, pyramid: &[i64], serials: &[u32], order: &[u32]) -> bool
+// Whether a sheet of power r is sound, its pyramid lying row after row or by quarters. The bounds of the cells are
+// tested before the sums, which then do not overflow.
+pub fn is_sound(
+    r: usize,
+    dots: u32,
+    rows: bool,
+    table: &[u16; 1024],
+    pyramid: &[i64],
+    serials: &[u32],
+    order: &[u32],
+) -> bool
     requires { ⌜ SoundAsked r (length (now pyramid)) (length (now serials)) (length (now order)) ⌝ }
-    ensures { λ b. ⌜ b ≡ isSound r (record { pyramid = now (pyramid .entry); serials = now (serials .entry); order = now (order .entry); dots = dots }) ⌝ }
+    requires { ⌜ now table ≡ places ⌝ }
+    ensures { λ b. ⌜
+        b
+        ≡ isSound r
+        (record {
+          pyramid = inRows rows r (now (pyramid .entry));
+          serials = now (serials .entry);
+          order = now (order .entry);
+          dots = dots;
+        })
+        ⌝ }
 {
     if !few_dots(r, dots) {
         return false;
@@ -279,11 +335,11 @@ pub fn is_sound(r: usize, dots: u32, pyramid: &[i64], serials: &[u32], order: &[
     if !unused(r, order, dots) {
         return false;
     }
-    if !bounded(r, pyramid, serials) {
+    if !bounded(r, rows, table, pyramid, serials) {
         return false;
     }
-    if !owing(r, pyramid, serials) {
+    if !owing(r, rows, table, pyramid, serials) {
         return false;
     }
-    summed(r, pyramid)
+    summed(r, rows, pyramid)
 }

@@ -9,7 +9,7 @@ use lib.ListN.{length, replicate}
 use lib.IntN.{ℤ}
 use Rattle.definition.specs.Lists.{tabulateFrom, tabulate}
 use Rattle.definition.specs.Answers.{Said}
-use Rattle.definition.specs.Load.{loadOf}
+use Rattle.definition.specs.ByQuarters.{loadByQuarters}
 use Rattle.definition.specs.Stages.{Action, Caller, callerAtFirst, act, callerAfterAll}
 use Rattle.definition.specs.declared.Progress.{Progress}
 use Rattle.definition.specs.declared.Checkpoints.{Checkpoints}
@@ -88,7 +88,7 @@ module _ (g : List ℕ) (latest₀ : Latest) (p₀ : List ℤ) (s₀ o₀ : List
 pub loaded-first : (side knit : ℕ) (g : List ℕ) (p : List ℤ) (s o : List ℕ)
     {progress : Progress} {said : Said} {p′ : List ℤ} {s′ o′ : List ℕ} {none : Checkpoints}
     → record { progress = progress; said = said; pyramid = p′; serials = s′; order = o′ }
-    ≡ loadOf side knit g p s o
+    ≡ loadByQuarters side knit g p s o
     → none ≡ record { kept = replicate 8 0 }
     → callerOf (record { progress = progress; checkpoints = none }) p′ s′ o′ ≡ callerAtFirst side knit g p s o
 unfolding callerAtFirst
@@ -98,7 +98,7 @@ pub acted-on : (side knit : ℕ) (g : List ℕ) (p : List ℤ) (s o : List ℕ)
     {progress : Progress} (said : Said) {p′ : List ℤ} {s′ o′ : List ℕ} {none : Checkpoints}
     (actions : List Action) (caller : Caller)
     → record { progress = progress; said = said; pyramid = p′; serials = s′; order = o′ }
-    ≡ loadOf side knit g p s o
+    ≡ loadByQuarters side knit g p s o
     → none ≡ record { kept = replicate 8 0 }
     → caller
     ≡ callerAfterAll g (callerOf (record { progress = progress; checkpoints = none }) p′ s′ o′) actions

@@ -7,7 +7,8 @@ use lib.ListN.{length, getD, take, drop}
 use lib.IntN.{ℤ}
 use Rattle.definition.specs.Answers.{Said}
 use Rattle.definition.specs.Calls.{callOf, heldAfter}
-use Rattle.definition.specs.Checkpoints.{keepOf, restoreOf}
+use Rattle.definition.specs.Checkpoints.{keepOf}
+use Rattle.definition.specs.ByQuarters.{restoreByQuarters}
 use Rattle.definition.specs.Stages.{advancing, keeping, returning, returnOf, callerAfter, act}
 use Rattle.definition.specs.declared.Progress.{Progress}
 use Rattle.definition.specs.declared.Checkpoints.{Checkpoints}
@@ -37,7 +38,7 @@ module _ (item : Item) (latest : Latest) (g : List ℕ) (p : List ℤ) (s o : Li
         serials = s′;
         order = o′;
       }
-      ≡ restoreOf (latest .progress) (latest .checkpoints) (item .number)
+      ≡ restoreByQuarters (latest .progress) (latest .checkpoints) (item .number)
       (take ng g) (take np p) (take ns s) (take no o)
       → record {
         progress = progress;

@@ -14,6 +14,7 @@ use Rattle.definition.specs.Diffusion.{kernelOf}
 use Rattle.definition.specs.Model.{topOf, modelStart, steps}
 use Rattle.definition.specs.Refusals.{powerOf}
 use Rattle.definition.specs.QuotePage.{quoteCap, figures}
+use Rattle.definition.specs.Quarters.{quartersFrom}
 use Rattle.definition.specs.Stages.{
   Return,
   Action,
@@ -68,7 +69,7 @@ module _ (side knit : ℕ) (greys : List ℕ) (pyramid : List ℤ) (serials orde
   promise = request-7 side knit greys pyramid serials order accepted actions
 
   -- buffers, record, value and answers are the model's
-  pub pyramid-as-model : take ((4 ^ suc r - 1) / 3) (caller .held .pyramid) ≡ model .sheet .pyramid
+  pub pyramid-as-model : take ((4 ^ suc r - 1) / 3) (caller .held .pyramid) ≡ quartersFrom r (model .sheet .pyramid)
   unfolding start
   pyramid-as-model = promise .pyramid
 

@@ -6,7 +6,7 @@ use Prim.Native.Nat.{ℕ}
 use native.Mathlib.Omega.{arith}
 use lib.ListN.{replicate}
 use lib.IntN.{ℤ, pos}
-use Rattle.definition.specs.Lists.{sumTo, allTo, tabulateFrom, eqZ}
+use Rattle.definition.specs.Lists.{sumTo, allTo, tabulateFrom, joined, eqZ}
 use Rattle.definition.specs.Answers.{Said, returned, finished, more, refused}
 use Rattle.definition.specs.Pyramid.{
   start,
@@ -58,6 +58,19 @@ use Rattle.definition.specs.Sound.{
 use Rattle.definition.specs.Refusals.{powerUpTo, powerOf, lowest}
 use Rattle.definition.specs.Load.{loadRefusal, loaded, loadOf}
 use Rattle.definition.specs.Advance.{dotsDue, saidAt, sheetIn, advanceRefusal, advanced, advanceOf}
+use Rattle.definition.specs.Quarters.{
+  interleaved,
+  rowOf,
+  columnOf,
+  quarterEntry,
+  quarterLevel,
+  rowsFrom,
+  quartersFrom,
+  relaid,
+  asRows,
+  asQuarters,
+}
+use Rattle.definition.specs.ByQuarters.{loadByQuarters, advanceByQuarters, restoreByQuarters}
 use Rattle.definition.specs.Calls.{heldAfterLoad, callOf, heldAfter}
 use Rattle.definition.specs.Checkpoints.{isName, keptAt, keepRefusal, keepOf}
 use Rattle.definition.specs.Checkpoints.{canRestore, restoreRefusal, restored, restoreOf}
@@ -107,7 +120,8 @@ actions =
     ∷ return 3 4 5 ∷ return 8 4 4 ∷ return 8 3 5 ∷ return 8 9 5 ∷ return 1 4 6 ∷ []
 
 accepted : Accepted 2 ribbed greys pyramid sheet sheet
-unfolding loadOf loadRefusal loaded lowest powerOf powerUpTo start
+unfolding loadByQuarters asRows relaid rowsFrom joined levelOf tabulateFrom loadOf loadRefusal loaded lowest powerOf
+    powerUpTo start
 accepted =
     record { bytes = (omega arith, (omega arith, (omega arith, (omega arith, tt)))); said = refl }
 
@@ -133,4 +147,6 @@ unfolding sumTo allTo tabulateFrom eqZ start placeIn rowAt columnAt levelOf inLe
     bounded owing isSound powerUpTo powerOf lowest loadRefusal loaded loadOf dotsDue saidAt sheetIn advanceRefusal
     advanced advanceOf heldAfterLoad callOf heldAfter isName keptAt keepRefusal keepOf canRestore
     restoreRefusal restored restoreOf callerAtFirst returnOf callerAfter act answerOf callerAfterAll answersOf
+    interleaved rowOf columnOf quarterEntry quarterLevel rowsFrom quartersFrom relaid asRows asQuarters joined
+    loadByQuarters advanceByQuarters restoreByQuarters
 answers-here = refl

@@ -20,6 +20,8 @@ use Rattle.definition.specs.Refusals.{powerOf, lowest}
 use Rattle.definition.specs.Advance.{AdvanceOutcome, sheetIn}
 use Rattle.definition.specs.Checkpoints.{isName, keptAt, nameUnknown, keepRefusal, keepOf}
 use Rattle.definition.specs.Checkpoints.{canRestore, restoreRefusal, RestoreOutcome, restored, restoreOf}
+use Rattle.definition.specs.Quarters.{quartersFrom, asRows}
+use Rattle.definition.specs.ByQuarters.{restoreByQuarters}
 use Rattle.definition.specs.Stages.{
   Return,
   Action,
@@ -53,11 +55,13 @@ use Rattle.definition.specs.declared.Progress.{Progress}
 use Rattle.integers.specs.Tests.{true-T}
 use Rattle.refusals.specs.Lowest.{lowest-none}
 use Rattle.refusals.specs.Names.{both}
+use Rattle.layouts.specs.Relaid.{length-quarters}
+use Rattle.layouts.specs.Lent.{rows-length}
 use Rattle.dots.specs.Steps.{Sheet}
 use Rattle.dots.specs.SoundTest.{sound-test}
 use Rattle.guarantee.specs.Demand3.{Each}
 use Rattle.guarantee.specs.Start.{each-getD, start-front, total-front}
-use Rattle.guarantee.specs.Lent.{heldOf, lent-test, lent-part, lent-back}
+use Rattle.guarantee.specs.Lent.{heldOf, lent-test, lent-part, lent-back, rows-part, rows-over, rows-stay}
 use Rattle.guarantee.specs.OneCall.{call-same, held-same}
 use Rattle.stages.specs.Stage.{Stage, stage-sheet, stage-most, stage-again, stage-call}
 
@@ -118,7 +122,11 @@ module _ (knit : ℕ) (known : knit ≤ 1) (r : ℕ) (big : 2 ≤ 2 ^ r) (power 
       lentGreys = take (b .greysLent) greys
 
       abbrev lentPyramid : List ℤ
-      lentPyramid = take (b .pyramidLent) (m .sheet .pyramid ++ p)
+      lentPyramid = take (b .pyramidLent) (quartersFrom r (m .sheet .pyramid) ++ p)
+
+      -- the part of the pyramid, written row after row
+      abbrev lentRows : List ℤ
+      lentRows = asRows r lentPyramid
 
       abbrev lentSerials : List ℕ
       lentSerials = take (b .serialsLent) (m .sheet .serials ++ s)
@@ -127,7 +135,7 @@ module _ (knit : ℕ) (known : knit ≤ 1) (r : ℕ) (big : 2 ≤ 2 ^ r) (power 
       lentOrder = take (b .orderLent) (m .sheet .order ++ o)
 
       abbrev lentSheet : Halftone
-      lentSheet = sheetIn r (m .sheet .dots) lentPyramid lentSerials lentOrder
+      lentSheet = sheetIn r (m .sheet .dots) lentRows lentSerials lentOrder
 
       -- parts that are long enough hold the map and the sheet
       module _ (enough : cellCount r ≤ b .greysLent) where
@@ -150,7 +158,7 @@ module _ (knit : ℕ) (known : knit ≤ 1) (r : ℕ) (big : 2 ≤ 2 ^ r) (power 
       sheet-lent hp hs ho =
           λ i.
           record {
-            pyramid = lent-part (m .sheet .pyramid) p (needed r) (b .pyramidLent) (sheet .sized .pyramid) hp i;
+            pyramid = rows-part r (m .sheet .pyramid) p (b .pyramidLent) (sheet .sized .pyramid) hp i;
             serials = lent-part (m .sheet .serials) s (cellCount r) (b .serialsLent) (sheet .sized .serials) hs i;
             order = lent-part (m .sheet .order) o (cellCount r) (b .orderLent) (sheet .sized .order) ho i;
             dots = m .sheet .dots;
@@ -181,7 +189,7 @@ module _ (knit : ℕ) (known : knit ≤ 1) (r : ℕ) (big : 2 ≤ 2 ^ r) (power 
 
       abbrev refusal : ℕ
       refusal =
-          restoreRefusal r knit (length lentGreys) (length lentPyramid) (length lentSerials) (length lentOrder)
+          restoreRefusal r knit (length lentGreys) (length lentRows) (length lentSerials) (length lentOrder)
           (isSound r lentSheet) can
 
       refusal-same : refusal ≡ modelReturnRefusal r m b
@@ -191,8 +199,13 @@ module _ (knit : ℕ) (known : knit ≤ 1) (r : ℕ) (big : 2 ≤ 2 ^ r) (power 
             ne-eqb r 0 (λ z. omega (arith, ap (λ (n : ℕ). 2 ^ n) z)),
             le-ltb 1 knit known,
             lent-test greys (b .greysLent) (cellCount r) long,
-            lent-test (m .sheet .pyramid ++ p) (b .pyramidLent) (needed r)
-                (omega (arith, length-append (m .sheet .pyramid) p, sheet .sized .pyramid)),
+            rows-length r lentPyramid,
+            lent-test (quartersFrom r (m .sheet .pyramid) ++ p) (b .pyramidLent) (needed r)
+                (omega (
+                  arith,
+                  length-append (quartersFrom r (m .sheet .pyramid)) p,
+                  length-quarters r (m .sheet .pyramid),
+                )),
             lent-test (m .sheet .serials ++ s) (b .serialsLent) (cellCount r)
                 (omega (arith, length-append (m .sheet .serials) s, sheet .sized .serials)),
             lent-test (m .sheet .order ++ o) (b .orderLent) (cellCount r)
@@ -249,6 +262,13 @@ module _ (knit : ℕ) (known : knit ≤ 1) (r : ℕ) (big : 2 ≤ 2 ^ r) (power 
       abbrev there : Halftone
       there = orElse (sheetAt m (b .name)) (m .sheet)
 
+      there-stage : IsStage there
+      there-stage = or (sheetAt m (b .name)) (good-name m g (b .name))
+        where
+          or : (x : Option Halftone) → StageOr x → IsStage (orElse x (m .sheet))
+          or none h = unfold orElse in g .at-stage
+          or (some u) h = unfold orElse in h
+
       abbrev count : ℕ
       count = keptAt (countsOf m) (b .name) - 1
 
@@ -270,15 +290,16 @@ module _ (knit : ℕ) (known : knit ≤ 1) (r : ℕ) (big : 2 ≤ 2 ^ r) (power 
       abbrev given : Progress
       given = record { side = 2 ^ r; dots = m .sheet .dots; knit = knit }
 
+      -- what the call by rows leaves
       abbrev outcome : RestoreOutcome
-      outcome = restoreOf given (countsOf m) (b .name) lentGreys lentPyramid lentSerials lentOrder
+      outcome = restoreOf given (countsOf m) (b .name) lentGreys lentRows lentSerials lentOrder
 
       outcome-taken : modelReturnRefusal r m b ≡ 0 → outcome
           ≡ record {
             progress = record { side = 2 ^ r; dots = there .dots; knit = knit };
             checkpoints = countsOf m;
             said = returned [];
-            pyramid = there .pyramid ++ drop (needed r) lentPyramid;
+            pyramid = there .pyramid ++ drop (needed r) lentRows;
             serials = there .serials ++ drop (cellCount r) lentSerials;
             order = there .order ++ drop (cellCount r) lentOrder;
           }
@@ -293,7 +314,7 @@ module _ (knit : ℕ) (known : knit ≤ 1) (r : ℕ) (big : 2 ≤ 2 ^ r) (power 
             progress = given;
             checkpoints = countsOf m;
             said = refused (suc n);
-            pyramid = lentPyramid;
+            pyramid = lentRows;
             serials = lentSerials;
             order = lentOrder;
           }
@@ -311,7 +332,7 @@ module _ (knit : ℕ) (known : knit ≤ 1) (r : ℕ) (big : 2 ≤ 2 ^ r) (power 
             progress = record { side = 2 ^ r; dots = modelReturn r m b .dots; knit = knit };
             checkpoints = countsOf m;
             said = saidOf (modelReturnRefusal r m b);
-            pyramid = modelReturn r m b .pyramid ++ p;
+            pyramid = quartersFrom r (modelReturn r m b .pyramid) ++ p;
             serials = modelReturn r m b .serials ++ s;
             order = modelReturn r m b .order ++ o;
           }
@@ -322,16 +343,16 @@ module _ (knit : ℕ) (known : knit ≤ 1) (r : ℕ) (big : 2 ≤ 2 ^ r) (power 
           go : (k : ℕ) → modelReturnRefusal r m b ≡ k → returnOf greys (callerOf m) b ≡ expected
           go zero e =
               let h = taken e in
-              unfold returnOf saidOf in
-              rw (outcome-taken e, return-taken e, e)
+              unfold returnOf restoreByQuarters saidOf in
+              rw (power, outcome-taken e, return-taken e, e)
               (λ i.
               record {
                 progress = record { side = 2 ^ r; dots = there .dots; knit = knit };
                 checkpoints = countsOf m;
                 said = returned [];
                 pyramid =
-                    lent-back (m .sheet .pyramid) (there .pyramid) p (needed r) (b .pyramidLent)
-                    (sheet .sized .pyramid) (h .pyramid-long) i;
+                    rows-over r (m .sheet .pyramid) p (b .pyramidLent) (sheet .sized .pyramid) (there .pyramid)
+                    (sheet-of there there-stage .sized .pyramid) (h .pyramid-long) i;
                 serials =
                     lent-back (m .sheet .serials) (there .serials) s (cellCount r) (b .serialsLent)
                     (sheet .sized .serials) (h .serials-long) i;
@@ -340,14 +361,14 @@ module _ (knit : ℕ) (known : knit ≤ 1) (r : ℕ) (big : 2 ≤ 2 ^ r) (power 
                     (sheet .sized .order) (h .order-long) i;
               })
           go (suc n) e =
-              unfold returnOf saidOf in
-              rw (outcome-refused n e, return-refused n e, e)
+              unfold returnOf restoreByQuarters saidOf in
+              rw (power, outcome-refused n e, return-refused n e, e)
               (λ i.
               record {
                 progress = given;
                 checkpoints = countsOf m;
                 said = refused (suc n);
-                pyramid = take-append-drop (b .pyramidLent) (m .sheet .pyramid ++ p) i;
+                pyramid = rows-stay r (m .sheet .pyramid) p (b .pyramidLent) (sheet .sized .pyramid) i;
                 serials = take-append-drop (b .serialsLent) (m .sheet .serials ++ s) i;
                 order = take-append-drop (b .orderLent) (m .sheet .order ++ o) i;
               })
@@ -355,12 +376,8 @@ module _ (knit : ℕ) (known : knit ≤ 1) (r : ℕ) (big : 2 ≤ 2 ^ r) (power 
       return-stage : IsStage (modelReturn r m b)
       return-stage = go (modelReturnRefusal r m b) refl
         where
-          or : (x : Option Halftone) → StageOr x → IsStage (orElse x (m .sheet))
-          or none h = unfold orElse in g .at-stage
-          or (some u) h = unfold orElse in h
-
           go : (k : ℕ) → modelReturnRefusal r m b ≡ k → IsStage (modelReturn r m b)
-          go zero e = rw (return-taken e) (or (sheetAt m (b .name)) (good-name m g (b .name)))
+          go zero e = rw (return-taken e) there-stage
           go (suc n) e = rw (return-refused n e) (g .at-stage)
 
     -- ---- a keep

@@ -13,6 +13,7 @@ use Rattle.definition.specs.Blocks.{greyTotal, totalOf, allDots}
 use Rattle.definition.specs.Diffusion.{kernelOf}
 use Rattle.definition.specs.Model.{topOf, modelStart, steps}
 use Rattle.definition.specs.Refusals.{powerOf}
+use Rattle.definition.specs.Quarters.{quartersFrom}
 use Rattle.definition.specs.Stages.{
   Return,
   Action,
@@ -37,8 +38,8 @@ use Rattle.guarantee.specs.Demand3.{Each, EachBlock, UnderCap, OverFloor, Quote
 pub record StagesHold (knit r G : ℕ) (greys : List ℕ)
     (lentPyramid : List ℤ) (lentSerials lentOrder : List ℕ) (actions : List Action)
     (first caller : Caller) (answers : List Answer) (model : Memory) (modelled : List Answer) : Type 0 where
-  -- the buffers, each over its needed length, the record and the value are the model's
-  pub pyramid : take (needed r) (caller .held .pyramid) ≡ model .sheet .pyramid
+  -- the buffers, each over its needed length, the record and the value are the model's, the pyramid by quarters
+  pub pyramid : take (needed r) (caller .held .pyramid) ≡ quartersFrom r (model .sheet .pyramid)
   pub serials : take (cellCount r) (caller .held .serials) ≡ model .sheet .serials
   pub order : take (cellCount r) (caller .held .order) ≡ model .sheet .order
   pub progress : caller .held .progress ≡ record { side = 2 ^ r; dots = model .sheet .dots; knit = knit }

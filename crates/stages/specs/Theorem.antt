@@ -18,6 +18,7 @@ use Rattle.definition.specs.Model.{Halftone, modelStart}
 use Rattle.definition.specs.Refusals.{powerOf, lowest}
 use Rattle.definition.specs.Calls.{Call, Held, heldAfterLoad, heldAfterCalls, modelRefusal, modelAfterCalls}
 use Rattle.definition.specs.Checkpoints.{isName, RestoreOutcome}
+use Rattle.definition.specs.Quarters.{quartersFrom}
 use Rattle.definition.specs.Stages.{
   Return,
   Action,
@@ -41,6 +42,7 @@ use Rattle.definition.specs.Stages.{
   countsOf,
 }
 use Rattle.refusals.specs.Names.{both, one-to-eight}
+use Rattle.layouts.specs.Relaid.{length-quarters}
 use Rattle.dots.specs.Steps.{Sheet}
 use Rattle.guarantee.specs.Demand3.{Each, Accepted, Demand3}
 use Rattle.guarantee.specs.Start.{Loaded, start-sheet, accepted-loaded, loaded-held}
@@ -271,13 +273,13 @@ module _ (side knit : ℕ) (greys : List ℕ) (pyramid : List ℤ) (serials orde
         let one = one-call t (last-good .at-stage) in
         let d = demand t (last-good .at-stage) in
         record {
-          pyramid = take-at (t .pyramid) p (needed r) (sheet .sized .pyramid);
+          pyramid = take-at (quartersFrom r (t .pyramid)) p (needed r) (length-quarters r (t .pyramid));
           serials = take-at (t .serials) s (cellCount r) (sheet .sized .serials);
           order = take-at (t .order) o (cellCount r) (sheet .sized .order);
           progress = refl;
           checkpoints = refl;
           answered = refl;
-          pyramid-rest = drop-at (t .pyramid) p (needed r) (sheet .sized .pyramid);
+          pyramid-rest = drop-at (quartersFrom r (t .pyramid)) p (needed r) (length-quarters r (t .pyramid));
           serials-rest = drop-at (t .serials) s (cellCount r) (sheet .sized .serials);
           order-rest = drop-at (t .order) o (cellCount r) (sheet .sized .order);
           so-many = sym (stage-again knit known r big power greys (accepted .bytes) t (last-good .at-stage));

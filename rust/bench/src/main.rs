@@ -1,9 +1,11 @@
-//! The benchmark: side 256, the sample of seed 1, Load and one Advance to the end, by the library and by the team's own
-//! Rust, on plain cloth and then on ribbed. Runs alternate, every buffer is cleared before each, the median of nine is
-//! taken. Printed for each knit: both times, their ratio, and the time of the test for a sound sheet alone (an Advance
-//! of budget 0 on the loaded sheet).
+//! The benchmark: side 256, the sample of seed 1, Load and one Advance to the end, by the library, by the team's own
+//! Rust in the same layout, and by the team's own Rust row after row, on plain cloth and then on ribbed. Runs
+//! alternate, every buffer is cleared before each, the median of nine is taken. Printed for each knit: the times, the
+//! library's ratio to either, and the time of the test for a sound sheet alone (an Advance of budget 0 on the loaded
+//! sheet).
 
-mod plain;
+mod quarters;
+mod rows;
 
 use std::time::Instant;
 
@@ -44,23 +46,33 @@ fn main() {
 }
 
 fn measure(knit: u32, name: &str, greys: &[u8]) {
-    let (mut ours, mut theirs) = (Vec::new(), Vec::new());
+    let (mut ours, mut theirs, mut older) = (Vec::new(), Vec::new(), Vec::new());
     for _ in 0..RUNS {
-        let (library, rust) = (by_library(knit, greys), by_rust(knit, greys));
+        let library = by_library(knit, greys);
+        let rust = by_rust(knit, greys, quarters::load, quarters::advance);
+        let by_rows = by_rust(knit, greys, rows::load, rows::advance);
         assert!(same(&library, &rust), "the two leave different sheets");
+        assert!(same_holes(&library, &by_rows), "row after row other holes are made");
         ours.push(library);
         theirs.push(rust);
+        older.push(by_rows);
     }
     println!("side {SIDE}, {name}, {} holes, median of {RUNS} alternating runs", ours[0].dots);
-    print_line("library, load and run", &ours, |run| run.load + run.run);
-    print_line("rust, load and run", &theirs, |run| run.load + run.run);
-    let ratio = median(&ours, |run| run.load + run.run) / median(&theirs, |run| run.load + run.run);
-    println!("ratio library to rust: {ratio:.2}");
-    print_line("library, load alone", &ours, |run| run.load);
-    print_line("rust, load alone", &theirs, |run| run.load);
-    print_line("library, sound-sheet test alone", &ours, |run| run.test);
-    print_line("rust, sound-sheet test alone", &theirs, |run| run.test);
+    let whole = |run: &Run| run.load + run.run;
+    print_line("library, load and run", &ours, whole);
+    print_line("rust, load and run", &theirs, whole);
+    print_line("rust row after row, load and run", &older, whole);
+    println!("ratio library to rust: {:.2}", median(&ours, whole) / median(&theirs, whole));
+    println!("ratio library to rust row after row: {:.2}", median(&ours, whole) / median(&older, whole));
+    for (what, of) in PARTS {
+        print_line(&format!("library, {what} alone"), &ours, of);
+        print_line(&format!("rust, {what} alone"), &theirs, of);
+        print_line(&format!("rust row after row, {what} alone"), &older, of);
+    }
 }
+
+/// The parts of a run that are printed by themselves.
+const PARTS: [(&str, fn(&Run) -> f64); 2] = [("load", |run| run.load), ("sound-sheet test", |run| run.test)];
 
 fn by_library(knit: u32, greys: &[u8]) -> Run {
     let mut b = Buffers::cleared();
@@ -76,26 +88,31 @@ fn by_library(knit: u32, greys: &[u8]) -> Run {
     Run { load, test, run, dots: end.progress.dots, buffers: b }
 }
 
-fn by_rust(knit: u32, greys: &[u8]) -> Run {
+/// Load and Advance of one of the two in Rust.
+type Load = fn(usize, &[u8], &mut [i64], &mut [u32], &mut [u32]);
+type Advance = fn(usize, usize, u32, u32, &mut [i64], &mut [u32], &mut [u32]) -> Option<u32>;
+
+fn by_rust(knit: u32, greys: &[u8], fill: Load, advance: Advance) -> Run {
     let knit = knit as usize;
     let mut b = Buffers::cleared();
     let start = Instant::now();
-    plain::load(POWER, greys, &mut b.pyramid, &mut b.serials, &mut b.order);
+    fill(POWER, greys, &mut b.pyramid, &mut b.serials, &mut b.order);
     let load = start.elapsed().as_secs_f64();
     let start = Instant::now();
-    plain::advance(POWER, knit, 0, 0, &mut b.pyramid, &mut b.serials, &mut b.order).expect("advance by 0");
+    advance(POWER, knit, 0, 0, &mut b.pyramid, &mut b.serials, &mut b.order).expect("advance by 0");
     let test = start.elapsed().as_secs_f64();
     let start = Instant::now();
-    let dots = plain::advance(POWER, knit, 0, u32::MAX, &mut b.pyramid, &mut b.serials, &mut b.order).expect("advance");
+    let dots = advance(POWER, knit, 0, u32::MAX, &mut b.pyramid, &mut b.serials, &mut b.order).expect("advance");
     let run = start.elapsed().as_secs_f64();
     Run { load, test, run, dots, buffers: b }
 }
 
 fn same(a: &Run, b: &Run) -> bool {
-    a.dots == b.dots
-        && a.buffers.pyramid == b.buffers.pyramid
-        && a.buffers.serials == b.buffers.serials
-        && a.buffers.order == b.buffers.order
+    same_holes(a, b) && a.buffers.pyramid == b.buffers.pyramid
+}
+
+fn same_holes(a: &Run, b: &Run) -> bool {
+    a.dots == b.dots && a.buffers.serials == b.buffers.serials && a.buffers.order == b.buffers.order
 }
 
 fn median(runs: &[Run], of: impl Fn(&Run) -> f64) -> f64 {

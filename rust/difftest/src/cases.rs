@@ -1,9 +1,11 @@
 //! The cases, by kind: every call answered, and every call refused, both on either knit; loads; runs of calls with lent
 //! parts and damage between them; runs with names; sheets that no Load made; noise; the renewal by itself on wrong
-//! pyramids; samples one after another; plates compared, and shelves of plates; texts, and texts of two sides.
+//! pyramids; samples one after another; plates compared, and shelves of plates; older sheets; texts, and texts of two
+//! sides.
 
 use reference::SIDES;
 
+use crate::older::older_case;
 use crate::random::Random;
 use crate::renewals::renewal_case;
 use crate::runs::{load_case, made_up_case, noise_case, run_case};
@@ -18,7 +20,7 @@ use crate::tours::{refusals_case, ribbed_refusals_case, ribbed_tour_case, tour_c
 type Case = fn(&mut Random, &mut SideBySide, u32) -> Result<(), Differs>;
 
 /// The kinds of case, each made at every side by the sweep.
-const KINDS: [Case; 15] = [
+const KINDS: [Case; 16] = [
     tour_case,
     ribbed_tour_case,
     refusals_case,
@@ -32,6 +34,7 @@ const KINDS: [Case; 15] = [
     sample_case,
     compare_case,
     shelf_case,
+    older_case,
     text_case,
     mixed_text_case,
 ];
@@ -54,7 +57,7 @@ fn random_case(random: &mut Random, calls: &mut SideBySide) -> Result<(), Differ
     let (any, good) = (random.side(), random.good_side());
     let large = random.pick(&[32, 64, 128, 256]);
     let (quick, quick_good) = if random.once_in(200) { (large, large) } else { (any, good) };
-    match random.below(31) {
+    match random.below(33) {
         0..=3 => load_case(random, calls, any),
         4..=9 => run_case(random, calls, good),
         10 | 11 => made_up_case(random, calls, good),
@@ -65,6 +68,7 @@ fn random_case(random: &mut Random, calls: &mut SideBySide) -> Result<(), Differ
         25 => compare_case(random, calls, any),
         26 | 27 => shelf_case(random, calls, any),
         28 | 29 => stage_case(random, calls, good),
+        30 | 31 => older_case(random, calls, any),
         _ => mixed_text_case(random, calls, quick_good),
     }
 }

@@ -10,7 +10,7 @@ use crate::plate_kinds::{self, Kind};
 use crate::stage_kinds;
 
 /// The codes that each call can return at every side: those of its answers, then those of its refusals.
-const CODES: [(&str, &[u32]); 13] = [
+const CODES: [(&str, &[u32]); 14] = [
     ("load", &[0, 11, 2, 3, 4]),
     ("advance", &[0, 100, 11, 3, 4, 5]),
     ("tally", &[0, 4, 6]),
@@ -23,15 +23,17 @@ const CODES: [(&str, &[u32]); 13] = [
     ("shelf", &[0, 4, 8]),
     ("keep", &[0, 10]),
     ("restore", &[0, 11, 2, 3, 4, 5, 10]),
+    ("relay", &[0, 11, 3, 4, 5]),
     ("renew", &[0, 101]),
 ];
 
 /// The codes that the calls that look at the knit can return at every side on ribbed cloth.
-const RIBBED_CODES: [(&str, &[u32]); 4] = [
+const RIBBED_CODES: [(&str, &[u32]); 5] = [
     ("load", &[0, 2, 3, 4]),
     ("advance", &[0, 100, 3, 4, 5]),
     ("drill_list", &[0, 3, 4, 5, 8]),
     ("restore", &[0, 2, 3, 4, 5, 10]),
+    ("relay", &[0, 3, 4, 5]),
 ];
 
 /// A call, a side and a code.

@@ -110,6 +110,10 @@ pub fn restore(
     Outcome { code: code_of(answer.status), values }
 }
 
+pub fn relay(progress: Progress, pyramid: &[i64], serials: &[u32], order: &[u32], second: &mut [i64]) -> Outcome {
+    Outcome { code: code_of(reference::relay(progress, pyramid, serials, order, second)), values: Vec::new() }
+}
+
 pub fn renew(side: u32, [row, column]: [u32; 2], pyramid: &mut [i64]) -> Outcome {
     let renewed = reference::renew(side, row, column, pyramid);
     Outcome { code: if renewed { 0 } else { NOT_RENEWED }, values: Vec::new() }

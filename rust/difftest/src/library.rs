@@ -101,6 +101,10 @@ pub fn restore(
     Outcome { code, values: [numbers(after), value.kept.to_vec()].concat() }
 }
 
+pub fn relay(progress: Progress, pyramid: &[i64], serials: &[u32], order: &[u32], second: &mut [i64]) -> Outcome {
+    Outcome { code: codes::relay(ours(progress), pyramid, serials, order, second), values: Vec::new() }
+}
+
 pub fn renew(side: u32, [row, column]: [u32; 2], pyramid: &mut [i64]) -> Outcome {
     Outcome { code: codes::renew(side, row, column, pyramid), values: Vec::new() }
 }

@@ -6,6 +6,7 @@ mod coverage;
 mod expected;
 mod knit_kinds;
 mod library;
+mod older;
 mod parts;
 mod plate_kinds;
 mod random;
@@ -85,7 +86,7 @@ fn compare_cases(cases: u64, seed: u64) -> Result<String, String> {
     }
     let [codes, kinds] = [codes, kinds].map(|covered| covered.unwrap_or(cases));
     println!(
-        "each of the thirteen calls was answered, and gave each refusal, at all eight sides within {codes} cases,"
+        "each of the fourteen calls was answered, and gave each refusal, at all eight sides within {codes} cases,"
     );
     println!("those that look at the knit on plain cloth and on ribbed");
     println!("every kind of comparison, shelf, Keep, Restore and knit was met within {kinds} cases");

@@ -1,6 +1,6 @@
 //! The renewal by itself.
 
-use reference::renew_all;
+use reference::{renew_all, to_quarters};
 
 use crate::parts::{last_level, needed};
 use crate::random::Random;
@@ -37,6 +37,7 @@ fn altered_sums(random: &mut Random, side: u32) -> Vec<i64> {
     let (cells, needed) = needed(side);
     let mut pyramid: Vec<i64> = (0..needed).map(|_| random.within(70_000)).collect();
     renew_all(last_level(side), &mut pyramid);
+    let mut pyramid = to_quarters(side, &pyramid);
     let altered = random.pick(&[1, 1, 2, cells]);
     for _ in 0..altered {
         let place = random.below(needed);

@@ -1,6 +1,6 @@
 //! Loads, runs of calls, sheets that no Load made, and noise.
 
-use reference::{renew_all, Progress};
+use reference::{renew_all, to_quarters, Progress};
 use rulmedei::page_length;
 
 use crate::parts::{
@@ -113,6 +113,7 @@ pub fn made_up_case(random: &mut Random, calls: &mut SideBySide, side: u32) -> R
         *entry = made_up_residual(random, odds);
     }
     renew_all(last_level(side), &mut pyramid);
+    let pyramid = to_quarters(side, &pyramid);
     let mut sheet = Sheet { pyramid, serials: vec![0; cells], order: vec![0; cells] };
     let mut progress = Progress { side, dots: 0, knit: random.good_knit() };
     for _ in 0..3 {

@@ -268,6 +268,27 @@ impl SideBySide {
         self.counted_on(progress.knit, "restore", progress.side, ours)
     }
 
+    /// Relay, on an older sheet, into the first places of a second pyramid.
+    pub fn relay(
+        &mut self,
+        progress: Progress,
+        old: &Sheet,
+        lent: Lent,
+        second: &mut [i64],
+        room: usize,
+    ) -> Result<Outcome, Differs> {
+        let before = second.to_vec();
+        let mut other = second.to_vec();
+        let pyramid = &old.pyramid[..lent.pyramid];
+        let serials = &old.serials[..lent.serials];
+        let order = &old.order[..lent.order];
+        let ours = library::relay(progress, pyramid, serials, order, &mut second[..room]);
+        let theirs = expected::relay(progress, pyramid, serials, order, &mut other[..room]);
+        let inputs = (progress, old, lent, &before, room);
+        self.agreed("relay", &inputs, (&ours, &*second), (&theirs, &other[..]))?;
+        self.counted_on(progress.knit, "relay", progress.side, ours)
+    }
+
     pub fn renew(&mut self, side: u32, cell: [u32; 2], pyramid: &mut [i64], lent: usize) -> Result<Outcome, Differs> {
         let before = pyramid.to_vec();
         let mut other = pyramid.to_vec();

@@ -5,6 +5,7 @@ use reference::{write_map_text, Checkpoints, Progress, PLAIN, RIBBED};
 use rulmedei::{list_room, page_length};
 
 use crate::knit_kinds;
+use crate::older::{older_tour, refused_older};
 use crate::parts::{blank, last_level, needed, other_knit, square, whole};
 use crate::random::Random;
 use crate::shelves::{plates_tour, refused_plates};
@@ -21,7 +22,7 @@ pub fn ribbed_tour_case(random: &mut Random, calls: &mut SideBySide, side: u32) 
 
 /// A sample of at least two holes, its text read, the map loaded and run to its end in three calls, with Levels and
 /// Drill List after each. Then Tally and Quote Page at every level, Compare and Shelf on the plate and others, Keep and
-/// Restore, and the renewal of sums of which the top is wrong.
+/// Restore, Relay, and the renewal of sums of which the top is wrong.
 fn tour(random: &mut Random, calls: &mut SideBySide, side: u32, knit: u32) -> Result<(), Differs> {
     let greys = sampled(random, calls, side)?;
     let mut read = vec![9; greys.len()];
@@ -37,6 +38,7 @@ fn tour(random: &mut Random, calls: &mut SideBySide, side: u32, knit: u32) -> Re
     every_level(random, calls, side, &greys, &sheet.serials)?;
     plates_tour(random, calls, side, &sheet.serials)?;
     stages_tour(calls, progress, &greys, &sheet)?;
+    older_tour(calls, progress, &sheet)?;
     sheet.pyramid[0] += 1 + random.below(1000) as i64;
     let cell = [random.below(side as usize) as u32, random.below(side as usize) as u32];
     calls.renew(side, cell, &mut sheet.pyramid, all.pyramid)?;
@@ -90,6 +92,7 @@ fn refusals(random: &mut Random, calls: &mut SideBySide, side: u32, knit: u32) -
     refused_plates(calls, side, &sheet.serials)?;
     refused_stages(random, calls, progress, &greys, &mut sheet)?;
     refused_for_damage(random, calls, progress, &sheet)?;
+    refused_older(random, calls, progress, &sheet)?;
     refused_texts(random, calls, side, &greys)?;
     on_other_knit(calls, progress, &greys, &mut sheet)
 }

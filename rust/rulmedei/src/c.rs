@@ -128,5 +128,19 @@ extern "C" {
         after: *mut u32,
     ) -> u32;
 
+    pub fn rulmedei_relay(
+        side: u32,
+        dots: u32,
+        knit: u32,
+        pyramid: *const i64,
+        pyramid_length: usize,
+        serials: *const u32,
+        serials_length: usize,
+        order: *const u32,
+        order_length: usize,
+        second: *mut i64,
+        second_length: usize,
+    ) -> u32;
+
     pub fn rulmedei_renew(side: u32, row: u32, column: u32, pyramid: *mut i64, pyramid_length: usize) -> u32;
 }

@@ -216,6 +216,26 @@ pub fn restore(
     (code, after)
 }
 
+/// The code.
+pub fn relay(progress: Progress, pyramid: &[i64], serials: &[u32], order: &[u32], second: &mut [i64]) -> u32 {
+    // SAFETY: each pointer and length is that of a slice.
+    unsafe {
+        c::rulmedei_relay(
+            progress.side,
+            progress.dots,
+            progress.knit,
+            pyramid.as_ptr(),
+            pyramid.len(),
+            serials.as_ptr(),
+            serials.len(),
+            order.as_ptr(),
+            order.len(),
+            second.as_mut_ptr(),
+            second.len(),
+        )
+    }
+}
+
 /// The code: 0 where it renewed, else 101.
 pub fn renew(side: u32, row: u32, column: u32, pyramid: &mut [i64]) -> u32 {
     // SAFETY: the pointer and length are those of a slice.

@@ -1,4 +1,4 @@
-//! Grey maps to ordered lists of holes: the twelve calls of the proved library, on slices that the caller lends. No
+//! Grey maps to ordered lists of holes: the thirteen calls of the proved library, on slices that the caller lends. No
 //! call asks anything of its arguments; what doesn't fit is refused, and a refused call leaves every buffer as it was.
 //! Each call below has the numbers of its refusals in the order in which it looks for them, and of several the first is
 //! told. That is by rising number, but for 11, which comes directly after 1; Map Text has an order of its own.
@@ -8,7 +8,10 @@
 //! Compare tells which of two plates comes first, and Shelf puts many in order (`examples/shelf.rs`). Keep writes down
 //! under a name how far a plate is, and Restore goes back to it.
 //!
-//! Besides the twelve there is `renew`, the renewal of sums that Advance does after each hole, by itself.
+//! The pyramid lies by quarters: [`place`] says where. One that an earlier version left row after row is written anew
+//! by Relay.
+//!
+//! Besides the thirteen there is `renew`, the renewal of sums that Advance does after each hole, by itself.
 
 #[cfg(not(all(target_arch = "x86_64", target_os = "linux")))]
 compile_error!("the proved library is compiled for x86-64 Linux");
@@ -86,6 +89,22 @@ pub fn cells(side: u32) -> usize {
 /// The length that the pyramid needs: (4N² − 1) / 3.
 pub fn pyramid_length(side: u32) -> usize {
     cells(side).saturating_mul(4).saturating_sub(1) / 3
+}
+
+/// The place of entry (row, column) of a level in the pyramid: behind the 4^0 + 4^1 + .. entries of the levels before
+/// it come those of the level, and there bit 2 i of the place is bit i of the column, and bit 2 i + 1 is bit i of the
+/// row. So the four entries below the one at place i are at the places 4 i + 1 to 4 i + 4. Row and column are below
+/// 2^level, and the level is at most 8.
+///
+/// ```
+/// use rulmedei::place;
+///
+/// let level: Vec<usize> = (0..16).map(|cell| place(2, cell / 4, cell % 4)).collect();
+/// assert_eq!(level, [5, 6, 9, 10, 7, 8, 11, 12, 13, 14, 17, 18, 15, 16, 19, 20]);
+/// ```
+pub fn place(level: u32, row: usize, column: usize) -> usize {
+    let bits = |number: usize, bit: u32| (number >> bit & 1) << (2 * bit);
+    (0..level).map(|bit| (1 << (2 * bit)) + bits(column, bit) + 2 * bits(row, bit)).sum()
 }
 
 /// The length that the page of a level needs: 29 bytes for each of its squares, 29 × 4^level. Past level 8 no map has
@@ -280,7 +299,34 @@ pub fn restore(
     Ok(after)
 }
 
-/// The renewal by itself, none of the twelve calls: makes each coarser entry over the cell (row, column), or over one
+/// Relay: writes the pyramid of an older sheet, which lies row after row as earlier versions left it, by quarters into
+/// a second pyramid, and nothing else. With the same serials, order and record the second one is a sound sheet, and
+/// goes on as the first one would have. Places of the second pyramid past the needed length stay.
+/// Refusals: 1, 11, 3 (for either pyramid), 4, 5 (the sheet is to be sound row after row).
+///
+/// ```
+/// use rulmedei::{advance, load, place, relay, PLAIN};
+///
+/// // a sheet of side 4 without holes, row after row: all its cells have the grey 128
+/// let old: Vec<i64> = [vec![16 * 32_768], vec![4 * 32_768; 4], vec![32_768; 16]].concat();
+/// let (mut serials, mut order) = ([0; 16], [0; 16]);
+/// let (mut pyramid, mut fresh) = ([0; 21], [0; 21]);
+/// let record = load(4, PLAIN, &[128; 16], &mut fresh, &mut serials, &mut order)?;
+/// relay(record, &old, &serials, &order, &mut pyramid)?;
+/// assert_eq!(pyramid, fresh);
+/// # Ok::<(), rulmedei::Refusal>(())
+/// ```
+pub fn relay(
+    progress: Progress,
+    pyramid: &[i64],
+    serials: &[u32],
+    order: &[u32],
+    second: &mut [i64],
+) -> Result<(), Refusal> {
+    did(codes::relay(progress, pyramid, serials, order, second))
+}
+
+/// The renewal by itself, none of the thirteen calls: makes each coarser entry over the cell (row, column), or over one
 /// of its up to eight neighbours on the map, the sum of its four entries on the level below, level by level up to the
 /// top. All other entries stay as they are, right or wrong.
 ///

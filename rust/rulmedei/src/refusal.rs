@@ -65,7 +65,7 @@ impl fmt::Display for Refusal {
 impl Error for Refusal {}
 
 /// What a code says: 0 that the call did its work, any other the refusal of that number. (Further codes of the
-/// twelve calls are 100 of Advance and 102 to 106 of Compare, and no others.)
+/// thirteen calls are 100 of Advance and 102 to 106 of Compare, and no others.)
 pub(crate) fn did(code: u32) -> Result<(), Refusal> {
     if code == 0 {
         return Ok(());

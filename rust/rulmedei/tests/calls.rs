@@ -3,8 +3,8 @@
 //! sides 2 and 4. And the renewal by itself.
 
 use rulmedei::{
-    advance, cells, codes, drill_list, levels, list_room, load, map_text, page_length, pyramid_length, quote_page,
-    renew, sample, tally, Advanced, Progress, Refusal, PLAIN, RIBBED,
+    advance, cells, codes, drill_list, levels, list_room, load, map_text, page_length, place, pyramid_length,
+    quote_page, renew, sample, tally, Advanced, Progress, Refusal, PLAIN, RIBBED,
 };
 
 const GREYS: [u8; 4] = [128; 4];
@@ -105,7 +105,9 @@ fn ribbed_cells_by_place() {
         let start = load(4, RIBBED, &greys, &mut pyramid, &mut serials, &mut order).unwrap();
         let end = advance(start, u32::MAX, &mut pyramid, &mut serials, &mut order).unwrap();
         assert_eq!((end.made, end.finished), (1, true));
-        assert_eq!(pyramid[5..], debts);
+        for (cell, debt) in debts.into_iter().enumerate() {
+            assert_eq!(pyramid[place(2, cell / 4, cell % 4)], debt);
+        }
     }
 }
 
@@ -276,12 +278,12 @@ fn wrong_sums() -> [i64; 22] {
 #[test]
 fn renew_makes_the_sums_over_a_cell_and_its_neighbours() {
     // one sum lies over a corner and its neighbours; two lie over a cell of the rim and its, all four over one inside
-    // and its
+    // and its; the four below a sum lie side by side
     for (row, column, sums) in [
-        (0, 0, [14 - 3 - 4 - 5, 14, -3, -4, -5]),
-        (3, 3, [-2 - 3 - 4 + 54, -2, -3, -4, 54]),
-        (0, 2, [14 + 22 - 4 - 5, 14, 22, -4, -5]),
-        (2, 1, [136, 14, 22, 46, 54]),
+        (0, 0, [10 - 3 - 4 - 5, 10, -3, -4, -5]),
+        (3, 3, [-2 - 3 - 4 + 58, -2, -3, -4, 58]),
+        (0, 2, [10 + 26 - 4 - 5, 10, 26, -4, -5]),
+        (2, 1, [136, 10, 26, 42, 58]),
     ] {
         let mut pyramid = wrong_sums();
         assert!(renew(4, row, column, &mut pyramid));

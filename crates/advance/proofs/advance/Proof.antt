@@ -7,18 +7,31 @@ use Rattle.advance.proofs.advance.Tie as tie
 
 -- where it is refused, nothing has changed
 left-alone : tie.Need-returns
-left-alone c = let a = c .before .before .before .before .before .before .before .before .before .before .before .args in refused-is (a .progress) _ _ _ (c .before .before .before .before .before .before .before .before .power-of .ensures) _ (c .before .before .before .before .check-sheet .ensures) _ (c .before .before .why .given .1) (c .refused .ensures)
+left-alone c =
+    let t = c .before .before .before .before in
+    let u = t .before .before .before .before .before in
+    let a = u .before .before .before .before .args in
+    refused-is (a .progress) _ _ _ (u .power-of .ensures) _ (t .check-sheet .ensures) _
+    (c .before .before .why .given .1) (c .refused .ensures)
 
 pub advance-spec : {M : Type 1} → statement M
 advance-spec =
     tie.close
     (tie.spec
     (λ c κs. search needs)
-    (λ c κs. search (power-small, needs))
+    (λ c κs. search needs)
+    (λ c κs. (search (power-small, needs), search needs))
     (λ c. search needs)
     (λ c κs. search needs)
     (λ c. search needs)
-    (λ c κs. let t = c .before .before .before in let a = t .before .before .before .before .before .before .before .before .before .args in advance-asked (a .progress) _ _ _ (t .before .before .before .before .before .before .power-of .ensures) _ (t .before .before .check-sheet .ensures) (t .enum-told .given .1))
+    (λ c κs.
+    let t = c .before .before .before .before in
+    let u = t .before .before .before .before .before .before .before in
+    let a = u .before .before .before .before .args in (
+      advance-asked (a .progress) _ _ _ (u .power-of .ensures) _ (t .before .before .check-sheet .ensures)
+          (t .enum-told .given .1),
+      search needs,
+    ))
     (λ c. search needs)
     (λ c. search needs)
     (λ c. search needs)
@@ -26,4 +39,9 @@ advance-spec =
     (λ c. search needs)
     (λ c. search needs)
     (λ c. search needs)
-    (λ c. let t = c .before .before .before .before .before .before .before .before .before in let a = t .before .before .before .before .before .before .before .before .before .args in passed-is (a .progress) _ _ _ (t .before .before .before .before .before .before .power-of .ensures) _ (t .before .before .check-sheet .ensures) (t .enum-told .given .1) _ (c .before .before .before .before .before .advance-sheet .ensures)))
+    (λ c.
+    let t = c .before .before .before .before .before .before .before .before .before .before in
+    let u = t .before .before .before .before .before .before .before in
+    let a = u .before .before .before .before .args in
+    passed-is (a .progress) _ _ _ (u .power-of .ensures) _ (t .before .before .check-sheet .ensures)
+    (t .enum-told .given .1) _ (c .before .before .before .before .before .advance-sheet .ensures)))

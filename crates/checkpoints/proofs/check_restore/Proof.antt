@@ -11,7 +11,7 @@ check-restore-spec =
     (λ c κs. search needs)
     (λ c. search needs)
     (λ c. search needs)
-    (λ c κs. search (sheet-lent, needs))
+    (λ c κs. ((search needs, search (sheet-lent, needs)), search needs))
     (λ c κs. search (map-lent, needs))
     (λ c κs. search needs)
     (λ c κs. search needs)

@@ -1,6 +1,6 @@
 -- `checkpoints::restore_sheet`: the fresh sheet, then a run on its parts of just the needed lengths.
 use borrow.Author.Needs.{needs}
-use Rattle.checkpoints.specs.Anew.{pyramid-part, serials-part, order-part, run-asked, made-anew}
+use Rattle.checkpoints.specs.Anew.{pyramid-part, serials-part, order-part, whole, run-asked, made-anew}
 use Rattle.checkpoints.proofs.restore_sheet.Statement.{statement}
 use Rattle.checkpoints.proofs.restore_sheet.Tie as tie
 
@@ -8,7 +8,7 @@ pub restore-sheet-spec : {M : Type 1} → statement M
 restore-sheet-spec =
     tie.close
     (tie.spec
-    (λ c κs. search needs)
+    (λ c κs. (search needs, search needs))
     (λ c κs. search needs)
     (λ c κs. search needs)
     (λ c. search needs)
@@ -17,7 +17,7 @@ restore-sheet-spec =
     (λ c. search (serials-part, needs))
     (λ c. search needs)
     (λ c. search (order-part, needs))
-    (λ c κs. search (run-asked, needs))
+    (λ c κs. (search (run-asked, needs), (search (whole, needs), search needs)))
     (λ c. search needs)
     (λ c. search needs)
     (λ c. search needs)

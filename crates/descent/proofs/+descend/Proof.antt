@@ -3,7 +3,7 @@ use Prim.Native.Nat.{ℕ, _<_, _-_}
 use borrow.Author.Needs.{needs}
 use borrow.Fn.Kinds.{In}
 use borrow.Fn.PlainCycle.{Measures, is, falls, and}
-use Rattle.descent.specs.Walk.{arrived, below-asked, part-long, next-asked, one-down}
+use Rattle.descent.specs.Walk.{arrived, arrived-at, below-asked, part-long, next-asked, one-down}
 use Rattle.descent.proofs.descend.Reads as descend
 use Rattle.descent.proofs.descend.Kinds as descend-kinds
 use Rattle.descent.proofs.+descend.Lts-descend as descend-lts
@@ -27,10 +27,10 @@ pub +descend-spec : {M : Type 1} → statement M
     descend-lts.spec
     (largest-reads.Asked, largest-reads.Learnt, needed-reads.Asked, needed-reads.Learnt, descend-below t, descend.Post)
     (descend-at t) descend.Post
-    (λ c. search (arrived, needs))
+    (λ c. (search (arrived, needs), search (arrived-at, needs)))
     (λ c. search needs)
     (λ c κs. (search (below-asked, needs), search needs))
     (λ c κs. search needs)
     (λ c. search (part-long, needs))
     (λ c κs. (search needs, search (next-asked, needs)))
-    (λ c. search (one-down, needs))
+    (λ c. (search (one-down, needs), search needs))

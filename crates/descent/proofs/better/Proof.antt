@@ -1,6 +1,5 @@
 -- `descent::better`.
 use borrow.Author.Needs.{needs}
-use Rattle.descent.specs.Asked.{shown}
 use Rattle.descent.specs.Walk.{raised-fits, better-is}
 use Rattle.descent.proofs.better.Statement.{statement}
 use Rattle.descent.proofs.better.Tie as tie
@@ -12,12 +11,12 @@ better-spec =
     (λ c. tt)
     (λ c.
     let g = c .before .before .before .args in
-    raised-fits (g .last) (shown (g .best)) (shown (g .next)) (search needs) (search needs) (search needs))
+    raised-fits (g .last) (g .best) (g .next) (search needs) (search needs) (search needs))
     (λ c.
     let g = c .before .before .before .before .args in
-    better-is (g .last) (shown (g .best)) (shown (g .next)) (search needs) (search needs) (search needs)
+    better-is (g .last) (g .best) (g .next) (search needs) (search needs) (search needs)
     (c .if1 .taken))
     (λ c.
     let g = c .before .before .before .before .args in
-    better-is (g .last) (shown (g .best)) (shown (g .next)) (search needs) (search needs) (search needs)
+    better-is (g .last) (g .best) (g .next) (search needs) (search needs) (search needs)
     (c .if1 .left)))

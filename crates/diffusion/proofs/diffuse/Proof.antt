@@ -2,16 +2,16 @@
 use Prim.Native.Nat.{_-_}
 use borrow.Author.Needs.{needs}
 use Rattle.diffusion.specs.Weights.{sum-next, sum-fits, sum-some}
-use Rattle.diffusion.specs.Turns.{Turns, turns-none, given-grows, turn-asked, turn, turns-all, turns-long}
+use Rattle.diffusion.specs.Turns.{Turns, turns-none, given-grows, turn-asked, turn, turns-all}
 use Rattle.diffusion.proofs.diffuse.Statement.{statement}
 use Rattle.diffusion.proofs.diffuse.Tie as tie
 
 abbrev Inv-loop : tie.InvT-loop
-Inv-loop cells₀ knit r row column d all sum₀ given₀ n₀ cells sum given n =
+Inv-loop cells₀ table knit r row column d all sum₀ given₀ n₀ cells sum given n =
     Turns cells₀ knit r row column d all cells sum given n
 
 abbrev μ-loop : tie.MeasureT-loop
-μ-loop cells₀ knit r row column d all sum₀ given₀ n₀ cells sum given n = 9 - n
+μ-loop cells₀ table knit r row column d all sum₀ given₀ n₀ cells sum given n = 9 - n
 
 pub diffuse-spec : {M : Type 1} → statement M
 diffuse-spec =
@@ -26,9 +26,9 @@ diffuse-spec =
     (λ c κs. (search needs, search (sum-next, needs), search (sum-some, needs)))
     (λ c κs. search needs)
     (λ c. search (given-grows, sum-some, needs))
-    (λ c κs. search (turn-asked, needs))
+    (λ c κs. (search (turn-asked, needs), search needs))
     (λ c. search needs)
     (λ c. search needs)
     (λ c. search (turn, needs))
-    (λ c. search (turns-long, needs))
+    (λ c. search needs)
     (λ c. search (turns-all, needs)))

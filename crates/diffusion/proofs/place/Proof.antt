@@ -2,8 +2,15 @@
 use mathlib.Core.Path.{_∙_}
 use borrow.Author.Needs.{needs}
 use lib.ListN.{length-set}
-use Rattle.diffusion.specs.Places.{places}
-use Rattle.diffusion.specs.Placing.{lack-fits, lack-sign, lack-word, lack-asked, burnt}
+use Rattle.diffusion.specs.Placing.{
+  cell-in,
+  cell-bytes,
+  lack-fits,
+  lack-sign,
+  lack-word,
+  lack-asked,
+  burnt,
+}
 use Rattle.diffusion.proofs.place.Statement.{statement}
 use Rattle.diffusion.proofs.place.Tie as tie
 
@@ -11,15 +18,12 @@ pub place-spec : {M : Type 1} → statement M
 place-spec =
     tie.close
     (tie.spec
-    (λ c κs. search needs)
-    (λ c. search (places, needs))
-    (λ c. search (places, needs))
-    (λ c. search (places, needs))
-    (λ c. search (places, needs))
+    (λ c. search (cell-bytes, needs))
+    (λ c. search (cell-in, needs))
     (λ c. search (lack-fits, needs))
-    (λ c. search (places, needs))
-    (λ c. search (places, needs))
+    (λ c. search (cell-bytes, needs))
+    (λ c. search (cell-in, needs))
     (λ c. (search (lack-sign, needs), search (lack-word, needs)))
-    (λ c κs. search (lack-asked, needs))
+    (λ c κs. (search (lack-asked, needs), search needs))
     (λ c. c .before .diffuse .kept .0 ∙ simp length-set)
     (λ c. search (burnt, needs)))

@@ -1,6 +1,6 @@
--- `diffusion::take_share`: a place with a weight lies on the map.
+-- `diffusion::take_share`: a place with a weight lies on the map, and the table has where.
 use borrow.Author.Needs.{needs}
-use Rattle.diffusion.specs.Places.{row-fits, column-fits, places}
+use Rattle.diffusion.specs.Places.{near-fits}
 use Rattle.diffusion.specs.Shares.{taken-none, nearby, less-fits, share-taken}
 use Rattle.diffusion.proofs.take_share.Statement.{statement}
 use Rattle.diffusion.proofs.take_share.Tie as tie
@@ -10,18 +10,16 @@ take-share-spec =
     tie.close
     (tie.spec
     (λ c. search (taken-none, needs))
-    (λ c κs. search needs)
-    (λ c. search (row-fits, needs))
+    (λ c. search (near-fits, needs))
     (λ c. search (nearby, needs))
-    (λ c. search (places, nearby, needs))
-    (λ c. search (column-fits, needs))
+    (λ c. search (near-fits, needs))
     (λ c. search (nearby, needs))
-    (λ c. search (places, nearby, needs))
-    (λ c. search (places, nearby, needs))
-    (λ c. search (places, nearby, needs))
+    (λ c κs. (search needs, search (nearby, needs), search (nearby, needs)))
+    (λ c. search (nearby, needs))
+    (λ c. search (nearby, needs))
     (λ c. search needs)
-    (λ c. search (less-fits, needs))
-    (λ c. search (places, nearby, needs))
-    (λ c. search (places, nearby, needs))
+    (λ c. search (less-fits, nearby, needs))
+    (λ c. search (nearby, needs))
+    (λ c. search (nearby, needs))
     (λ c. search needs)
     (λ c. search (share-taken, needs)))

@@ -27,14 +27,26 @@ place-dot-spec =
     (tie.spec
     (λ c κs. search (descent-asked, needs))
     (λ c κs. search needs)
+    (λ c. search needs)
     (λ c. search (off-bytes, needs))
     (λ c. search (off-in, needs))
     (λ c. search (off-in, needs))
     (λ c. search needs)
-    (λ c κs. search (place-asked, needs))
-    (λ c κs. (search (back-whole, needs), search (back-small, needs), search (row-lt, column-lt, needs), search (row-lt, column-lt, needs)))
+    (λ c κs. (search (place-asked, needs), search needs))
+    (λ c κs. (
+      (
+        search (back-whole, needs),
+        search (back-small, needs),
+        search (row-lt, column-lt, needs),
+        search (row-lt, column-lt, needs),
+      ),
+      search needs,
+    ))
     (λ c κs. search needs)
-    (λ c. search (side-fits, needs))
+    (λ c.
+    let d = c .before .before .before .before .before .before .before .before .before .before .before in
+    let g = d .before .before .before .before in
+    search (side-fits, g .pre, d .descend .ensures, needs))
     (λ c. search (cell-fits, needs))
     (λ c κs. search (note-asked, needs))
     (λ c. search needs)

@@ -7,6 +7,7 @@ use Rattle.dot_run.specs.Running.{
   same-pyramid,
   same-serials,
   same-order,
+  still-long,
   top-in,
   few,
   spent,
@@ -18,15 +19,15 @@ use Rattle.dot_run.proofs.run.Statement.{statement}
 use Rattle.dot_run.proofs.run.Tie as tie
 
 abbrev Inv-loop : tie.InvT-loop
-Inv-loop pyramid₀ serials₀ order₀ knit r dots budget made₀ pyramid serials order made =
+Inv-loop pyramid₀ serials₀ order₀ table knit r dots budget made₀ pyramid serials order made =
     Going knit r pyramid₀ serials₀ order₀ dots budget pyramid serials order made
 
 abbrev μ-loop : tie.MeasureT-loop
-μ-loop pyramid₀ serials₀ order₀ knit r dots budget made₀ pyramid serials order made = budget - made
+μ-loop pyramid₀ serials₀ order₀ table knit r dots budget made₀ pyramid serials order made = budget - made
 
 -- past the test a dot is due
 due : tie.Need-place-dot-requires Inv-loop μ-loop
-due c κs = search (dot-asked, needs)
+due c κs = (search (dot-asked, needs), (search (still-long, needs), search needs))
 
 pub run-spec : {M : Type 1} → statement M
 run-spec =

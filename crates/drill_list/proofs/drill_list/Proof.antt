@@ -14,7 +14,8 @@ drill-list-spec =
     tie.close
     (tie.spec
     (λ c κs. search needs)
-    (λ c κs. search (power-small, needs))
+    (λ c κs. search needs)
+    (λ c κs. (search (power-small, needs), search needs))
     (λ c. search needs)
     (λ c. search needs)
     (λ c. search needs)

@@ -9,7 +9,8 @@ use Rattle.fresh_sheet.proofs.clear.Statement.{statement}
 use Rattle.fresh_sheet.proofs.clear.Tie as tie
 
 abbrev Inv-loop : tie.InvT-loop
-Inv-loop places₀ count i₀ places i = (i ≤ count) × (length places ≡ length places₀) × (places ≡ replicate i 0 ++ drop i places₀)
+Inv-loop places₀ count i₀ places i =
+    (i ≤ count) × (length places ≡ length places₀) × (places ≡ replicate i 0 ++ drop i places₀)
 
 abbrev μ-loop : tie.MeasureT-loop
 μ-loop places₀ count i₀ places i = count - i
@@ -25,6 +26,12 @@ clear-spec =
     (λ c. omega arith)
     (λ c. omega arith)
     (λ c. omega arith)
-    (λ c. let h = c .before .loop .inv in (omega arith, simp length-set (h .1), rw (h .2) (fill-more (c .before .loop .i) 0 (c .before .before .args .places .now) (omega arith))))
+    (λ c.
+    let s = c .before in
+    let h = s .loop .inv in
+    let more = fill-more (s .loop .i) 0 (s .before .args .places .now) (omega arith) in
+    (omega arith, simp length-set (h .1), rw (h .2) more))
     (λ c. c .before .loop .inv .1)
-    (λ c. let e : c .before .loop .i ≡ c .before .before .args .count = omega arith in c .before .loop .inv .2 ∙ rw e))
+    (λ c.
+    let e : c .before .loop .i ≡ c .before .before .args .count = omega arith in
+    c .before .loop .inv .2 ∙ rw e))

@@ -11,7 +11,7 @@ fill-spec =
     (λ c κs. search needs)
     (λ c. search needs)
     (λ c. search (part-length, needs))
-    (λ c κs. search (fill-asked, needs))
+    (λ c κs. (search (fill-asked, needs), search needs))
     (λ c κs. search needs)
     (λ c κs. search needs)
     (λ c κs. search needs)

@@ -18,7 +18,8 @@ load-spec =
     (λ c. search needs)
     (λ c κs. search needs)
     (λ c. search needs)
-    (λ c κs. search (room, needs))
+    (λ c κs. search needs)
+    (λ c κs. (search (room, needs), search needs))
     (λ c κs. search needs)
     left-alone
     (λ c. search needs)

@@ -1,7 +1,15 @@
 -- `pyramid::sum_up`, by the level: each turn fills the level above and sums up the part before the cells.
 use native.Mathlib.Omega.{arith}
-use Rattle.pyramid.specs.Turn.{up-in, off-in, length-off, next-whole}
-use Rattle.pyramid.specs.Upward.{level-asked, next-small, back-done, nothing-above}
+use Rattle.pyramid.specs.Upward.{
+  up-in,
+  level-asked,
+  off-in,
+  length-off,
+  next-whole,
+  next-small,
+  back-done,
+  nothing-above,
+}
 use Prim.Native.Nat.{ℕ, _<_}
 use borrow.Author.Needs.{needs}
 use borrow.Fn.Kinds.{In}
@@ -26,10 +34,24 @@ sum-up-below t = and 1 sum-up-kinds.ps (falls 1 sum-up-kinds.ps _<_ μ-sum-up t)
 pub +sum-up-spec : {M : Type 1} → statement M
 +sum-up-spec =
     close μ-sum-up λ t.
-    sum-up-lts.spec (level-start-reads.Asked, level-start-reads.Learnt, fill-level-reads.Asked, fill-level-reads.Learnt, sum-up-below t, sum-up.Post) (sum-up-at t) sum-up.Post
+    sum-up-lts.spec (
+      level-start-reads.Asked,
+      level-start-reads.Learnt,
+      fill-level-reads.Asked,
+      fill-level-reads.Learnt,
+      sum-up-below t,
+      sum-up.Post,
+    )
+    (sum-up-at t) sum-up.Post
     (λ c. search needs)
     (λ c κs. search needs)
-    (λ c. omega (arith, up-in _ _ _ (c .before .before .pre .1 .0) (c .before .if1 .taken) (c .level-start .ensures), c .before .before .good .0 .1))
+    (λ c.
+    let s = c .before .before in
+    omega (
+      arith,
+      up-in _ _ _ (s .pre .1 .0) (s .pre .1 .1) (c .before .if1 .taken) (c .level-start .ensures),
+      s .good .0 .1,
+    ))
     (λ c. search (up-in, needs))
     (λ c. search (up-in, needs))
     (λ c. search needs)

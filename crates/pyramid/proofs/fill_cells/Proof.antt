@@ -1,33 +1,46 @@
--- `pyramid::fill_cells`: after i turns the first i places hold their residuals.
-use mathlib.Core.Path.{_≡_, _∙_}
-use Prim.Native.Nat.{_≤_, _-_}
+-- `pyramid::fill_cells`: after i turns the first i cells have their residuals.
+use Prim.Native.Nat.{_-_}
 use native.Mathlib.Omega.{arith}
-use Rattle.integers.specs.Fill.{filled, filled-none, filled-store, length-filled}
-use Rattle.integers.specs.Machine.{back64}
-use Rattle.pyramid.specs.Asked.{residualOf}
+use borrow.Author.Needs.{needs}
+use Rattle.layouts.specs.Filling.{Filling, none-filled, some-side, place-few, place-in, on-map}
+use Rattle.pyramid.specs.Cells.{residualOf, one-done, all-done}
 use Rattle.pyramid.proofs.fill_cells.Statement.{statement}
 use Rattle.pyramid.proofs.fill_cells.Tie as tie
 
 abbrev Inv-loop : tie.InvT-loop
-Inv-loop part₀ greys count i₀ part i = (i ≤ count) × (part ≡ filled (residualOf greys) i part₀)
+Inv-loop part₀ table greys r side count i₀ part i = Filling r (residualOf greys) part₀ i part
 
 abbrev μ-loop : tie.MeasureT-loop
-μ-loop part₀ greys count i₀ part i = count - i
+μ-loop part₀ table greys r side count i₀ part i = count - i
 
 pub fill-cells-spec : {M : Type 1} → statement M
-unfolding residualOf
 fill-cells-spec =
     tie.close
     (tie.spec
     Inv-loop
     μ-loop
-    (λ c. (omega arith, filled-none _ _))
-    (λ c. omega arith)
-    (λ c κs. tt)
-    (λ c. omega arith)
-    (λ c. rw (c .before .before .before .loop .inv .1) (omega (arith, length-filled (residualOf (c .before .before .before .before .before .args .greys .now)) (c .before .before .before .loop .i) (c .before .before .before .before .before .args .part .now) (omega arith))))
-    (λ c. omega arith)
-    (λ c. omega arith)
-    (λ c. (omega arith, filled-store _ _ _ (omega arith) (c .before .before .before .loop .inv .1) (back64 (c .residual .result) (c .residual .ok) ∙ c .residual .ensures)))
-    (λ c. rw (c .before .loop .inv .1) (length-filled _ _ _ (omega arith)))
-    (λ c. let e : c .before .loop .i ≡ c .before .before .before .args .count = omega arith in c .before .loop .inv .1 ∙ rw e))
+    (λ c κs. search needs)
+    (λ c κs. search needs)
+    (λ c. search (none-filled, needs))
+    (λ c. search needs)
+    (λ c κs. search needs)
+    (λ c. search (some-side, needs))
+    (λ c. search (some-side, needs))
+    (λ c κs.
+    let s = c .before .before .before .before in
+    let i = c .before .before .before .loop .i in
+    let most = s .before .before .before .pre .0 .most in
+    let h = on-map _ most (s .before .pow2 .ensures) (s .cell-count .ensures) i (omega arith) in
+    (search needs, omega (arith, h .0, h .1, h .2), omega (arith, h .0, h .1, h .2)))
+    (λ c. omega (arith, place-few _ _ (c .place .ensures)))
+    (λ c.
+    let s = c .before .before .before .before .before in
+    let loop = c .before .before .before .before .loop in
+    let most = s .before .before .before .pre .0 .most in
+    let h = on-map _ most (s .before .pow2 .ensures) (s .cell-count .ensures) (loop .i) (omega arith) in
+    place-in _ most (loop .inv .long) _ _ (c .place .ensures) (omega (arith, h .0, h .1)) (omega (arith, h .0, h .1)))
+    (λ c. search needs)
+    (λ c. search needs)
+    (λ c. search (one-done, needs))
+    (λ c. search needs)
+    (λ c. search (all-done, needs)))

@@ -1,7 +1,7 @@
 -- `pyramid::fill_pyramid`: the cells, then all levels over them.
 use native.Mathlib.Omega.{arith}
 use borrow.Author.Needs.{needs}
-use Rattle.pyramid.specs.Fresh.{cells-in, cells-room, back-whole, back-small, fresh}
+use Rattle.pyramid.specs.Fresh.{cells-in, cells-asked, back-whole, back-small, fresh}
 use Rattle.pyramid.proofs.fill_pyramid.Statement.{statement}
 use Rattle.pyramid.proofs.fill_pyramid.Tie as tie
 
@@ -10,12 +10,13 @@ fill-pyramid-spec =
     tie.close
     (tie.spec
     (λ c κs. search needs)
-    (λ c κs. search needs)
-    (λ c. let s = c .before .before .before in omega (arith, cells-in _ (s .args .greys .now) _ (s .pre) _ (c .before .level-start .ensures), s .good .0 .1))
+    (λ c.
+    let s = c .before .before in
+    omega (arith, cells-in _ (s .args .greys .now) _ (s .pre .0) _ (c .level-start .ensures), s .good .0 .1))
     (λ c. search (cells-in, needs))
     (λ c. search (cells-in, needs))
     (λ c. search needs)
-    (λ c κs. (search (cells-room, needs), search needs))
+    (λ c κs. (search (cells-asked, needs), search needs))
     (λ c κs. (search (back-whole, needs), search (back-small, needs)))
     (λ c. search needs)
     (λ c. search (fresh, needs)))

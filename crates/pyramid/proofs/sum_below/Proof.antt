@@ -3,22 +3,15 @@ use mathlib.Core.Path.{_∙_}
 use native.Mathlib.Omega.{arith}
 use borrow.Author.Needs.{needs}
 use Rattle.integers.specs.Machine.{back64}
-use Rattle.pyramid.specs.Asked.{fourBelow}
-use Rattle.pyramid.specs.Level.{below-fits, four-asked}
+use Rattle.pyramid.specs.Sums.{four-are, four-asked}
 use Rattle.pyramid.proofs.sum_below.Statement.{statement}
 use Rattle.pyramid.proofs.sum_below.Tie as tie
 
 pub sum-below-spec : {M : Type 1} → statement M
-unfolding fourBelow
 sum-below-spec =
     tie.close
     (tie.spec
-    (λ c. search needs)
-    (λ c. omega (arith, below-fits _ _ (c .pre .0) _ _ (c .pre .1) (c .pre .2)))
-    (λ c. search needs)
-    (λ c. omega (arith, below-fits _ _ (c .pre .0) _ _ (c .pre .1) (c .pre .2)))
-    (λ c. search needs)
-    (λ c. omega (arith, below-fits _ _ (c .pre .0) _ _ (c .pre .1) (c .pre .2)))
-    (λ c. omega (arith, below-fits _ _ (c .pre .0) _ _ (c .pre .1) (c .pre .2)))
+    (λ c. omega (arith, c .pre .0 .most, c .pre .1))
+    (λ c. omega (arith, c .pre .0 .most, c .pre .1))
     (λ c κs. search (four-asked, needs))
-    (λ c. back64 (c .sum-of-four .result) (c .sum-of-four .ok) ∙ c .sum-of-four .ensures))
+    (λ c. back64 (c .sum-of-four .result) (c .sum-of-four .ok) ∙ c .sum-of-four .ensures ∙ four-are _ _ _))

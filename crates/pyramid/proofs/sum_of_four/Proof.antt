@@ -20,13 +20,30 @@ sum-of-four-spec =
     (λ c. let k = asked-fit _ _ _ (c .before .before .pre) in simp (toZ-ofZ (k .first), toZ-ofZ (k .second)) (k .two))
     (λ c. search needs)
     (λ c. search needs)
-    (λ c. let k = asked-fit _ _ _ (c .before .before .before .pre) in simp (toZ-ofZ (k .first), toZ-ofZ (k .second), toZ-ofZ (k .two), toZ-ofZ (k .third)) (k .three))
+    (λ c.
+    let k = asked-fit _ _ _ (c .before .before .before .pre) in
+    simp (toZ-ofZ (k .first), toZ-ofZ (k .second), toZ-ofZ (k .two), toZ-ofZ (k .third)) (k .three))
     (λ c. search needs)
     (λ c. search needs)
     (λ c. search needs)
     (λ c.
     let k = asked-fit _ _ _ (c .before .before .before .before .pre) in
-    simp (toZ-ofZ (k .first), toZ-ofZ (k .second), toZ-ofZ (k .two), toZ-ofZ (k .third), toZ-ofZ (k .three), toZ-ofZ (k .fourth)) (k .all))
+    simp (
+      toZ-ofZ (k .first),
+      toZ-ofZ (k .second),
+      toZ-ofZ (k .two),
+      toZ-ofZ (k .third),
+      toZ-ofZ (k .three),
+      toZ-ofZ (k .fourth),
+    ) (k .all))
     (λ c.
     let k = asked-fit _ _ _ (c .before .before .before .before .pre) in
-    simp (toZ-ofZ (k .first), toZ-ofZ (k .second), toZ-ofZ (k .two), toZ-ofZ (k .third), toZ-ofZ (k .three), toZ-ofZ (k .fourth), toZ-ofZ (k .all))))
+    simp (
+      toZ-ofZ (k .first),
+      toZ-ofZ (k .second),
+      toZ-ofZ (k .two),
+      toZ-ofZ (k .third),
+      toZ-ofZ (k .three),
+      toZ-ofZ (k .fourth),
+      toZ-ofZ (k .all),
+    )))

@@ -1,7 +1,7 @@
 -- `renewal::renew`.
 use native.Mathlib.Omega.{arith}
 use borrow.Author.Needs.{needs}
-use Rattle.renewal.specs.Around.{small-entries, renewed-around}
+use Rattle.renewal.specs.Around.{renewed-around}
 use Rattle.renewal.proofs.renew.Statement.{statement}
 use Rattle.renewal.proofs.renew.Tie as tie
 
@@ -15,10 +15,17 @@ renew-spec =
     (λ c κs. search needs)
     (λ c κs. search needs)
     (λ c κs. (
+      (
+        search needs,
+        search needs,
+        record {
+          first-row = omega arith;
+          second-row = omega arith;
+          first-column = omega arith;
+          second-column = omega arith;
+        },
+      ),
       search needs,
-      search (small-entries, needs),
-      record { in-order = omega arith; near = omega arith; inside = omega arith },
-      record { in-order = omega arith; near = omega arith; inside = omega arith },
     ))
     (λ c. search needs)
     (λ c. search (renewed-around, needs)))

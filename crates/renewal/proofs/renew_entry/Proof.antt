@@ -1,7 +1,7 @@
 -- `renewal::renew_entry`.
 use native.Mathlib.Omega.{arith}
 use borrow.Author.Needs.{needs}
-use Rattle.renewal.specs.Entry.{level-asked, entry-inside, sum-renewed}
+use Rattle.renewal.specs.Level.{four-asked, sum-stored}
 use Rattle.renewal.proofs.renew_entry.Statement.{statement}
 use Rattle.renewal.proofs.renew_entry.Tie as tie
 
@@ -9,11 +9,10 @@ pub renew-entry-spec : {M : Type 1} → statement M
 renew-entry-spec =
     tie.close
     (tie.spec
-    (λ c κs. search needs)
-    (λ c κs. (search (level-asked, needs), omega arith, omega arith))
-    (λ c. let s = c .before .before .before in omega (arith, entry-inside _ _ _ _ _ (s .pre .0) (s .pre .1) (s .pre .2) (c .before .before .pow2 .ensures)))
-    (λ c. let s = c .before .before .before in omega (arith, entry-inside _ _ _ _ _ (s .pre .0) (s .pre .1) (s .pre .2) (c .before .before .pow2 .ensures)))
-    (λ c. let s = c .before .before .before in omega (arith, entry-inside _ _ _ _ _ (s .pre .0) (s .pre .1) (s .pre .2) (c .before .before .pow2 .ensures)))
-    (λ c. let s = c .before .before .before in omega (arith, entry-inside _ _ _ _ _ (s .pre .0) (s .pre .1) (s .pre .2) (c .before .before .pow2 .ensures)))
+    (λ c. record { fits = omega (arith, c .before .pre .0 .most) })
+    (λ c. record { fits = omega (arith, c .before .pre .0 .most) })
+    (λ c κs. search (four-asked, needs))
+    (λ c. record { fits = omega (arith, c .before .before .pre .0 .most) })
+    (λ c. omega (arith, c .before .before .pre .0 .whole))
     (λ c. search needs)
-    (λ c. search (sum-renewed, needs)))
+    (λ c. search (sum-stored, needs)))

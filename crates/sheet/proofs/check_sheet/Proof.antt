@@ -1,6 +1,6 @@
 -- `sheet::check_sheet`: what the check of the lengths says, told apart, then the test of the sheet.
 use borrow.Author.Needs.{needs}
-use Rattle.sheet.specs.Sheets.{lengths-failed, lengths-passed, is-sound, is-unsound}
+use Rattle.sheet.specs.Sheets.{lengths-failed, lengths-passed, quarters-sound, quarters-unsound}
 use Rattle.sheet.proofs.check_sheet.Statement.{statement}
 use Rattle.sheet.proofs.check_sheet.Tie as tie
 
@@ -11,7 +11,7 @@ check-sheet-spec =
     (λ c κs. search needs)
     (λ c. search needs)
     (λ c. search needs)
-    (λ c κs. search (lengths-passed, needs))
-    (λ c. search (is-sound, needs))
+    (λ c κs. ((search needs, search (lengths-passed, needs)), search needs))
+    (λ c. search (quarters-sound, needs))
     (λ c. search (lengths-failed, needs))
-    (λ c. search (is-unsound, needs)))
+    (λ c. search (quarters-unsound, needs)))

@@ -12,6 +12,5 @@ cell-bounded-spec =
     (λ c. search needs)
     (λ c. search needs)
     (λ c. search needs)
-    (λ c. search needs)
     (λ c. search (bounded-free, needs))
     (λ c. search (bounded-burnt, needs)))

@@ -13,6 +13,5 @@ cell-owing-spec =
     (λ c κs. search (near-asked, needs))
     (λ c. search needs)
     (λ c. search needs)
-    (λ c. search needs)
     (λ c κs. search needs)
     (λ c. search (owing-near, needs)))

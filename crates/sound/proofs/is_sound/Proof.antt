@@ -21,5 +21,9 @@ is-sound-spec =
     (λ c. search (bounded-no, failed, needs))
     (λ c κs. search needs)
     (λ c. search (owing-no, failed, needs))
-    (λ c κs. summed-asked _ _ (c .before .before .before .before .before .before .before .before .before .before .before .before .before .before .args .serials .now) (c .before .before .before .before .before .before .before .before .before .before .before .before .before .before .pre) (c .before .before .before .bounded .ensures) (c .before .before .if5 .left) (c .before .owing .ensures) (c .if6 .left))
+    (λ c κs.
+    let m = c .before .before .before .before .before .before .before in
+    let s = m .before .before .before .before .before .before .before in
+    summed-asked _ _ _ (s .args .serials .now) (s .pre .0) (c .before .before .before .bounded .ensures)
+    (c .before .before .if5 .left) (c .before .owing .ensures) (c .if6 .left))
     (λ c. search (all-but-sums, held, needs)))

@@ -9,10 +9,10 @@ use Rattle.sound.proofs.level_summed.Statement.{statement}
 use Rattle.sound.proofs.level_summed.Tie as tie
 
 abbrev Inv-loop : tie.InvT-loop
-Inv-loop k pyramid side off next size i₀ i = Held (sumAt pyramid off next side) size i
+Inv-loop k by-rows pyramid side off next size i₀ i = Held (sumAt by-rows pyramid off next side) size i
 
 abbrev μ-loop : tie.MeasureT-loop
-μ-loop k pyramid side off next size i₀ i = size - i
+μ-loop k by-rows pyramid side off next size i₀ i = size - i
 
 pub level-summed-spec : {M : Type 1} → statement M
 level-summed-spec =

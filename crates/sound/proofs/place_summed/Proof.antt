@@ -1,7 +1,7 @@
--- `sound::place_summed`: the four entries lie in the next level.
+-- `sound::place_summed`: as row after row, or the four side by side.
 use borrow.Author.Needs.{needs}
 use native.Mathlib.Omega.{arith}
-use Rattle.sound.specs.Sums.{below, sum-asked}
+use Rattle.sound.specs.Sums.{below-quarter, quarter-asked, sum-by-rows, sum-by-quarters}
 use Rattle.sound.proofs.place_summed.Statement.{statement}
 use Rattle.sound.proofs.place_summed.Tie as tie
 
@@ -9,14 +9,10 @@ pub place-summed-spec : {M : Type 1} → statement M
 place-summed-spec =
     tie.close
     (tie.spec
-    (λ c. search needs)
-    (λ c. search needs)
-    (λ c. search needs)
-    (λ c. search needs)
-    (λ c. omega (arith, below (c .pre .0) (c .pre .1)))
-    (λ c. omega (arith, below (c .pre .0) (c .pre .1)))
-    (λ c. omega (arith, below (c .pre .0) (c .pre .1)))
-    (λ c. omega (arith, below (c .pre .0) (c .pre .1)))
-    (λ c. omega (arith, below (c .pre .0) (c .pre .1)))
-    (λ c κs. search (sum-asked, needs))
-    (λ c. search needs))
+    (λ c κs. search needs)
+    (λ c. search (sum-by-rows, needs))
+    (λ c. omega (arith, below-quarter (c .before .pre .0) (c .before .pre .1)))
+    (λ c. omega (arith, below-quarter (c .before .pre .0) (c .before .pre .1)))
+    (λ c. omega (arith, below-quarter (c .before .pre .0) (c .before .pre .1)))
+    (λ c κs. search (quarter-asked, needs))
+    (λ c. search (sum-by-quarters, needs)))

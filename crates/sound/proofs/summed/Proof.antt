@@ -6,10 +6,10 @@ use Rattle.sound.proofs.summed.Statement.{statement}
 use Rattle.sound.proofs.summed.Tie as tie
 
 abbrev Inv-loop : tie.InvT-loop
-Inv-loop r pyramid k₀ k = Upward pyramid r k
+Inv-loop r by-rows pyramid k₀ k = Upward by-rows pyramid r k
 
 abbrev μ-loop : tie.MeasureT-loop
-μ-loop r pyramid k₀ k = k
+μ-loop r by-rows pyramid k₀ k = k
 
 pub summed-spec : {M : Type 1} → statement M
 summed-spec =

@@ -1,17 +1,18 @@
-//! The team's own implementation in Rust of the same work, for either knit: plain indexing, so every access is
+//! The team's own implementation in Rust of the same work, for either knit, with the pyramid row after row, as it lay
+//! before it came by quarters: plain indexing, so every access is
 //! bounds-checked, and no unsafe code. Load fills the pyramid and makes all sums; Advance tests the sheet, then
 //! descends, burns, spreads, and renews the sums over the burnt cell and its neighbours, each once.
 
-const DOT: i64 = 65_280;
-const HALF_DOT: i64 = 32_640;
+pub const DOT: i64 = 65_280;
+pub const HALF_DOT: i64 = 32_640;
 
 /// What the cells around a cell weigh, a table for each knit.
-const WEIGHTS: [[i64; 9]; 2] = [[1, 2, 1, 2, 0, 2, 1, 2, 1], [0, 1, 0, 1, 0, 1, 0, 1, 0]];
+pub const WEIGHTS: [[i64; 9]; 2] = [[1, 2, 1, 2, 0, 2, 1, 2, 1], [0, 1, 0, 1, 0, 1, 0, 1, 0]];
 
 /// The neighbours' places in the order of the spread: the diagonals by row and column, then up, left, right, down.
 const IN_TURN: [usize; 8] = [0, 2, 6, 8, 1, 3, 5, 7];
 
-fn level_start(level: usize) -> usize {
+pub fn level_start(level: usize) -> usize {
     ((1 << (2 * level)) - 1) / 3
 }
 
@@ -130,7 +131,7 @@ fn diffuse(power: usize, weights: &[i64; 9], row: usize, column: usize, lacking:
 }
 
 /// The neighbours on the map in the order of the spread, with their places in the three by three around the cell.
-fn around(power: usize, row: usize, column: usize) -> impl Iterator<Item = (usize, usize)> {
+pub fn around(power: usize, row: usize, column: usize) -> impl Iterator<Item = (usize, usize)> {
     let side = 1 << power;
     IN_TURN.into_iter().filter_map(move |n| {
         let (down, right) = (row + n / 3, column + n % 3);
@@ -151,7 +152,7 @@ fn sound(power: usize, dots: u32, pyramid: &[i64], serials: &[u32], order: &[u32
 }
 
 /// The order list names cells by serial.
-fn numbered(dots: usize, cells: usize, serials: &[u32], order: &[u32]) -> bool {
+pub fn numbered(dots: usize, cells: usize, serials: &[u32], order: &[u32]) -> bool {
     (0..dots).all(|j| (order[j] as usize) < cells && serials[order[j] as usize] as usize == j + 1)
 }
 
