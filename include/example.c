@@ -28,9 +28,10 @@ static const char *const words[] = {
     [RULMEDEI_SHEET_UNSOUND] = "the sheet is not sound: Load and Advance leave no such buffers with this record",
     [RULMEDEI_BLOCK_UNKNOWN] = "the level is past the map's last, or the row or column not below 2^level",
     [RULMEDEI_TEXT_MALFORMED] = "the text does not fit the grammar of map texts",
-    [RULMEDEI_OUTPUT_SHORT] = "the output is shorter than the list or page, or a shelf's list than n places",
+    [RULMEDEI_OUTPUT_SHORT] = "the output is shorter than its text, or a shelf's list than n places",
     [RULMEDEI_NAME_UNKNOWN] = "the name is none of 1 to 8; for a return also: empty, or past the map's total",
     [RULMEDEI_KNIT_UNKNOWN] = "the knit is neither 0 nor 1",
+    [RULMEDEI_GREY_HIGH] = "a grey of the map is above 240",
 };
 
 /* one byte more than the longest text, so that a longer one is seen to be none */

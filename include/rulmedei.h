@@ -1,5 +1,6 @@
 /*
- * Rulmedei: grey maps to ordered lists of holes. The thirteen calls for C, and the renewal of sums by itself.
+ * Rulmedei: grey maps to ordered lists of holes. The fourteen calls for C, the renewal of sums by itself, and the
+ * lowering of greys.
  *
  * `rt staticlib rulmedei` writes target/staticlib/librulmedei.a, for x86-64 Linux. It needs the C library and nothing
  * else.
@@ -34,8 +35,9 @@ extern "C" {
  * rulmedei_compare in place of RULMEDEI_DONE one of the five from RULMEDEI_BEFORE to RULMEDEI_AFTER. A refused call
  * leaves pyramid, serials, order, greys, out, list, kept and second as they were. Below, each call has its refusals in
  * the order in which it looks for them, and of several the first is told. That is by rising number, but for 11, which
- * comes directly after 1; rulmedei_map_text has an order of its own. rulmedei_renew, which is none of the thirteen
- * calls, has no refusal numbers: it returns RULMEDEI_DONE or RULMEDEI_NOT_RENEWED.
+ * comes directly after 1, and 12, which in rulmedei_restore comes before 10; rulmedei_map_text and rulmedei_lower_text
+ * have an order of their own. rulmedei_renew and rulmedei_lower, which are none of the fourteen calls, have no refusal
+ * numbers: the one returns RULMEDEI_DONE or RULMEDEI_NOT_RENEWED, the other nothing.
  */
 #define RULMEDEI_DONE 0
 #define RULMEDEI_MORE 100         /* rulmedei_advance: further holes are due */
@@ -52,10 +54,17 @@ extern "C" {
 #define RULMEDEI_SHEET_UNSOUND 5  /* the sheet is not sound: Load and Advance leave no such buffers with this record */
 #define RULMEDEI_BLOCK_UNKNOWN 6  /* the level is past the map's last, or the row or column not below 2^level */
 #define RULMEDEI_TEXT_MALFORMED 7 /* the text does not fit the grammar of map texts */
-#define RULMEDEI_OUTPUT_SHORT 8   /* the output is shorter than the list or page, or a shelf's list than n places */
+#define RULMEDEI_OUTPUT_SHORT 8   /* the output is shorter than its text, or a shelf's list than n places */
 #define RULMEDEI_INPUT_LONG 9     /* the input is longer than 4,099 bytes: the program plate only, none of the calls */
 #define RULMEDEI_NAME_UNKNOWN 10  /* the name is none of 1 to 8; for a return also: empty, or past the map's total */
 #define RULMEDEI_KNIT_UNKNOWN 11  /* the knit is neither 0 nor 1 */
+#define RULMEDEI_GREY_HIGH 12     /* a grey of the map is above 240 */
+
+/*
+ * The highest grey that a map may have. rulmedei_map_text, rulmedei_load and rulmedei_restore refuse a higher one.
+ * rulmedei_lower_text turns a text that was stored before into one that passes, and rulmedei_lower lowers greys.
+ */
+#define RULMEDEI_HIGHEST 240
 
 /*
  * The knits of the cloth. A hole is mostly more than its cell asks for, and the rest is taken from the cells around it:
@@ -109,7 +118,8 @@ extern "C" {
 /*
  * Load: fills the pyramid from the greys (by row, then column) and sets the cells of serials and order to 0; the knit
  * plays no part in this. The record is written to progress_side, progress_dots and progress_knit: the side, 0 holes and
- * the knit, or 0, 0 and 0 where it refuses. Refusals: 1, 11, 2, 3, 4.
+ * the knit, or 0, 0 and 0 where it refuses. Refusals: 1, 11, 2, 3, 4, 12 (for the N * N greys of the map; those past
+ * them are not looked at).
  */
 uint32_t rulmedei_load(uint32_t side,
                        uint32_t knit,
@@ -166,11 +176,23 @@ uint32_t rulmedei_levels(uint32_t side,
 /*
  * Map Text: reads the text of a map, a line with the side and then a line of greys, parted by commas, for each row. The
  * greys are written by row and the side to side, 0 where it refuses. Refusals, in this order: 7 for the first line, 1,
- * 2, 7 for the rest.
+ * 2, 7 for the rest, which a grey above 255 is too, 12.
  */
 uint32_t rulmedei_map_text(const uint8_t *text, size_t text_length,
                            uint8_t *greys, size_t greys_length,
                            uint32_t *side);
+
+/*
+ * Lower Text: reads a stored text by the grammar of Map Text, whose greys may be up to 255, lowers each grey above 240
+ * to 240, and writes the text of the result to out, which rulmedei_map_text takes; the lowered greys are written by
+ * row. The number of bytes is written to length, 0 where it refuses. They are as many as the text has that was read,
+ * and a text without a grey above 240 is copied. Bytes past the text stay, and so do greys past N * N. No zero byte
+ * ends the text. Refusals, in this order: 7 for the first line, 1, 2, 7 for the rest, 8.
+ */
+uint32_t rulmedei_lower_text(const uint8_t *text, size_t text_length,
+                             uint8_t *greys, size_t greys_length,
+                             uint8_t *out, size_t out_length,
+                             size_t *length);
 
 /*
  * Drill List: writes the number of holes and the side on a first line, and then the serial, row and column of each
@@ -208,7 +230,8 @@ uint32_t rulmedei_quote_page(uint32_t side,
  * Sample: fills the greys, by row, from a seed. The state is the seed at first; for each grey it becomes
  * (1664525 * state + 1013904223) modulo 2^32, and the grey is the new state divided by 2^24, rounded down. The state
  * reached is written to state, 0 where it refuses. A further call with the state reached as its seed goes on where this
- * one ended. Greys past N * N stay. Refusals: 1, 2.
+ * one ended. Greys past N * N stay. The greys go up to 255, so whoever loads a sample lowers it first (rulmedei_lower).
+ * Refusals: 1, 2.
  */
 uint32_t rulmedei_sample(uint32_t seed,
                          uint32_t side,
@@ -268,8 +291,9 @@ uint32_t rulmedei_keep(uint32_t side,
  * go back, and to a later stage forwards again. Other greys will do as well, and the other knit: the sheet is then
  * theirs.
  *
- * Refusals: 1, 11, 2, 3, 4, 5 (though the sheet is then made anew), 10 (no name from 1 to 8, an empty one, or more
- * holes than the map's total, (2 * G + 255) / 510 rounded down, where G is the sum of the N * N greys).
+ * Refusals: 1, 11, 2, 3, 4, 5 (though the sheet is then made anew), 12 (for the N * N greys), 10 (no name from 1 to 8,
+ * an empty one, or more holes than the map's total, (2 * G + 255) / 510 rounded down, where G is the sum of the N * N
+ * greys).
  */
 uint32_t rulmedei_restore(uint32_t side,
                           uint32_t dots,
@@ -297,7 +321,7 @@ uint32_t rulmedei_relay(uint32_t side,
                         int64_t *second, size_t second_length);
 
 /*
- * The renewal by itself. It is none of the thirteen calls: rulmedei_advance renews in this way after each hole, and
+ * The renewal by itself. It is none of the fourteen calls: rulmedei_advance renews in this way after each hole, and
  * here it can be had alone.
  */
 
@@ -314,6 +338,16 @@ uint32_t rulmedei_renew(uint32_t side,
                         uint32_t row,
                         uint32_t column,
                         int64_t *pyramid, size_t pyramid_length);
+
+/*
+ * The lowering of greys, none of the fourteen calls either.
+ */
+
+/*
+ * Lower: each grey above 240 becomes 240, whatever the length. rulmedei_sample gives greys up to 255, and rulmedei_load
+ * refuses those above 240.
+ */
+void rulmedei_lower(uint8_t *greys, size_t greys_length);
 
 #ifdef __cplusplus
 }

@@ -20,6 +20,8 @@ static uint32_t (*const tally)(uint32_t, const uint32_t *, size_t, uint32_t, uin
 static uint32_t (*const levels)(uint32_t, const uint8_t *, size_t, const uint32_t *, size_t, uint64_t *,
                                 size_t) = rulmedei_levels;
 static uint32_t (*const map_text)(const uint8_t *, size_t, uint8_t *, size_t, uint32_t *) = rulmedei_map_text;
+static uint32_t (*const lower_text)(const uint8_t *, size_t, uint8_t *, size_t, uint8_t *, size_t,
+                                    size_t *) = rulmedei_lower_text;
 static uint32_t (*const drill_list)(uint32_t, uint32_t, uint32_t, const int64_t *, size_t, const uint32_t *, size_t,
                                     const uint32_t *, size_t, uint8_t *, size_t, size_t *) = rulmedei_drill_list;
 static uint32_t (*const quote_page)(uint32_t, const uint8_t *, size_t, const uint32_t *, size_t, uint32_t, uint8_t *,
@@ -35,6 +37,7 @@ static uint32_t (*const restore)(uint32_t, uint32_t, uint32_t, const uint64_t *,
 static uint32_t (*const relay)(uint32_t, uint32_t, uint32_t, const int64_t *, size_t, const uint32_t *, size_t,
                                const uint32_t *, size_t, int64_t *, size_t) = rulmedei_relay;
 static uint32_t (*const renew)(uint32_t, uint32_t, uint32_t, int64_t *, size_t) = rulmedei_renew;
+static void (*const lower)(uint8_t *, size_t) = rulmedei_lower;
 
 static unsigned long checks, failures;
 
@@ -281,6 +284,8 @@ static void test_numbers(void)
     CHECK(RULMEDEI_INPUT_LONG == 9);
     CHECK(RULMEDEI_NAME_UNKNOWN == 10);
     CHECK(RULMEDEI_KNIT_UNKNOWN == 11);
+    CHECK(RULMEDEI_GREY_HIGH == 12);
+    CHECK(RULMEDEI_HIGHEST == 240);
     CHECK(RULMEDEI_PLAIN == 0);
     CHECK(RULMEDEI_RIBBED == 1);
 }
@@ -304,7 +309,7 @@ static void test_lengths(void)
         CHECK(RULMEDEI_PAGE(level) == page[level]);
 }
 
-/* Each call, on the sample of seed 1 of a side, one after the other. */
+/* Each call, on the sample of seed 1 of a side, lowered after Sample, one after the other. */
 
 static void test_sample(struct map *m)
 {
@@ -337,6 +342,83 @@ static struct part text_of(const struct map *m)
     memcpy(part.places, text, used);
     free(text);
     return part;
+}
+
+/* The map with its last grey made 255; only its greys are used. */
+static struct map high_map(const struct map *m)
+{
+    struct map high = map_of(m->side, m->knit);
+    memcpy(high.greys.places, m->greys.places, m->greys.count);
+    ((uint8_t *)high.greys.places)[m->greys.count - 1] = 255;
+    return high;
+}
+
+/* Lower Text of a map with a grey of 255: refused for each reason, then done; Map Text refuses the text, and takes what
+   was written, which is lowered once more. */
+static void test_lower_text(const struct map *m)
+{
+    struct map high = high_map(m);
+    struct part text = text_of(&high), read = part_of(RULMEDEI_CELLS(m->side), 1), out = part_of(text.count, 1);
+    const struct {
+        size_t text, greys, room;
+        uint32_t number;
+    } asked[] = {
+        {0, 0, 0, RULMEDEI_TEXT_MALFORMED},
+        {text.count - 1, read.count - 1, 0, RULMEDEI_GREYS_SHORT},
+        {text.count, read.count - 1, out.count, RULMEDEI_GREYS_SHORT},
+        {text.count - 1, read.count, out.count - 1, RULMEDEI_TEXT_MALFORMED},
+        {text.count, read.count, out.count - 1, RULMEDEI_OUTPUT_SHORT},
+        {text.count, read.count, 0, RULMEDEI_OUTPUT_SHORT},
+    };
+    keep(&text);
+    keep(&read);
+    keep(&out);
+    for (size_t at = 0; at < sizeof asked / sizeof asked[0]; at++) {
+        length = 77;
+        CHECK(lower_text(text.places, asked[at].text, read.places, asked[at].greys, out.places, asked[at].room, &length)
+              == asked[at].number);
+        CHECK(length == 0 && as_kept(&text) && as_kept(&read) && as_kept(&out));
+    }
+    first = 77;
+    CHECK(map_text(text.places, text.count, read.places, read.count, &first) == RULMEDEI_GREY_HIGH);
+    CHECK(first == 0 && as_kept(&text) && as_kept(&read));
+    CHECK(lower_text(text.places, text.count, read.places, read.count, out.places, out.count, &length)
+          == RULMEDEI_DONE);
+    lower(high.greys.places, high.greys.count);
+    struct part low = text_of(&high);
+    CHECK(length == text.count && as_kept(&text) && low.count == text.count);
+    CHECK(memcmp(read.places, high.greys.places, read.count) == 0 && memcmp(out.places, low.places, low.count) == 0);
+    CHECK(map_text(out.places, out.count, read.places, read.count, &first) == RULMEDEI_DONE && first == m->side);
+    CHECK(memcmp(read.places, high.greys.places, read.count) == 0);
+    keep(&low);
+    CHECK(lower_text(low.places, low.count, read.places, read.count, out.places, out.count, &length) == RULMEDEI_DONE);
+    CHECK(length == low.count && as_kept(&low) && memcmp(out.places, low.places, low.count) == 0);
+    give_back_map(&high);
+    give_back(&text);
+    give_back(&read);
+    give_back(&out);
+    give_back(&low);
+}
+
+/* Lower of no grey, of all greys but the last, which is 255, and of all; then the map's own greys are lowered. */
+static void test_lower(struct map *m)
+{
+    struct map high = high_map(m);
+    const uint8_t *greys = m->greys.places, *low = high.greys.places;
+    size_t last = m->greys.count - 1;
+    int same = 1;
+    keep_map(&high);
+    lower(high.greys.places, 0);
+    CHECK(map_as_kept(&high));
+    lower(high.greys.places, last);
+    for (size_t cell = 0; cell < last; cell++)
+        same = same && low[cell] == (greys[cell] > 240 ? 240 : greys[cell]);
+    CHECK(same && low[last] == 255);
+    lower(high.greys.places, last + 1);
+    CHECK(low[last] == 240);
+    lower(m->greys.places, m->greys.count);
+    CHECK(memcmp(greys, low, last) == 0 && greys[last] <= 240);
+    give_back_map(&high);
 }
 
 static void test_map_text(struct map *m)
@@ -380,11 +462,32 @@ static void refused_knits_load(struct map *m)
     }
 }
 
+/* A grey above 240, the first of the map or the last: after all else. */
+static void refused_high_loads(struct map *m)
+{
+    uint8_t *greys = m->greys.places;
+    const size_t places[2] = {0, m->greys.count - 1};
+    for (int at = 0; at < 2; at++) {
+        uint8_t grey = greys[places[at]];
+        greys[places[at]] = 241;
+        keep_map(m);
+        refused_load(m, m->side, m->knit, whole, RULMEDEI_GREY_HIGH);
+        refused_load(m, m->side + 1, m->knit, whole, RULMEDEI_SIDE_UNKNOWN);
+        refused_load(m, m->side, 2, whole, RULMEDEI_KNIT_UNKNOWN);
+        refused_load(m, m->side, m->knit, less_greys, RULMEDEI_GREYS_SHORT);
+        refused_load(m, m->side, m->knit, less_pyramid, RULMEDEI_PYRAMID_SHORT);
+        refused_load(m, m->side, m->knit, less_serials, RULMEDEI_SHEET_SHORT);
+        refused_load(m, m->side, m->knit, less_order, RULMEDEI_SHEET_SHORT);
+        greys[places[at]] = grey;
+    }
+}
+
 static void test_load(struct map *m)
 {
     const uint8_t *greys = m->greys.places;
     const int64_t *pyramid = m->pyramid.places;
     int same = 1;
+    refused_high_loads(m);
     keep_map(m);
     refused_load(m, m->side + 1, m->knit, whole, RULMEDEI_SIDE_UNKNOWN);
     refused_load(m, m->side, m->knit, less_greys, RULMEDEI_GREYS_SHORT);
@@ -753,14 +856,51 @@ static void refused_keeps(uint32_t side, struct part *value)
         }
 }
 
+/* A return that is refused, and the number. */
+struct refused_return {
+    uint32_t side, dots, knit, name;
+    struct less less;
+    uint32_t number;
+};
+
+static void refused_returns(struct map *m, struct part *value, const struct refused_return *asked, size_t count)
+{
+    keep_map(m);
+    keep(value);
+    for (size_t at = 0; at < count; at++) {
+        struct record r = {asked[at].side, asked[at].dots, asked[at].knit};
+        CHECK(restore_map(m, r, value, asked[at].name, asked[at].less) == asked[at].number);
+        CHECK(first == r.dots && as_kept(value) && map_as_kept(m));
+    }
+}
+
+/* A grey above 240, the last of the map: before the name, and after all else. The names are those below. */
+static void refused_high_restores(struct map *m, struct part *value)
+{
+    const struct refused_return asked[] = {
+        {m->side, m->dots, m->knit, 1, whole, RULMEDEI_GREY_HIGH},
+        {m->side, m->dots, m->knit, 8, whole, RULMEDEI_GREY_HIGH},
+        {m->side, m->dots, m->knit, 9, whole, RULMEDEI_GREY_HIGH},
+        {m->side, m->dots, m->knit, 4, whole, RULMEDEI_GREY_HIGH},
+        {m->side, m->dots, m->knit, 2, whole, RULMEDEI_GREY_HIGH},
+        {m->side + 1, m->dots, m->knit, 1, whole, RULMEDEI_SIDE_UNKNOWN},
+        {m->side, m->dots, 2, 1, whole, RULMEDEI_KNIT_UNKNOWN},
+        {m->side, m->dots, m->knit, 1, less_greys, RULMEDEI_GREYS_SHORT},
+        {m->side, m->dots, m->knit, 1, less_pyramid, RULMEDEI_PYRAMID_SHORT},
+        {m->side, m->dots, m->knit, 1, less_serials, RULMEDEI_SHEET_SHORT},
+        {m->side, m->dots, m->knit, 1, less_order, RULMEDEI_SHEET_SHORT},
+        {m->side, m->dots - 1, m->knit, 1, whole, RULMEDEI_SHEET_UNSOUND},
+    };
+    uint8_t *last = (uint8_t *)m->greys.places + m->greys.count - 1, grey = *last;
+    *last = 241;
+    refused_returns(m, value, asked, sizeof asked / sizeof asked[0]);
+    *last = grey;
+}
+
 /* Name 1 has no hole, name 8 has all of them, name 2 has one more; name 4 is empty. */
 static void refused_restores(struct map *m, struct part *value)
 {
-    const struct {
-        uint32_t side, dots, knit, name;
-        struct less less;
-        uint32_t number;
-    } asked[] = {
+    const struct refused_return asked[] = {
         {m->side + 1, m->dots, m->knit, 1, whole, RULMEDEI_SIDE_UNKNOWN},
         {m->side + 1, m->dots, 2, 9, less_greys, RULMEDEI_SIDE_UNKNOWN},
         {m->side, m->dots, 2, 1, whole, RULMEDEI_KNIT_UNKNOWN},
@@ -787,13 +927,7 @@ static void refused_restores(struct map *m, struct part *value)
         {m->side, m->dots, m->knit, 4, whole, RULMEDEI_NAME_UNKNOWN},
         {m->side, m->dots, m->knit, 2, whole, RULMEDEI_NAME_UNKNOWN},
     };
-    keep_map(m);
-    keep(value);
-    for (size_t at = 0; at < sizeof asked / sizeof asked[0]; at++) {
-        struct record r = {asked[at].side, asked[at].dots, asked[at].knit};
-        CHECK(restore_map(m, r, value, asked[at].name, asked[at].less) == asked[at].number);
-        CHECK(first == r.dots && as_kept(value) && map_as_kept(m));
-    }
+    refused_returns(m, value, asked, sizeof asked / sizeof asked[0]);
 }
 
 /* Whether the sheet is the one that Load and Advance make of the same greys on the same knit. */
@@ -825,6 +959,7 @@ static void test_stages(struct map *m)
     CHECK(keep_name(m->side, m->dots, m->knit, kept, 8) == RULMEDEI_DONE);
     CHECK(memcmp(kept, expected, sizeof expected) == 0);
     refused_keeps(m->side, &value);
+    refused_high_restores(m, &value);
     refused_restores(m, &value);
     CHECK(restore_map(m, record_of(m, m->dots), &value, 1, whole) == RULMEDEI_DONE);
     CHECK(first == 0 && is_stage(m, 0));
@@ -913,11 +1048,27 @@ static void test_renew(struct map *m)
     *last = cell;
 }
 
-/* Every cell burnt: the longest list of the side. */
+/* All greys 240, the darkest map: its holes, and its list. */
+static void test_darkest(struct map *m)
+{
+    memset(m->greys.places, 240, m->greys.count);
+    CHECK(load_map(m, m->side, m->knit, whole) == RULMEDEI_DONE);
+    CHECK(advance_map(m, record_of(m, 0), UINT32_MAX, whole) == RULMEDEI_DONE);
+    CHECK(first == (480 * m->greys.count + 255) / 510 && second == first);
+    m->dots = first;
+    test_list(m);
+}
+
+/* A sheet that was loaded with greys of 255 before they were refused is burnt to its end, under its own total: every
+   cell, and the longest list of the side. */
 static void test_white(struct map *m)
 {
-    memset(m->greys.places, 255, m->greys.count);
-    CHECK(load_map(m, m->side, m->knit, whole) == RULMEDEI_DONE);
+    int64_t *pyramid = m->pyramid.places;
+    for (uint32_t level = 0; level <= m->power; level++)
+        for (size_t entry = 0; entry < (size_t)1 << 2 * level; entry++)
+            *pyramid++ = (int64_t)65280 << 2 * (m->power - level);
+    memset(m->serials.places, 0, m->serials.count * sizeof(uint32_t));
+    memset(m->order.places, 0, m->order.count * sizeof(uint32_t));
     CHECK(advance_map(m, record_of(m, 0), UINT32_MAX, whole) == RULMEDEI_DONE);
     CHECK(first == m->greys.count && second == first);
     m->dots = first;
@@ -928,6 +1079,8 @@ static void test_side(uint32_t side, uint32_t dots)
 {
     struct map m = map_of(side, RULMEDEI_PLAIN);
     test_sample(&m);
+    test_lower_text(&m);
+    test_lower(&m);
     test_map_text(&m);
     test_load(&m);
     test_advance(&m, dots);
@@ -941,6 +1094,7 @@ static void test_side(uint32_t side, uint32_t dots)
     test_stages(&m);
     test_relay(&m);
     test_renew(&m);
+    test_darkest(&m);
     test_white(&m);
     give_back_map(&m);
 }
@@ -950,11 +1104,13 @@ static void test_ribbed(uint32_t side, uint32_t dots)
 {
     struct map m = map_of(side, RULMEDEI_RIBBED);
     CHECK(sample(1, side, m.greys.places, m.greys.count, &first) == RULMEDEI_DONE);
+    lower(m.greys.places, m.greys.count);
     test_load(&m);
     test_advance(&m, dots);
     test_list(&m);
     test_stages(&m);
     test_relay(&m);
+    test_darkest(&m);
     test_white(&m);
     give_back_map(&m);
 }
@@ -1056,13 +1212,18 @@ static void test_other_knit(void)
     give_back(&value);
 }
 
-/* Further answers for side 2: the sample of seed 0, texts that are refused, and the renewal of a wrong pyramid. */
+/* Further answers for side 2: the sample of seed 0, texts that are refused, one that is lowered, and the renewal of a
+   wrong pyramid. */
 
 static void test_small_answers(void)
 {
     static const uint8_t greys[4] = {60, 71, 209, 170};
     static const int64_t wrong[5] = {-1, 2, 3, 4, 5}, right[5] = {14, 2, 3, 4, 5};
+    static const char high[] = "2\n9,255\n240,241\n", low[] = "2\n9,240\n240,240\n";
+    static const uint8_t low_greys[4] = {9, 240, 240, 240};
+    uint8_t out[17];
     struct map m = map_of(2, RULMEDEI_PLAIN);
+    memset(out, '#', sizeof out);
     CHECK(sample(0, 2, m.greys.places, 4, &first) == RULMEDEI_DONE && first == 2868466484u);
     CHECK(memcmp(m.greys.places, greys, sizeof greys) == 0);
     memcpy(m.pyramid.places, wrong, sizeof wrong);
@@ -1072,7 +1233,11 @@ static void test_small_answers(void)
     CHECK(map_text((const uint8_t *)"3\n", 2, m.greys.places, 4, &first) == RULMEDEI_SIDE_UNKNOWN && first == 0);
     first = 77;
     CHECK(map_text((const uint8_t *)"x", 1, m.greys.places, 4, &first) == RULMEDEI_TEXT_MALFORMED && first == 0);
-    CHECK(map_as_kept(&m));
+    length = 77;
+    CHECK(lower_text((const uint8_t *)"3\n", 2, m.greys.places, 4, out, 0, &length) == RULMEDEI_SIDE_UNKNOWN);
+    CHECK(length == 0 && map_as_kept(&m));
+    CHECK(lower_text((const uint8_t *)high, 16, m.greys.places, 4, out, 17, &length) == RULMEDEI_DONE && length == 16);
+    CHECK(memcmp(m.greys.places, low_greys, 4) == 0 && memcmp(out, low, 16) == 0 && out[16] == '#');
     give_back_map(&m);
 }
 
@@ -1140,8 +1305,8 @@ static void test_small_stages(void)
 
 int main(int count, char **words)
 {
-    /* the holes of the sample of seed 1, from vectors/runs.csv */
-    static const uint32_t dots[SIDES] = {2, 8, 31, 128, 522, 2038, 8182, 32724};
+    /* the holes of the sample of seed 1, lowered, from vectors/runs.csv */
+    static const uint32_t dots[SIDES] = {2, 8, 30, 128, 519, 2030, 8153, 32606};
     (void)words;
     if (count > 1)
         guard = 0;

@@ -34,6 +34,8 @@ pub enum Refusal {
     UnknownName,
     /// neither of document 02's two knits
     UnknownKnit,
+    /// a grey of the map above document 02's 240
+    HighGrey,
 }
 
 impl Refusal {
@@ -51,6 +53,7 @@ impl Refusal {
             Refusal::LongInput => 9,
             Refusal::UnknownName => 10,
             Refusal::UnknownKnit => 11,
+            Refusal::HighGrey => 12,
         }
     }
 }

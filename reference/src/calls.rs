@@ -3,6 +3,7 @@
 use crate::answers::{AdvanceAnswer, Ended, LoadAnswer, Progress, Refusal};
 use crate::diffusion::{descend, dots_due, place};
 use crate::knit::{weights, Weights};
+use crate::lowering::check_greys;
 use crate::pyramid::renew_all;
 use crate::shape::{cell_count, level_start, power, pyramid_length, HALF_DOT};
 use crate::sound::sound;
@@ -37,17 +38,28 @@ pub fn load(
     match check_load(side, knit, greys, pyramid, serials, order) {
         Err(refusal) => LoadAnswer { progress: Progress { side: 0, dots: 0, knit: 0 }, status: Err(refusal) },
         Ok(power) => {
-            let cells = cell_count(side);
-            fill(power, &greys[..cells], pyramid);
-            serials[..cells].fill(0);
-            order[..cells].fill(0);
+            start(power, &greys[..cell_count(side)], pyramid, serials, order);
             LoadAnswer { progress: Progress { side, dots: 0, knit }, status: Ok(()) }
         }
     }
 }
 
-/// The refusals of Load, and the first ones of Restore: 1, 11, 2, 3, 4.
-pub(crate) fn check_load(
+/// The refusals of Load: 1, 11, 2, 3, 4, then 12 for the map's own greys.
+fn check_load(
+    side: u32,
+    knit: u32,
+    greys: &[u8],
+    pyramid: &[i64],
+    serials: &[u32],
+    order: &[u32],
+) -> Result<u32, Refusal> {
+    let power = check_lent(side, knit, greys, pyramid, serials, order)?;
+    check_greys(&greys[..cell_count(side)])?;
+    Ok(power)
+}
+
+/// The first refusals of Load and of Restore: 1, 11, 2, 3, 4.
+pub(crate) fn check_lent(
     side: u32,
     knit: u32,
     greys: &[u8],
@@ -61,6 +73,13 @@ pub(crate) fn check_load(
     }
     check_lengths(side, pyramid, serials, order)?;
     Ok(power)
+}
+
+/// The sheet without a dot of these N² greys, which may be up to 255 here.
+pub(crate) fn start(power: u32, greys: &[u8], pyramid: &mut [i64], serials: &mut [u32], order: &mut [u32]) {
+    fill(power, greys, pyramid);
+    serials[..greys.len()].fill(0);
+    order[..greys.len()].fill(0);
 }
 
 /// "Load gives each cell 256 × grey."

@@ -1,7 +1,8 @@
 //! Keep and Restore: document 02's request 7, in other words than its own. Restore is its return to a name.
 
 use crate::answers::{CheckpointAnswer, Checkpoints, Progress, Refusal};
-use crate::calls::{advance, check_load, check_sheet, load};
+use crate::calls::{advance, check_lent, check_sheet, load};
+use crate::lowering::check_greys;
 use crate::shape::{cell_count, power};
 
 /// Writes the dots of a record down under a name, over what was there. No sheet is looked at, so the dots may be any
@@ -52,7 +53,8 @@ pub fn restore(
     }
 }
 
-/// The refusals of Load, then those of Advance, then 10 for the name: 1, 11, 2, 3, 4, 5, 10. Gives the name's dots.
+/// The refusals of Load and of Advance, 12 being the last of them, then 10 for the name: 1, 11, 2, 3, 4, 5, 12, 10.
+/// Gives the name's dots.
 fn check_restore(
     progress: Progress,
     checkpoints: Checkpoints,
@@ -62,11 +64,13 @@ fn check_restore(
     serials: &[u32],
     order: &[u32],
 ) -> Result<u32, Refusal> {
-    check_load(progress.side, progress.knit, greys, pyramid, serials, order)?;
+    check_lent(progress.side, progress.knit, greys, pyramid, serials, order)?;
     check_sheet(progress, pyramid, serials, order)?;
+    let map = &greys[..cell_count(progress.side)];
+    check_greys(map)?;
     let count = checkpoints.kept[place_of(name)?];
     let dots = count.checked_sub(1).ok_or(Refusal::UnknownName)?;
-    if dots > total(&greys[..cell_count(progress.side)]) {
+    if dots > total(map) {
         return Err(Refusal::UnknownName);
     }
     // at most one for each cell

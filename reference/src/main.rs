@@ -1,12 +1,13 @@
 //! The reference's program: `write` writes the stored files, `check` compares them, `plate` is document 01's
-//! program `plate`, `quote` the program that prints document 02's quote page, `sample` the one that prints its sample.
+//! program `plate`, `quote` the program that prints document 02's quote page, `sample` the one that prints its sample,
+//! `convert` the one that prints a stored map text with its greys lowered.
 
 use std::fs;
 use std::io::{self, Read, Write};
 use std::path::{Path, PathBuf};
 use std::process::ExitCode;
 
-use reference::{plate, quote, sample_text, stored, LONGEST_INPUT};
+use reference::{convert, plate, quote, sample_text, stored, LONGEST_INPUT};
 
 fn main() -> ExitCode {
     let words: Vec<String> = std::env::args().skip(1).collect();
@@ -18,7 +19,8 @@ fn main() -> ExitCode {
         ["plate"] => print(io::stdin().take(LONGEST_INPUT as u64 + 1), plate),
         ["quote"] => print(io::stdin(), quote),
         ["sample"] => print(io::empty(), |_| sample_text()),
-        _ => Err("use: reference write | check | plate | quote | sample".to_string()),
+        ["convert"] => print(io::stdin(), convert),
+        _ => Err("use: reference write | check | plate | quote | sample | convert".to_string()),
     };
     match done {
         Ok(status) => status,

@@ -1,21 +1,28 @@
 //! Map Text: the reader, and the writer of the one text that the grammar has for a map.
 
 use crate::answers::Refusal;
+use crate::lowering::check_greys;
 use crate::shape::{cell_count, power};
 
-/// "The call returns the side and writes the N² greys by row; places past them stay." "a first line that isn't one
-/// to three digits, no leading zero, and byte 10 is 7; then 1; then 2; then 7 for the rest."
+/// Map Text: the greys of a text go into their buffer, and its side is returned. Last of all comes 12.
 pub fn map_text(text: &[u8], greys: &mut [u8]) -> Result<u32, Refusal> {
+    let (side, read) = read_map(text, greys.len())?;
+    check_greys(&read)?;
+    greys[..read.len()].copy_from_slice(&read);
+    Ok(side)
+}
+
+/// The side and the N² greys of a text that fits the grammar, for a greys buffer with so much room. In this order: 7
+/// for a first line that is no number of at most three digits, 1, 2, and 7 for what follows it.
+pub(crate) fn read_map(text: &[u8], room: usize) -> Result<(u32, Vec<u8>), Refusal> {
     let (line, rest) = cut_line(text).ok_or(Refusal::BadText)?;
     let side = number(line).ok_or(Refusal::BadText)?;
     power(side)?;
-    let cells = cell_count(side);
-    if greys.len() < cells {
+    if room < cell_count(side) {
         return Err(Refusal::ShortGreys);
     }
     let read = grey_lines(side as usize, rest).ok_or(Refusal::BadText)?;
-    greys[..cells].copy_from_slice(&read);
-    Ok(side)
+    Ok((side, read))
 }
 
 /// "N lines of N greys parted by commas. [...] nothing after the last line".

@@ -1,7 +1,8 @@
 //! Buffers of the needed lengths, and a map run to its end on them.
 
 use crate::answers::{AdvanceAnswer, CheckpointAnswer, Checkpoints, LoadAnswer, Progress, Refusal};
-use crate::by_quarters::{advance, drill_list, load, restore, sound};
+use crate::by_quarters::{advance, drill_list, load, restore, sound, to_quarters};
+use crate::calls::start;
 use crate::drill_list::list_room;
 use crate::shape::{cell_count, power, pyramid_length};
 
@@ -22,6 +23,14 @@ impl Buffers {
             serials: vec![0; cell_count(side)],
             order: vec![0; cell_count(side)],
         })
+    }
+
+    /// The sheet without a dot that Load made of a side's greys before document 02's request 11, when they went up to
+    /// 255.
+    pub fn older(side: u32, greys: &[u8]) -> Result<Buffers, Refusal> {
+        let Buffers { mut pyramid, mut serials, mut order } = Buffers::new(side)?;
+        start(power(side)?, greys, &mut pyramid, &mut serials, &mut order);
+        Ok(Buffers { pyramid: to_quarters(side, &pyramid), serials, order })
     }
 
     /// Load on these buffers.

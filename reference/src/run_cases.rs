@@ -5,10 +5,11 @@ use crate::by_quarters::{advance, quarter_entry};
 use crate::case_text::{self, buffers_before, fields, first_places, line, places, record, refusal};
 use crate::case_text::{InputAndOutput, WHOLE};
 use crate::knit::{PLAIN, RIBBED};
-use crate::maps::generated;
-use crate::shape::{cell_count, pyramid_length, SIDES};
+use crate::lowering::HIGHEST;
+use crate::maps::sampled;
+use crate::shape::{cell_count, pyramid_length, DOT, SIDES};
 
-/// One case: a side, a knit, the greys (listed, or of the generator from a seed above 0), the places that each buffer
+/// One case: a side, a knit, the greys (listed, or the sample of a seed above 0, lowered), the places that each buffer
 /// has past its needed length, and the calls of Advance.
 struct Case {
     side: u32,
@@ -46,6 +47,7 @@ fn cases() -> Vec<Case> {
     }
     cases.extend(ribbed());
     cases.extend(no_knits());
+    cases.extend(high_greys());
     cases
 }
 
@@ -53,7 +55,7 @@ fn cases() -> Vec<Case> {
 /// and larger maps in one call and in many.
 fn ribbed() -> Vec<Case> {
     let mut cases = vec![
-        listed(2, &[255; 4], vec![whole(u32::MAX)]),
+        listed(2, &[240; 4], vec![whole(u32::MAX)]),
         listed(2, &[128; 4], vec![whole(0), whole(1), whole(1), whole(1)]),
         listed(2, &[128, 0, 0, 0], vec![whole(u32::MAX)]),
         lacking(4, 5, 13),
@@ -76,6 +78,24 @@ fn no_knits() -> Vec<Case> {
     cases
 }
 
+/// Greys of 240, then one above it: first, in the middle and last, on either knit and together with no knit and no
+/// side.
+fn high_greys() -> Vec<Case> {
+    let with = |side: u32, cell: usize, grey: u8| {
+        let mut greys = vec![HIGHEST; cell_count(side)];
+        greys[cell] = grey;
+        listed(side, &greys, vec![whole(3)])
+    };
+    let mut cases = vec![with(2, 0, 240), with(4, 0, 240), with(8, 0, 240)];
+    for grey in [241, 242, 254, 255] {
+        cases.extend([with(2, 0, grey), with(2, 3, grey), with(4, 6, grey), with(8, 63, grey)]);
+    }
+    cases.extend([PLAIN, RIBBED].map(|knit| Case { knit, ..listed(2, &[255; 4], vec![whole(0), whole(9)]) }));
+    cases.extend([RIBBED, 2, u32::MAX].map(|knit| Case { knit, ..with(4, 15, 241) }));
+    cases.extend([with(3, 8, 241), Case { knit: 2, ..with(3, 0, 241) }]);
+    cases
+}
+
 /// A call with whole buffers.
 fn whole(budget: u32) -> Call {
     Call { budget, lent: WHOLE, place: 0, amount: 0 }
@@ -90,7 +110,7 @@ fn plates() -> Vec<Case> {
     let one_call = |side: u32, greys: &[u8]| listed(side, greys, vec![whole(u32::MAX)]);
     vec![
         one_call(2, &[0; 4]),
-        one_call(2, &[255; 4]),
+        one_call(2, &[240; 4]),
         one_call(2, &[128; 4]),
         listed(2, &[128; 4], vec![whole(0), whole(1), whole(1), whole(1)]),
         one_call(2, &[127, 0, 0, 0]),
@@ -98,8 +118,8 @@ fn plates() -> Vec<Case> {
         lacking(4, 5, 13),
         lacking(4, 1, 7),
         lacking(2, 0, 4),
-        one_call(2, &[255, 127, 0, 0]),
-        one_call(2, &[255, 128, 0, 0]),
+        one_call(2, &[240, 142, 0, 0]),
+        one_call(2, &[240, 143, 0, 0]),
         one_call(4, &fifteen),
         one_call(4, &sixteen),
         listed(2, &[128; 4], vec![added(u32::MAX, 0, 1), added(u32::MAX, 0, -1)]),
@@ -118,14 +138,15 @@ fn added(budget: u32, place: usize, amount: i64) -> Call {
     Call { budget, lent: WHOLE, place, amount }
 }
 
-/// One cell of grey 255, from which, and from all entries over it, so much is taken that the dot lacks d: the sheet
-/// isn't sound until the last of them is changed.
+/// One cell of grey 240, to which, and to all entries over it, so much is added that the dot lacks d: the sheet isn't
+/// sound until the last of them is changed.
 fn lacking(side: u32, cell: usize, d: i64) -> Case {
     let mut greys = vec![0; cell_count(side)];
-    greys[cell] = 255;
+    greys[cell] = HIGHEST;
+    let more = DOT - d - 256 * i64::from(HIGHEST);
     let (row, column) = (cell / side as usize, cell % side as usize);
     let over = |up: u32| quarter_entry(side.trailing_zeros() - up, row >> up, column >> up);
-    let calls = (0..=side.trailing_zeros()).map(|up| added(1, over(up), -d)).collect();
+    let calls = (0..=side.trailing_zeros()).map(|up| added(1, over(up), more)).collect();
     listed(side, &greys, calls)
 }
 
@@ -173,7 +194,7 @@ fn written_call(call: &Call) -> String {
 /// What the calls answer, and the three buffers after the last.
 fn answers(case: &Case) -> String {
     let side = case.side.min(256);
-    let greys = if case.seed == 0 { case.greys.clone() } else { generated(case.seed, cell_count(side)) };
+    let greys = if case.seed == 0 { case.greys.clone() } else { sampled(case.seed, cell_count(side)) };
     let mut buffers = buffers_before(side, case.spare);
     let loaded = buffers.load(case.side, case.knit, &greys);
     let mut progress = loaded.progress;

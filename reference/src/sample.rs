@@ -1,6 +1,7 @@
 //! Sample: document 02's request 4, whose sentences are quoted here.
 
 use crate::answers::Refusal;
+use crate::lowering::lower;
 use crate::map_text::write_map_text;
 use crate::shape::{cell_count, power};
 
@@ -18,11 +19,13 @@ pub fn sample(seed: u32, side: u32, greys: &mut [u8]) -> Result<u32, Refusal> {
     Ok(fill(seed, &mut greys[..cells]))
 }
 
-/// The program `sample`: "A program prints the sample of seed 1 and side 32 as map text." It reads no input.
+/// What the program `sample` prints: a map text of side 32, from seed 1. Its greys are lowered first, so that Map Text
+/// takes the text. It reads no input.
 pub fn sample_text() -> Vec<u8> {
     let (seed, side) = PRINTED;
     let mut greys = vec![0; cell_count(side)];
     fill(seed, &mut greys);
+    lower(&mut greys);
     write_map_text(side, &greys)
 }
 

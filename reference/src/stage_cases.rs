@@ -6,13 +6,13 @@ use crate::case_text::{self, buffers_before, fields, first_places, line, places,
 use crate::case_text::{InputAndOutput, WHOLE};
 use crate::checkpoints::keep;
 use crate::knit::{PLAIN, RIBBED};
-use crate::maps::generated;
+use crate::maps::sampled;
 use crate::run::Buffers;
 use crate::shape::{cell_count, pyramid_length};
 
 use Action::{Entry, Grey, Keep, Kept, Record};
 
-/// One case: a side, a knit, the greys (listed, or of the generator from a seed above 0), the places that each buffer
+/// One case: a side, a knit, the greys (listed, or the sample of a seed above 0, lowered), the places that each buffer
 /// has past its needed length, and what is done after the load.
 struct Case {
     side: u32,
@@ -65,6 +65,8 @@ fn cases() -> Vec<Case> {
     cases.extend(ribbed());
     cases.push(other_knit());
     cases.extend(no_knits());
+    cases.extend([2, 4, 8].map(high_greys));
+    cases.extend(never_loaded());
     cases
 }
 
@@ -140,7 +142,7 @@ fn any_dots() -> Case {
     // the number is given back with the record, and is too large for every map
     let (none, most) = (Record(2, 0, PLAIN), Record(2, u32::MAX, PLAIN));
     actions.extend([none, back(2), back(3), most, Keep(9), back(2)]);
-    listed(2, &[255; 4], actions)
+    listed(2, &[240; 4], actions)
 }
 
 /// A map without a dot: none is kept, and returned to; one is too many.
@@ -149,7 +151,7 @@ fn no_dots() -> Case {
     listed(2, &[0; 4], actions)
 }
 
-/// One dot more than the total, as many, one fewer; for grey sums on either side of a half, and for all cells.
+/// One dot more than the total, as many, one fewer; for grey sums on either side of a half, and for the darkest map.
 fn totals() -> Vec<Case> {
     let asked = |greys: &[u8], total: u64| {
         let entries = [total + 2, total + 1, total, total + 2].map(|entry| [Kept(5, entry), back(6)]);
@@ -157,20 +159,20 @@ fn totals() -> Vec<Case> {
     };
     let mut low = [20; 16];
     low[15] = 82;
-    vec![asked(&[255, 127, 0, 0], 1), asked(&[255, 128, 0, 0], 2), asked(&low, 1), asked(&[255; 16], 16)]
+    vec![asked(&[240, 142, 0, 0], 1), asked(&[240, 143, 0, 0], 2), asked(&low, 1), asked(&[240; 16], 15)]
 }
 
 /// Greys that were not loaded, with a larger total and with a smaller one; and the greys and buffers of side 4 for a
-/// record of side 2, so that only the first greys count, and more places stay.
+/// record of side 2, so that only the first greys count, though later ones are above 240, and more places stay.
 fn other_greys() -> Vec<Case> {
-    let darker = [Grey(0, 255), Grey(5, 255), Grey(6, 200), Grey(15, 90)];
+    let darker = [Grey(0, 240), Grey(5, 240), Grey(6, 200), Grey(15, 90)];
     let lighter = [Grey(0, 0), Grey(1, 0), Grey(2, 200)];
     let kept = [dots(1), Keep(1), dots(2), Keep(2), dots(9), Keep(3)];
-    let smaller = [Record(2, 0, PLAIN), Kept(0, 4), Kept(1, 3), Kept(7, 2)];
-    let row = [127, 127, 127, 127, 0, 0, 0, 0, 255, 0, 255, 0, 0, 0, 0, 0];
+    let smaller = [Record(2, 0, PLAIN), Grey(4, 241), Grey(15, 255), Kept(0, 4), Kept(1, 3), Kept(7, 2)];
+    let row = [127, 127, 127, 127, 0, 0, 0, 0, 240, 0, 240, 0, 0, 0, 0, 0];
     vec![
         listed(4, &[0; 16], [&darker[..], &[Kept(3, 4), Kept(4, 5), back(5), back(4)]].concat()),
-        listed(2, &[255, 255, 255, 0], [&kept[..], &lighter, &[back(3), back(2), back(1)]].concat()),
+        listed(2, &[240, 240, 240, 0], [&kept[..], &lighter, &[back(3), back(2), back(1)]].concat()),
         listed(4, &row, [&smaller[..], &[back(1), back(2), back(8), dots(1)]].concat()),
     ]
 }
@@ -184,7 +186,7 @@ fn other_sheets() -> Vec<Case> {
     vec![
         listed(2, &[128; 4], [&kept[..], &[Entry(2, -900), Entry(0, -900), back(5), dots(1)]].concat()),
         listed(2, &[200; 4], [&kept[..], &wrong].concat()),
-        listed(2, &[255; 4], [&kept[..], &top].concat()),
+        listed(2, &[240; 4], [&kept[..], &top].concat()),
     ]
 }
 
@@ -283,6 +285,41 @@ fn no_knits() -> Vec<Case> {
     vec![listed(2, &[200; 4], actions), refused(2), refused(u32::MAX), Case { knit: 2, ..no_side(3) }]
 }
 
+/// A grey above 240 on a return: by itself, in each corner of the map; together with each other check failing, and with
+/// more of them. The name is looked at later; all else comes before.
+fn high_greys(side: u32) -> Case {
+    let (n, p) = (cell_count(side), pyramid_length(side.trailing_zeros()));
+    let last = n as u32 - 1;
+    let mut actions = vec![dots(2), Keep(2), dots(1), Kept(6, 90)];
+    for (cell, grey) in [(0, 241), (side - 1, 255), (last + 1 - side, 242), (last, 241)] {
+        actions.extend([Grey(cell, grey), back(2), back(9), back(3), back(7), Grey(cell, 240), back(2), dots(1)]);
+    }
+    actions.push(Grey(last, 241));
+    for lent in [[0, 0, 0], [p - 1, n, n], [p, n - 1, n], [p, n, n - 1]] {
+        actions.extend([2, 9, 3].map(|name| Action::Restore(name, lent)));
+    }
+    let no_dots = Record(side, 0, PLAIN);
+    for asked in [Record(side + 1, 3, PLAIN), Record(2 * side, 3, PLAIN), Record(side, 3, 2), no_dots] {
+        actions.extend([asked, back(2), back(9), back(3)]);
+    }
+    actions.extend([Record(side, 3, RIBBED), back(2), Record(side, 3, PLAIN), dots(1), Keep(1), back(1)]);
+    Case { spare: 1, ..listed(side, &vec![220; n], actions) }
+}
+
+/// Greys that Load refuses: the record stays without a side. With one made up there is no sheet, and with a sheet of
+/// lower greys there is one.
+fn never_loaded() -> Vec<Case> {
+    let high = [240, 240, 240, 241];
+    let made_up = vec![dots(1), Keep(1), back(1), Record(2, 0, PLAIN), dots(1), Keep(1), back(1), back(9)];
+    let lowered = vec![Keep(1), Grey(3, 255), back(1), dots(2), Keep(2), back(2), Grey(3, 240), back(2), back(1)];
+    vec![
+        listed(2, &high, made_up.clone()),
+        Case { knit: RIBBED, ..listed(2, &high, made_up) },
+        listed(2, &[240; 4], lowered.clone()),
+        Case { knit: RIBBED, ..listed(2, &[240; 4], lowered) },
+    ]
+}
+
 /// A case as the program reads it: a line with the side, the knit, the seed and the places to spare; the greys, if the
 /// seed is 0; the count of actions; a line of five numbers for each of them.
 fn written(case: &Case) -> String {
@@ -321,7 +358,7 @@ struct State {
 /// What the calls answer; the value and the three buffers after the last action.
 fn answers(case: &Case) -> String {
     let side = case.side.min(256);
-    let greys = if case.seed == 0 { case.greys.clone() } else { generated(case.seed, cell_count(side)) };
+    let greys = if case.seed == 0 { case.greys.clone() } else { sampled(case.seed, cell_count(side)) };
     let mut buffers = buffers_before(side, case.spare);
     let loaded = buffers.load(case.side, case.knit, &greys);
     let mut text = format!("load{}{}\n", record(loaded.progress), refusal(loaded.status.err()));

@@ -5,9 +5,10 @@ use std::fmt::Display;
 use crate::answers::Refusal;
 use crate::by_quarters::to_rows;
 use crate::case_text::{joined, InputAndOutput};
+use crate::convert::convert;
 use crate::knit::{PLAIN, RIBBED};
 use crate::map_text::write_map_text;
-use crate::maps::{generated, named, NAMES};
+use crate::maps::{generated, named, sampled, NAMES};
 use crate::measures::levels;
 use crate::plate::plate;
 use crate::quote::quote;
@@ -42,6 +43,7 @@ pub fn files() -> Result<Vec<(String, Vec<u8>)>, Refusal> {
     files.extend(program_files("text_cases", text_cases::input_and_output()?));
     files.extend(program_files("shelf_cases", shelf_cases::input_and_output()?));
     files.extend(sample_files());
+    files.extend(program_files("convert", stored_text()));
     // the program crate `sample` reads no input
     files.push(("crates/sample/stdout".to_string(), sample_text()));
     Ok(files)
@@ -62,6 +64,13 @@ fn sample_files() -> Vec<(String, Vec<u8>)> {
     files.extend(program_files("quote", (asked.clone(), quote(&asked))));
     files.extend(texts.map(|(name, text)| (format!("samples/{name}.map"), text)));
     files
+}
+
+/// What the program crate `convert` is run on: the sample that the program `sample` printed before its greys were
+/// lowered; it comes out as that program prints it now.
+fn stored_text() -> InputAndOutput {
+    let text = write_map_text(32, &generated(1, 1_024));
+    (text.clone(), convert(&text))
 }
 
 /// One line for each side and map on cloth of one knit: its figures, and checksums of what the run leaves, the pyramid
@@ -116,7 +125,7 @@ fn texts_and_lists(side: u32) -> Result<Vec<u8>, Refusal> {
 /// The values that a proof in another language compares with: three maps run to their end on plain cloth, and three on
 /// ribbed.
 fn expected_values() -> Result<String, Refusal> {
-    let greys = generated(7, 16);
+    let greys = sampled(7, 16);
     let halved: Vec<u8> = generated(8, 64).iter().map(|grey| grey / 2).collect();
     let flat = [240; 16];
     Ok(format!(

@@ -50,6 +50,7 @@ fn cases() -> Result<Vec<Case>, Refusal> {
     for short in [[1, 0, 0, 0], [0, 1, 0, 0], [0, 0, 1, 0], [0, 0, 0, 1], [1, 1, 1, 1]] {
         cases.push(Case { knit: 2, ..lent(4, short) });
     }
+    cases.extend(high_greys());
     Ok(cases)
 }
 
@@ -94,6 +95,29 @@ fn lent(side: u32, short: [usize; 4]) -> Case {
         marks: vec![0, 5],
         blocks: vec![[0, 0, 0], [3, 0, 0]],
     }
+}
+
+/// A grey above 240, the first, the last of the map and one behind it, which is not looked at; then one together with
+/// each set of buffers that are too short, with no knit and with no side.
+fn high_greys() -> Vec<Case> {
+    let with = |case: Case, place: usize, grey: u8| {
+        let mut greys = case.greys;
+        greys.resize(greys.len().max(place + 1), 255);
+        greys[place] = grey;
+        Case { greys, ..case }
+    };
+    let places = [(0, 240), (0, 241), (7, 255), (15, 240), (15, 241), (16, 241), (18, 241)];
+    let mut cases: Vec<Case> = places.map(|(place, grey)| with(lent(4, [0; 4]), place, grey)).into();
+    cases.push(Case { knit: RIBBED, ..with(lent(4, [0; 4]), 15, 241) });
+    for short in 1..16 {
+        cases.push(with(lent(4, [short & 1, short >> 1 & 1, short >> 2 & 1, short >> 3]), 3, 241));
+    }
+    cases.push(Case { knit: 2, ..with(lent(4, [0; 4]), 3, 241) });
+    cases.push(Case { knit: 2, ..with(lent(4, [1; 4]), 3, 241) });
+    cases.push(Case { side: 3, ..with(lent(4, [0; 4]), 3, 241) });
+    cases.push(Case { side: 2, ..with(lent(4, [0; 4]), 4, 241) });
+    cases.push(Case { side: 2, ..with(lent(4, [0; 4]), 3, 241) });
+    cases
 }
 
 /// A case as the program reads it, in four lines: the side, the knit and the lengths lent; the greys; the count of

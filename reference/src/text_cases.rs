@@ -1,5 +1,5 @@
-//! The cases of the program crate `text_cases`: texts for Map Text, most of them broken, and Drill List on the maps
-//! that are read.
+//! The cases of the program crate `text_cases`: texts for Map Text, most of them broken, Drill List on the maps that
+//! are read, and Lower Text on every text.
 
 use std::fmt::Display;
 
@@ -7,13 +7,15 @@ use crate::answers::{Progress, Refusal};
 use crate::case_text::{self, fields, line, InputAndOutput};
 use crate::drill_list::list_room;
 use crate::knit::{PLAIN, RIBBED};
+use crate::lowering::lower_text;
 use crate::map_text::{map_text, write_map_text};
-use crate::maps::named;
+use crate::maps::{generated, named};
 use crate::run::{run, Buffers};
 use crate::shape::cell_count;
 
-/// One case: the text, the places lent of the greys buffer and of Drill List's output, the number of what is damaged
-/// before Drill List, the knit that Load is given and the one that Drill List is given in its record.
+/// One case: the text, the places lent of the greys buffer and of the output, which are the same for every call, the
+/// number of what is damaged before Drill List, the knit that Load is given and the one that Drill List is given in its
+/// record.
 struct Case {
     text: Vec<u8>,
     greys: usize,
@@ -30,8 +32,8 @@ const BEFORE: (u8, u8) = (9, b'.');
 const DAMAGES: u32 = 6;
 
 /// The rows of the small map of side 2, and of that of side 4.
-const ROWS_2: &str = "0,127\n128,255\n";
-const ROWS_4: &str = "0,9,10,99\n100,127,128,199\n200,249,250,255\n1,20,64,254\n";
+const ROWS_2: &str = "0,127\n128,240\n";
+const ROWS_4: &str = "0,9,10,99\n100,127,128,199\n200,229,239,240\n1,20,64,234\n";
 
 /// Standard input and standard output.
 pub fn input_and_output() -> Result<InputAndOutput, Refusal> {
@@ -48,6 +50,8 @@ fn cases() -> Result<Vec<Case>, Refusal> {
     cases.extend(texts.concat().into_iter().map(small_buffers));
     cases.extend(ribbed()?);
     cases.extend(no_knits());
+    cases.extend(high_greys());
+    cases.extend(lowered_lengths());
     Ok(cases)
 }
 
@@ -72,7 +76,7 @@ fn list_length(side: u32, knit: u32, name: &str) -> Result<usize, Refusal> {
 fn whole_maps() -> Result<Vec<Case>, Refusal> {
     let mut cases = Vec::new();
     for side in [2, 4, 8, 16] {
-        for name in ["flat-0", "flat-128", "flat-255", "gradient-diagonal", "random"] {
+        for name in ["flat-0", "flat-128", "flat-240", "gradient-diagonal", "random"] {
             cases.push(Case { greys: cell_count(side), output: list_length(side, PLAIN, name)?, ..roomy(side, name) });
         }
     }
@@ -82,7 +86,7 @@ fn whole_maps() -> Result<Vec<Case>, Refusal> {
 /// Outputs that are too short, and ones that are longer than needed.
 fn outputs() -> Result<Vec<Case>, Refusal> {
     let mut cases = Vec::new();
-    for (side, name) in [(2, "flat-0"), (2, "random"), (4, "random"), (8, "random"), (16, "flat-255")] {
+    for (side, name) in [(2, "flat-0"), (2, "random"), (4, "random"), (8, "random"), (16, "flat-240")] {
         let length = list_length(side, PLAIN, name)?;
         for output in [0, 1, length - 1, length + 1, length + 100] {
             cases.push(Case { output, ..roomy(side, name) });
@@ -100,7 +104,7 @@ fn damages() -> Vec<Case> {
         }
         cases.push(Case { damage, output: 0, ..roomy(4, "random") });
     }
-    cases.push(Case { damage: 2, ..roomy(2, "flat-255") });
+    cases.push(Case { damage: 2, ..roomy(2, "flat-240") });
     cases.push(Case { damage: 2, ..roomy(4, "flat-0") });
     cases
 }
@@ -146,6 +150,58 @@ fn no_knits() -> Vec<Case> {
         }
         cases.push(Case { output: 0, said, ..roomy(4, "random") });
     }
+    cases
+}
+
+/// Greys above 240 in texts that fit the grammar, in the first cell, in the last and in all; then together with all
+/// that Map Text looks at before: the first line, the side, the greys buffer, the rest of the text.
+fn high_greys() -> Vec<Case> {
+    let texts = [
+        "2\n240,240\n240,240\n",
+        "2\n241,240\n240,240\n",
+        "2\n240,240\n240,241\n",
+        "2\n255,255\n255,255\n",
+        "2\n0,249\n250,9\n",
+        "4\n0,9,10,99\n100,127,128,199\n200,229,239,240\n1,20,64,241\n",
+        "4\n255,9,10,99\n100,127,242,199\n200,249,239,240\n1,20,254,234\n",
+        "02\n241,240\n240,240\n",
+        "3\n241,240\n240,240\n",
+        "2\n241,240\n240,256\n",
+        "2\n256,240\n240,241\n",
+        "2\n241,240\n240,240",
+        "2\n241,240\n240,240\n\n",
+        "2\n241,240\n240\n",
+        "2\n241,255\n",
+        "2\n0241,240\n240,240\n",
+    ];
+    let mut cases: Vec<Case> = texts.map(|text| small_buffers(text.into())).into();
+    for greys in [0, 3, 4] {
+        cases.push(Case { greys, ..small_buffers("2\n241,240\n240,255\n".into()) });
+        cases.push(Case { greys, ..small_buffers("2\n241,240\n240,256\n".into()) });
+    }
+    cases
+}
+
+/// Samples as they were stored before request 11, with outputs around the length of the text that Lower Text writes,
+/// which is as long as the text it reads; and greys buffers around the needed length.
+fn lowered_lengths() -> Vec<Case> {
+    let stored = |side: u32, seed: u32| {
+        let mut greys = generated(seed, cell_count(side));
+        greys[0] = 255;
+        let text = write_map_text(side, &greys);
+        Case { output: text.len(), text, greys: greys.len(), damage: 0, knit: PLAIN, said: PLAIN }
+    };
+    let mut cases = Vec::new();
+    for side in [2, 4, 8] {
+        let length = stored(side, 5).output;
+        for output in [0, length - 1, length, length + 1] {
+            cases.push(Case { output, ..stored(side, 5) });
+        }
+        let cells = cell_count(side);
+        cases.push(Case { greys: cells - 1, ..stored(side, 6) });
+        cases.push(Case { greys: cells + 1, output: length + 9, ..stored(side, 6) });
+    }
+    cases.push(stored(16, 7));
     cases
 }
 
@@ -252,7 +308,10 @@ fn odd_greys() -> Vec<Vec<u8>> {
         "000",
         "01",
         "0255",
+        "240",
+        "241",
         "254",
+        "255",
         "256",
         "257",
         "260",
@@ -282,7 +341,7 @@ fn odd_greys() -> Vec<Vec<u8>> {
 }
 
 fn odd_grey(grey: &str) -> [Vec<u8>; 2] {
-    [format!("2\n{grey},127\n128,255\n").into_bytes(), format!("2\n0,127\n128,{grey}\n").into_bytes()]
+    [format!("2\n{grey},127\n128,240\n").into_bytes(), format!("2\n0,127\n128,{grey}\n").into_bytes()]
 }
 
 /// Rows too many or too few, too long or too short, other line ends and other marks between the greys.
@@ -292,43 +351,43 @@ fn layouts() -> Vec<Vec<u8>> {
         "\n\n\n",
         ",",
         ",\n,\n",
-        "2\r\n0,127\r\n128,255\r\n",
-        "2\n0,127\r\n128,255\n",
-        "2\r0,127\r128,255\r",
+        "2\r\n0,127\r\n128,240\r\n",
+        "2\n0,127\r\n128,240\n",
+        "2\r0,127\r128,240\r",
         "2\n0,127\n",
-        "2\n0,127\n128,255\n1,2\n",
-        "2\n0,127\n128,255\n\n",
-        "2\n0,127\n128,255\n ",
-        "2\n0,127\n128,255\n0",
-        "2\n0,127\n128,255\n\u{0}",
-        "2\n0,127\n128,255\n2\n0,127\n128,255\n",
-        "2\n0\n128,255\n",
-        "2\n0,127,3\n128,255\n",
+        "2\n0,127\n128,240\n1,2\n",
+        "2\n0,127\n128,240\n\n",
+        "2\n0,127\n128,240\n ",
+        "2\n0,127\n128,240\n0",
+        "2\n0,127\n128,240\n\u{0}",
+        "2\n0,127\n128,240\n2\n0,127\n128,240\n",
+        "2\n0\n128,240\n",
+        "2\n0,127,3\n128,240\n",
         "2\n0,127\n128\n",
-        "2\n0,127\n128,255,3\n",
-        "2\n\n128,255\n",
-        "2\n0,127\n\n128,255\n",
+        "2\n0,127\n128,240,3\n",
+        "2\n\n128,240\n",
+        "2\n0,127\n\n128,240\n",
         "2\n0,127\n\n",
         "2\n\n\n",
         "2\n,\n,\n",
-        "2\n0,127,\n128,255\n",
-        "2\n,0,127\n128,255\n",
-        "2\n0,,127\n128,255\n",
-        "2\n0,127,128,255\n",
-        "2\n0\n127\n128\n255\n",
-        "2\n0 127\n128 255\n",
-        "2\n0, 127\n128, 255\n",
-        "2\n0\t127\n128\t255\n",
-        "2\n0;127\n128;255\n",
-        "2\n0,127 \n128,255\n",
-        "0,127\n128,255\n",
-        "2,0,127\n128,255\n",
-        "2\n\n0,127\n128,255\n",
-        "\n2\n0,127\n128,255\n",
-        " \n2\n0,127\n128,255\n",
-        "4\n0,9,10,99\n100,127,128,199\n200,249,250,255\n",
-        "4\n0,9,10,99\n100,127,128,199\n200,249,250\n1,20,64,254\n",
-        "4\n0,9,10,99\n100,127,128,199\n200,249,250,255\n1,20,64,254,2\n",
+        "2\n0,127,\n128,240\n",
+        "2\n,0,127\n128,240\n",
+        "2\n0,,127\n128,240\n",
+        "2\n0,127,128,240\n",
+        "2\n0\n127\n128\n240\n",
+        "2\n0 127\n128 240\n",
+        "2\n0, 127\n128, 240\n",
+        "2\n0\t127\n128\t240\n",
+        "2\n0;127\n128;240\n",
+        "2\n0,127 \n128,240\n",
+        "0,127\n128,240\n",
+        "2,0,127\n128,240\n",
+        "2\n\n0,127\n128,240\n",
+        "\n2\n0,127\n128,240\n",
+        " \n2\n0,127\n128,240\n",
+        "4\n0,9,10,99\n100,127,128,199\n200,229,239,240\n",
+        "4\n0,9,10,99\n100,127,128,199\n200,229,239\n1,20,64,234\n",
+        "4\n0,9,10,99\n100,127,128,199\n200,229,239,240\n1,20,64,234,2\n",
     ];
     let mut texts: Vec<Vec<u8>> = texts.map(|text| text.into()).to_vec();
     texts.push(format!("2\n{ROWS_4}").into_bytes());
@@ -342,12 +401,12 @@ fn long_runs() -> Vec<Vec<u8>> {
         format!("{}\n{ROWS_2}", "2".repeat(1_000)).into_bytes(),
         format!("{}2\n{ROWS_2}", "0".repeat(1_000)).into_bytes(),
         format!("2{}\n{ROWS_2}", "0".repeat(1_000)).into_bytes(),
-        format!("2\n{},127\n128,255\n", "1".repeat(4_000)).into_bytes(),
-        format!("2\n{}1,127\n128,255\n", "0".repeat(4_000)).into_bytes(),
+        format!("2\n{},127\n128,240\n", "1".repeat(4_000)).into_bytes(),
+        format!("2\n{}1,127\n128,240\n", "0".repeat(4_000)).into_bytes(),
         format!("2\n0,127\n128,{}\n", "9".repeat(300)).into_bytes(),
         format!("2\n0,127\n128,{}", "9".repeat(300)).into_bytes(),
-        format!("2\n0,127{}\n128,255\n", ",0".repeat(1_000)).into_bytes(),
-        format!("2\n0,127\n128,255{}", "\n".repeat(1_000)).into_bytes(),
+        format!("2\n0,127{}\n128,240\n", ",0".repeat(1_000)).into_bytes(),
+        format!("2\n0,127\n128,240{}", "\n".repeat(1_000)).into_bytes(),
         "\n".repeat(1_000).into_bytes(),
         ",".repeat(1_000).into_bytes(),
         vec![0; 300],
@@ -364,7 +423,8 @@ fn written(case: &Case) -> Vec<u8> {
     bytes
 }
 
-/// What Map Text answers, the whole greys buffer after it, and Drill List where a map was read.
+/// What Map Text answers, the whole greys buffer after it, Drill List where a map was read, and what Lower Text
+/// answers.
 fn answers(case: &Case) -> Result<Vec<u8>, Refusal> {
     let mut greys = vec![BEFORE.0; case.greys];
     let read = map_text(&case.text, &mut greys);
@@ -373,7 +433,26 @@ fn answers(case: &Case) -> Result<Vec<u8>, Refusal> {
     if let Ok(side) = read {
         bytes.extend(list_answers(case, side, &greys)?);
     }
+    bytes.extend(lowered_answers(case));
     Ok(bytes)
+}
+
+/// What Lower Text answers on buffers of its own, the whole greys buffer after it, the text that it wrote, and the
+/// count of places of the output that hold what they held before, from the text's end on.
+fn lowered_answers(case: &Case) -> Vec<u8> {
+    let mut greys = vec![BEFORE.0; case.greys];
+    let mut out = vec![BEFORE.1; case.output];
+    let lowered = lower_text(&case.text, &mut greys, &mut out);
+    let mut bytes = answer("lowered", lowered).into_bytes();
+    bytes.extend(format!("greys{}\n", fields(&greys)).into_bytes());
+    bytes.extend(written_and_spare(&out, lowered.unwrap_or(0)));
+    bytes
+}
+
+/// What a call wrote, up to its length, and a line with the count of later places that hold what they held before.
+fn written_and_spare(out: &[u8], length: usize) -> Vec<u8> {
+    let spare = out[length..].iter().filter(|byte| **byte == BEFORE.1).count();
+    [&out[..length], format!("spare,{spare}\n").as_bytes()].concat()
 }
 
 /// What Drill List answers on the finished plate, the list itself, and the count of places of the output that hold
@@ -383,11 +462,8 @@ fn list_answers(case: &Case, side: u32, greys: &[u8]) -> Result<Vec<u8>, Refusal
     let mut out = vec![BEFORE.1; case.output];
     let record = Progress { knit: case.said, ..run.progress };
     let listed = damaged_list(case.damage, record, run.buffers, &mut out);
-    let length = listed.unwrap_or(0);
-    let spare = out[length..].iter().filter(|byte| **byte == BEFORE.1).count();
     let mut bytes = answer("list", listed).into_bytes();
-    bytes.extend(&out[..length]);
-    bytes.extend(format!("spare,{spare}\n").into_bytes());
+    bytes.extend(written_and_spare(&out, listed.unwrap_or(0)));
     Ok(bytes)
 }
 

@@ -15,7 +15,8 @@ impl Dice {
         ((self.0 >> 33) % u64::from(bound)) as u32
     }
 
-    /// A map of one of several kinds: any greys, few greys, low greys, high greys, 0 or 255, two halves.
+    /// A map of one of several kinds, with greys up to 255: any greys, few greys, low greys, high greys, 0 or 255, two
+    /// halves.
     fn greys(&mut self, side: u32) -> Vec<u8> {
         let kind = self.below(6);
         let (cells, limit) = (side * side, self.below(256) + 1);
@@ -52,8 +53,14 @@ impl Dice {
 /// How many maps of each side are tried.
 const TRIED: [(u32, u32); 4] = [(2, 2_000), (4, 1_200), (8, 500), (16, 150)];
 
-/// Does something for every map that is tried: its side, its knit and its greys. Every other one is ribbed.
+/// Does something for every map that is tried, its greys lowered: its side, its knit and its greys. Every other one is
+/// ribbed.
 fn for_every_map(seed: u64, mut check: impl FnMut(&mut Dice, u32, u32, &[u8])) {
+    for_every_older_map(seed, |dice, side, knit, greys| check(dice, side, knit, &lowered(greys)));
+}
+
+/// The same with greys up to 255.
+fn for_every_older_map(seed: u64, mut check: impl FnMut(&mut Dice, u32, u32, &[u8])) {
     let mut dice = Dice(seed);
     for (side, maps) in TRIED {
         for map in 0..maps {
@@ -162,24 +169,38 @@ fn check_call(dice: &mut Dice, greys: &[u8], progress: Progress, asked: &mut u64
 
 #[test]
 fn lists_of_calls() {
-    for_every_map(1, |dice, side, knit, greys| {
-        let (mut buffers, mut progress) = fresh(side, knit, greys);
-        let mut asked = 0;
-        check_state(greys, progress, &buffers);
-        for _ in 0..dice.below(6) {
-            progress = check_call(dice, greys, progress, &mut asked, &mut buffers);
-            check_state(greys, progress, &buffers);
-        }
-        // the rest in one call; a run in one call from the start gives the same
-        let last = buffers.advance(progress, u32::MAX);
-        assert_eq!(last.status, Ok(Ended::Finished));
-        assert_eq!(i64::from(last.progress.dots), (2 * grey_sum(greys) + 255) / 510);
-        check_state(greys, last.progress, &buffers);
-        check_finished(greys, side, &buffers.serials);
-        let (mut whole, start) = fresh(side, knit, greys);
-        assert_eq!(whole.advance(start, u32::MAX).progress, last.progress);
-        assert_eq!(whole, buffers);
+    for_every_map(1, |dice, side, knit, greys| check_calls(dice, greys, fresh(side, knit, greys)));
+}
+
+/// Sheets loaded when greys went up to 255 run to their end, and come to the total of their own greys.
+#[test]
+fn lists_of_calls_on_older_sheets() {
+    let mut high = 0;
+    for_every_older_map(7, |dice, side, knit, greys| {
+        high += u32::from(greys.iter().any(|grey| *grey > HIGHEST));
+        check_calls(dice, greys, (Buffers::older(side, greys).unwrap(), Progress { side, dots: 0, knit }));
     });
+    assert!(high > 1_000, "{high} maps with a grey above 240");
+}
+
+/// A list of calls on a sheet without a dot, which these greys have.
+fn check_calls(dice: &mut Dice, greys: &[u8], (fresh, start): (Buffers, Progress)) {
+    let (mut buffers, mut progress) = (fresh.clone(), start);
+    let mut asked = 0;
+    check_state(greys, progress, &buffers);
+    for _ in 0..dice.below(6) {
+        progress = check_call(dice, greys, progress, &mut asked, &mut buffers);
+        check_state(greys, progress, &buffers);
+    }
+    // the rest in one call; a run in one call from the start gives the same
+    let last = buffers.advance(progress, u32::MAX);
+    assert_eq!(last.status, Ok(Ended::Finished));
+    assert_eq!(i64::from(last.progress.dots), (2 * grey_sum(greys) + 255) / 510);
+    check_state(greys, last.progress, &buffers);
+    check_finished(greys, start.side, &buffers.serials);
+    let mut whole = fresh;
+    assert_eq!(whole.advance(start, u32::MAX).progress, last.progress);
+    assert_eq!(whole, buffers);
 }
 
 /// A map under way, with a copy of the sheet for each name, taken when the name was last kept.
@@ -286,7 +307,7 @@ fn renewal_over_the_changed_cells_is_whole_renewal() {
     let mut dice = Dice(2);
     for side in [2, 4, 8, 16] {
         for map in 0..20 {
-            let (mut buffers, mut progress) = fresh(side, map % 2, &dice.greys(side));
+            let (mut buffers, mut progress) = fresh(side, map % 2, &lowered(&dice.greys(side)));
             while buffers.pyramid[0] >= HALF_DOT {
                 let answer = buffers.advance(progress, 1);
                 assert_eq!(answer.made, 1);
@@ -380,7 +401,7 @@ fn map_texts_there_and_back() {
         text[place] = b"0123456789,\n \r"[dice.below(14) as usize];
         match map_text(&text, &mut read) {
             Ok(side) => assert_eq!(write_map_text(side, &read[..cell_count(side)]), text),
-            Err(refusal) => assert!([1, 2, 7].contains(&refusal.number())),
+            Err(refusal) => assert!([1, 2, 7, 12].contains(&refusal.number())),
         }
     });
 }

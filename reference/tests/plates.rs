@@ -1,6 +1,6 @@
 //! The plates of document 01, P1 to P12, six of them (3, 6, 7, 8, 9, 11) worked anew for the order of
-//! document 02; and stages, quote pages and ribbed plates worked by hand from document 02. Where no knit is named, the
-//! cloth is plain.
+//! document 02, and P2 with 240 for its 255; and stages, quote pages and ribbed plates worked by hand from document 02.
+//! Where no knit is named, the cloth is plain.
 
 use reference::*;
 
@@ -43,12 +43,34 @@ fn p1_no_grey_no_dot() {
     assert_eq!(buffers, Buffers::new(2).unwrap());
 }
 
+/// Of the missing 65,280 - 61,440 = 3,840 the diagonal cell bears a fifth, 768, and with the next one three fifths,
+/// 2,304. Of the missing 4,608 after that, these are 921 and 2,764; of 7,219 they are 1,443 and 4,331; of 8,663 they
+/// are 1,732 and 5,197.
 #[test]
 fn p2_all_cells() {
-    let (buffers, progress) = finished(2, &[255; 4]);
+    let (mut buffers, mut progress) = loaded(2, &[240; 4]);
+    for debts in [
+        [180_480, 0, 59_904, 59_904, 60_672],
+        [115_200, -921, 58_061, 58_060, 0],
+        [49_920, -3_809, 0, 56_617, -2_888],
+        [-15_360, -7_274, -1_732, 0, -6_354],
+    ] {
+        progress = buffers.advance(progress, 1).progress;
+        assert_eq!(buffers.pyramid, debts);
+    }
+    assert_eq!(buffers.advance(progress, 1).status, Ok(Ended::Finished));
     assert_eq!(progress.dots, 4);
     assert_eq!(buffers.order, [0, 3, 1, 2]);
     assert_eq!(buffers.serials, [1, 3, 4, 2]);
+}
+
+/// A sheet of P2 with its own greys, 255, that was loaded before they were refused: four holes that lack nothing.
+#[test]
+fn p2_loaded_before() {
+    let mut buffers = Buffers::older(2, &[255; 4]).unwrap();
+    let answer = buffers.advance(Progress { side: 2, dots: 0, knit: PLAIN }, 9);
+    assert_eq!((answer.made, answer.status), (4, Ok(Ended::Finished)));
+    assert_eq!(buffers.order, [0, 3, 1, 2]);
     assert_eq!(buffers.pyramid, [0; 5]);
 }
 
@@ -71,7 +93,7 @@ fn turns_among_equals() {
 fn turns_among_equal_quarters() {
     let mut greys = [0; 16];
     for cell in [0, 3, 12, 15] {
-        greys[cell] = 255;
+        greys[cell] = 240;
     }
     let (buffers, _) = finished(4, &greys);
     assert_eq!(buffers.order[..4], [0, 15, 3, 12]);
@@ -166,7 +188,7 @@ fn plain_errors_by_place() {
 
 #[test]
 fn p10_dots_of_a_grey_sum() {
-    for (greys, dots) in [([255, 127, 0, 0], 1), ([255, 128, 0, 0], 2)] {
+    for (greys, dots) in [([240, 142, 0, 0], 1), ([240, 143, 0, 0], 2)] {
         assert_eq!(finished(2, &greys).1.dots, dots);
     }
     // 15 × 20 + 82 = 382
@@ -253,12 +275,12 @@ fn ribbed_p3() {
 /// The greys of P2, P6 and P10 on ribbed cloth.
 #[test]
 fn ribbed_small_plates() {
-    let (buffers, progress) = finished_on(RIBBED, 2, &[255; 4]);
+    let (buffers, progress) = finished_on(RIBBED, 2, &[240; 4]);
     assert_eq!((progress.dots, buffers.order), (4, vec![0, 3, 1, 2]));
-    assert_eq!(buffers.pyramid, [0; 5]);
+    assert_eq!(buffers.pyramid, [-15_360, -7_680, 0, 0, -7_680]);
     let (buffers, progress) = finished_on(RIBBED, 2, &[128, 0, 0, 0]);
     assert_eq!((progress.dots, buffers.pyramid), (1, vec![-32_512, 0, -16_256, -16_256, 0]));
-    for (greys, dots) in [([255, 127, 0, 0], 1), ([255, 128, 0, 0], 2)] {
+    for (greys, dots) in [([240, 142, 0, 0], 1), ([240, 143, 0, 0], 2)] {
         assert_eq!(finished_on(RIBBED, 2, &greys).1.dots, dots);
     }
 }
@@ -368,9 +390,9 @@ fn the_page_of_a_sheet_that_no_load_made() {
 
 #[test]
 fn the_page_of_all_cells() {
-    assert_eq!(finished_page(2, &[255; 4], 0), "  0   0     1020     4     4\n");
-    assert_eq!(finished_page(4, &[255; 16], 1).lines().last(), Some("  1   1     1020     4     4"));
-    // the widest figures: 65,536 × 255 = 16,711,680
+    assert_eq!(finished_page(2, &[240; 4], 0), "  0   0      960     4     4\n");
+    assert_eq!(finished_page(4, &[240; 16], 1).lines().last(), Some("  1   1      960     4     4"));
+    // the widest figures, which the page has for any greys: 65,536 × 255 = 16,711,680
     let (greys, serials) = ([255; 65_536], [1; 65_536]);
     assert_eq!(page(256, &greys, &serials, 0), "  0   0 16711680 65536 65536\n");
     let cells = page(256, &greys, &serials, 8);

@@ -26,7 +26,7 @@ fn needed(side: u32) -> (usize, usize) {
 /// A sheet of side 4 with three dots, and more due.
 fn three_dots() -> (Buffers, Progress) {
     let mut buffers = Buffers::new(4).unwrap();
-    let progress = buffers.load(4, PLAIN, &maps::generated(7, 16)).progress;
+    let progress = buffers.load(4, PLAIN, &maps::sampled(7, 16)).progress;
     let answer = buffers.advance(progress, 3);
     assert_eq!((answer.made, answer.status), (3, Ok(Ended::More)));
     (buffers, answer.progress)
@@ -78,6 +78,50 @@ fn load_refuses() {
     for side in NO_SIDES {
         assert_eq!(load_number(side, 0, 0, 0, 0), 1);
         assert_eq!(load_number(side, 300, 300, 300, 300), 1);
+    }
+}
+
+/// The number of Load for greys that are 240 but for one, and buffers of these lengths. A refusal changes nothing.
+fn high_number(knit: u32, side: u32, grey: (usize, u8), [greys, pyramid, serials, order]: [usize; 4]) -> u32 {
+    let mut map = vec![240; greys];
+    map[grey.0] = grey.1;
+    let mut buffers = odd_buffers(pyramid, serials, order);
+    let before = buffers.clone();
+    let answer = buffers.load(side, knit, &map);
+    assert!(answer.status.is_ok() || (buffers == before && answer.progress == Progress { side: 0, dots: 0, knit: 0 }));
+    answer.status.map_or_else(Refusal::number, |()| 0)
+}
+
+/// A grey above 240 is the last of Load's checks; behind the map's own greys it is none of them.
+#[test]
+fn load_refuses_high_greys() {
+    for side in SIDES {
+        let (n, p) = needed(side);
+        for knit in [PLAIN, RIBBED] {
+            for place in [0, 1, n / 2, n - 1] {
+                assert_eq!(high_number(knit, side, (place, 240), [n, p, n, n]), 0);
+                for grey in 241..=255 {
+                    assert_eq!(high_number(knit, side, (place, grey), [n, p, n, n]), 12);
+                }
+            }
+            for place in [n, n + 1, n + 8] {
+                assert_eq!(high_number(knit, side, (place, 255), [n + 9, p, n, n]), 0);
+            }
+        }
+        for place in [0, n - 2] {
+            let number = |knit, lengths| high_number(knit, side, (place, 241), lengths);
+            assert_eq!(number(PLAIN, [n - 1, p, n, n]), 2);
+            assert_eq!(number(PLAIN, [n, p - 1, n, n]), 3);
+            assert_eq!(number(PLAIN, [n, p, n - 1, n]), 4);
+            assert_eq!(number(PLAIN, [n, p, n, n - 1]), 4);
+            assert_eq!(number(PLAIN, [n - 1, p - 1, n - 1, n - 1]), 2);
+            for knit in NO_KNITS {
+                assert_eq!(number(knit, [n, p, n, n]), 11);
+            }
+        }
+    }
+    for side in NO_SIDES {
+        assert_eq!(high_number(2, side, (0, 255), [300; 4]), 1);
     }
 }
 
@@ -638,7 +682,7 @@ impl Return {
 type Failure = fn(&mut Return);
 
 /// The ways in which each check of Restore fails, by one where it can, with the number that is then told.
-const FAILURES: [(u32, Failure); 19] = [
+const FAILURES: [(u32, Failure); 22] = [
     (1, |asked| asked.progress.side += 1),
     (1, |asked| asked.progress.side = 0),
     (1, |asked| asked.progress.side = 512),
@@ -654,6 +698,9 @@ const FAILURES: [(u32, Failure); 19] = [
     (5, |asked| asked.progress.dots = 0),
     (5, |asked| asked.buffers.pyramid[0] += 1),
     (5, |asked| asked.buffers.order[3] = 1),
+    (12, |asked| asked.greys[0] = 241),
+    (12, |asked| asked.greys[cell_count(asked.progress.side) - 1] = 241),
+    (12, |asked| asked.greys.fill(255)),
     (10, |asked| asked.name = 0),
     (10, |asked| asked.name = 9),
     (10, |asked| asked.name = 7),
@@ -681,6 +728,12 @@ fn restore_refuses() {
         for name in [8, 10, 255, 256 + 5, 1 << 31, u32::MAX] {
             assert_eq!(Return { name, ..asked.clone() }.number(), 10);
         }
+        // greys behind the map's own are not looked at
+        for place in [n, n + 6] {
+            let mut asked = asked.clone();
+            asked.greys[place] = 255;
+            assert_eq!(asked.number(), 0);
+        }
     }
     for side in NO_SIDES {
         let mut asked = Return::new(2);
@@ -693,7 +746,7 @@ fn restore_refuses() {
     }
 }
 
-/// Checks 1, 11, 2, 3, 4, 5 and 10: of any two that fail, in whichever way, the first is told; and of all that fail
+/// Checks 1, 11, 2, 3, 4, 5, 12 and 10: of any two that fail, in whichever way, the first is told; and of all that fail
 /// from one on.
 #[test]
 fn restore_refuses_in_order() {
@@ -740,7 +793,7 @@ fn map_text_first_line() {
         for rest in ["", "x", "0,0\n", "\n\n\n"] {
             assert_eq!(text_number(format!("{side}\n{rest}").as_bytes(), n - 1), 2);
         }
-        let text = write_map_text(side, &vec![255; n]);
+        let text = write_map_text(side, &vec![240; n]);
         assert_eq!(text_number(&text, n - 1), 2);
         assert_eq!(text_number(&text, n), 0);
         assert_eq!(text_number(&text[..text.len() - 1], n), 7);
@@ -751,8 +804,8 @@ fn map_text_first_line() {
 #[test]
 fn map_text_other_lines() {
     let mut greys = [99; 6];
-    assert_eq!(map_text(b"2\n0,255\n10,7\n", &mut greys), Ok(2));
-    assert_eq!(greys, [0, 255, 10, 7, 99, 99]);
+    assert_eq!(map_text(b"2\n0,240\n10,7\n", &mut greys), Ok(2));
+    assert_eq!(greys, [0, 240, 10, 7, 99, 99]);
     let wrong = "|0,255\n|0,255\n10,7|0,255\n10,7\n\n|0,255\n10,7\n0,0\n|0,256\n10,7\n|0,255\n10,07\n|00,255\n10,7\n|\
                  0,255,\n10,7\n|,255\n10,7\n|0\n255,10,7\n|0,255,10,7\n|0, 255\n10,7\n|0,255\r\n10,7\r\n|0,-1\n10,7\n|\
                  0,1000\n10,7\n|0,18446744073709551616\n10,7\n|0,2x\n10,7\n|0,255\n10,7\nx|\n0,255\n10,7\n|\
@@ -762,14 +815,45 @@ fn map_text_other_lines() {
     }
 }
 
+/// A text that fits the grammar is read exactly if no grey is above 240: 12 comes last of all.
+#[test]
+fn map_text_high_greys() {
+    for side in SIDES {
+        let (n, _) = needed(side);
+        for place in [0, 1, n / 2, n - 1] {
+            for (grey, number) in [(240, 0), (241, 12), (249, 12), (250, 12), (255, 12)] {
+                let mut greys = vec![7; n];
+                greys[place] = grey;
+                let text = write_map_text(side, &greys);
+                assert_eq!(text_number(&text, n), number);
+                assert_eq!(text_number(&text, n + 1), number);
+                assert_eq!(text_number(&text, n - 1), 2);
+                assert_eq!(text_number(&text[..text.len() - 1], n), 7);
+                assert_eq!(text_number(&[&text[..], b"0"].concat(), n), 7);
+            }
+        }
+    }
+    for (text, number) in [
+        ("02\n255,255\n255,255\n", 7),
+        ("3\n255,255\n255,255\n", 1),
+        ("2\n255,255\n255,256\n", 7),
+        ("2\n256,255\n255,255\n", 7),
+        ("2\n255,255\n255\n", 7),
+        ("2\n0241,0\n0,0\n", 7),
+    ] {
+        assert_eq!(text_number(text.as_bytes(), 4), number);
+    }
+}
+
 #[test]
 fn the_program_refuses() {
     // the longest map text of side 32 is just as long as the longest input
-    let longest = write_map_text(32, &[255; 1_024]);
+    let longest = write_map_text(32, &[240; 1_024]);
     assert_eq!(longest.len(), LONGEST_INPUT);
     let list = plate(&longest);
-    assert!(list.starts_with(b"1024,32\n"));
-    assert_eq!(list.len(), 9_525);
+    assert!(list.starts_with(b"964,32\n"));
+    assert_eq!(list.len(), 8_935);
+    assert_eq!(plate(&write_map_text(32, &[255; 1_024])), b"refused,12\n");
     assert_eq!(plate(&[&longest[..], b"\n"].concat()), b"refused,9\n");
     assert_eq!(plate(&vec![b'x'; LONGEST_INPUT + 1]), b"refused,9\n");
     assert_eq!(plate(&vec![b'x'; LONGEST_INPUT]), b"refused,7\n");
@@ -782,12 +866,15 @@ fn the_program_refuses() {
     for text in ["", "64", "2\n0,0\n0,0", "2\n0,0\n0,256\n", "32\n"] {
         assert_eq!(plate(text.as_bytes()), b"refused,7\n");
     }
+    for text in ["2\n241,0\n0,0\n", "2\n0,0\n0,241\n", "2\n255,255\n255,255\n"] {
+        assert_eq!(plate(text.as_bytes()), b"refused,12\n");
+    }
     assert_eq!(plate(b"2\n0,0\n0,0\n"), b"0,2\n");
 }
 
 #[test]
 fn the_program_quote_refuses() {
-    const MAP: &str = "2\n0,255\n10,7\n";
+    const MAP: &str = "2\n0,240\n10,7\n";
     let number = |text: &str| String::from_utf8(quote(text.as_bytes())).unwrap();
     // the first line comes before all else, and a map that isn't read before the level
     let wrong = "|\n|00\n|01\n|+1\n|-1\n|-0\n| 1\n|1 \n|1\r\n|1,\n|x\n|1.0\n|\"1\"\n|4294967296\n|04294967295\n|\
@@ -803,17 +890,18 @@ fn the_program_quote_refuses() {
         }
         // no line end before the map
         assert_eq!(number(level), "refused,7\n");
+        assert_eq!(number(&format!("{level}\n2\n0,255\n10,7\n")), "refused,12\n");
     }
     assert_eq!(quote(&[&[255, 10], MAP.as_bytes()].concat()), b"refused,7\n");
     for level in [2, 3, 10, 32, 999, 4_294_967_294, u32::MAX] {
         assert_eq!(number(&format!("{level}\n{MAP}")), "refused,6\n");
     }
-    assert_eq!(number(&format!("0\n{MAP}")), "  0   0      272     1     4\n");
+    assert_eq!(number(&format!("0\n{MAP}")), "  0   0      257     1     4\n");
     // the largest page: a line for each cell of side 32
-    let text = write_map_text(32, &[255; 1_024]);
+    let text = write_map_text(32, &[240; 1_024]);
     let page = quote(&[b"5\n", &text[..]].concat());
     assert_eq!(page.len(), 29_696);
-    assert!(page.ends_with(b"\n 31  31      255     1     1\n"));
+    assert!(page.ends_with(b"\n 31  31      240     1     1\n"));
     assert_eq!(quote(&[b"6\n", &text[..]].concat()), b"refused,6\n");
 }
 
@@ -887,7 +975,7 @@ fn any_lengths_and_any_content() {
         let answer = keep(progress, checkpoints, pick(10) as u32);
         assert!(answer.status.is_ok() || answer.checkpoints == checkpoints);
         let mut after = before.clone();
-        let answer = after.restore(progress, checkpoints, pick(10) as u32, &[255; 64]);
+        let answer = after.restore(progress, checkpoints, pick(10) as u32, &[240; 64]);
         assert!(answer.status.is_ok() || (after == before && answer.progress == progress));
         assert_eq!(answer.checkpoints, checkpoints);
     }

@@ -88,13 +88,13 @@ fn places_past_the_cells_stay() {
     }
 }
 
-/// "A program prints the sample of seed 1 and side 32 as map text."
+/// The program prints a map text of side 32, from seed 1. The call fills greys up to 255, and the program lowers them.
 #[test]
 fn the_program() {
     let text = sample_text();
     let mut greys = [99; GREYS_ROOM];
     assert_eq!(map_text(&text, &mut greys), Ok(32));
-    assert_eq!(greys[..], sampled(1, 32).0);
+    assert_eq!(greys[..], lowered(&sampled(1, 32).0));
     // 60 × 2^24 + 8,935,788 is the first state, 1,013,904,223 + 1,664,525
     assert!(text.starts_with(b"32\n60,94,129,180,"));
 }
@@ -102,7 +102,7 @@ fn the_program() {
 /// The program `plate` takes what the program `sample` prints, and makes the holes that its greys ask for.
 #[test]
 fn the_program_plate_takes_the_text() {
-    let sum: u32 = sampled(1, 32).0.iter().map(|grey| u32::from(*grey)).sum();
+    let sum: u32 = lowered(&sampled(1, 32).0).iter().map(|grey| u32::from(*grey)).sum();
     let list = plate(&sample_text());
     // the greys over 255, rounded to the nearest
     assert!(list.starts_with(format!("{},32\n", (2 * sum + 255) / 510).as_bytes()));

@@ -223,12 +223,13 @@ pub fn pyramid_of(n: usize) -> usize
     }
 }
 
-// Reads the greys of seed 0, or fills in the sample of another, and returns the place behind what was read.
+// Reads the greys of seed 0, or fills in the sample of another, lowered, and returns the place behind what was read.
 pub fn make_greys(text: &[u8], from: usize, seed: u32, side: u32, greys: &mut [u8]) -> usize {
     if seed == 0 {
         return read_bytes(text, from, greys);
     }
     let _ = sample_map::sample(seed, side, greys);
+    lower::lower(greys);
     from
 }
 

@@ -17,8 +17,8 @@ use Rattle.definition.specs.Quarters.{quartersFrom, asRows, asQuarters}
 use Rattle.definition.specs.ByQuarters.{restoreByQuarters}
 use Rattle.definition.specs.QuotePage.{figures}
 use Rattle.definition.specs.Sound.{isSound}
-use Rattle.definition.specs.Refusals.{powerOf, sheetUnsound, lowest}
-use Rattle.definition.specs.Load.{loadRefusal}
+use Rattle.definition.specs.Refusals.{powerOf, sheetUnsound, greyHigh, lowest}
+use Rattle.definition.specs.Load.{lowMap, loadRefusal}
 use Rattle.definition.specs.Advance.{sheetIn}
 use Rattle.definition.specs.Checkpoints.{isName, keptAt, nameUnknown, keepRefusal, keepOf}
 use Rattle.definition.specs.Checkpoints.{canRestore, restoreRefusal, restored, restoreOf}
@@ -38,7 +38,7 @@ use Rattle.sheet.specs.Sheets.{SheetLent, shownRows}
 use Rattle.fresh_sheet.specs.Filling.{fill-lent}
 use Rattle.checkpoints.specs.Asked.{MapLent, CountAsked, AnewAsked, Restored}
 use Rattle.names.specs.Names.{kept-within}
-use Rattle.checkpoints.specs.Rows.{load-first, then-last, restore-none}
+use Rattle.checkpoints.specs.Rows.{lent-first, then-last, restore-none}
 
 -- ---- Keep
 module _ (progress : Progress) (checkpoints : Checkpoints) (name : ℕ) {r : ℕ} (er : r ≡ powerOf (progress .side))
@@ -70,26 +70,27 @@ module _ (progress : Progress) (checkpoints : Checkpoints) (name : ℕ) {r : ℕ
         let z : keepRefusal (powerOf (progress .side)) name ≡ 0 = rw (← er) (passed-none check e passed) in
         rw (ea, ew, z, keepOf)
 
--- ---- Restore's check: Load's rows, then the last two
+-- ---- Restore's check: Load's rows by what is lent, then the last three
 module _ {r : ℕ} (small : r ≤ 8) (dots knit : ℕ) (checkpoints : Checkpoints) (name : ℕ)
     (g : List ℕ) (p : List ℤ) (s o : List ℕ)
-    (first : Check) (e : checked first ≡ loadRefusal r knit (length g) (length p) (length s) (length o)) where
+    (first : Check) (e : checked first ≡ loadRefusal r knit (length g) (length p) (length s) (length o) true) where
   abbrev refusal : ℕ
   refusal =
       restoreRefusal r knit (length g) (length p) (length s) (length o) (isSound r (sheetIn r dots (asRows r p) s o))
-      (canRestore checkpoints name (totalOf (greyTotal r g)))
+      (lowMap r g) (canRestore checkpoints name (totalOf (greyTotal r g)))
 
   pub first-failed : {why : Refusal} → first ≡ Failed why → checked (Failed why) ≡ refusal
   unfolding checked
   first-failed {why} failed =
       number-positive why
       ∙ sym
-      (load-first r knit (length g) (length p) (length s) (length o) _ _ (numberOf why - 1)
+      (lent-first r knit (length g) (length p) (length s) (length o) _ _ _ (numberOf why - 1)
       (failed-number first e why failed))
 
   module _ (passed : first ≡ Passed) where
     none-lent : LoadLent r knit (length g) (length p) (length s) (length o)
-    none-lent = load-none r knit (length g) (length p) (length s) (length o) .0 (passed-none first e passed)
+    none-lent =
+        load-none r knit (length g) (length p) (length s) (length o) true .0 (passed-none first e passed) .0
 
     pub map-lent : MapLent r (length g)
     map-lent = record { power = none-lent .power; powers = small; room = none-lent .greys-long }
@@ -104,29 +105,30 @@ module _ {r : ℕ} (small : r ≤ 8) (dots knit : ℕ) (checkpoints : Checkpoint
         }
 
     pub last-checked : {sound : Bool} → sound ≡ isSound r (sheetIn r dots (shownRows false r p) s o)
+        → {low : Bool} → low ≡ lowMap r g
         → {total : ℕ} → total ≡ totalOf (greyTotal r g)
         → {known : Bool} → known ≡ canRestore checkpoints name total
-        → (last : Check) → checked last ≡ lowest (sheetUnsound sound ∷ nameUnknown known ∷ [])
+        → (last : Check) → checked last ≡ lowest (sheetUnsound sound ∷ greyHigh low ∷ nameUnknown known ∷ [])
         → checked last ≡ refusal
     unfolding shownRows
-    last-checked es et ek last q =
-        rw (es, ek, et) at q
-        ∙ sym (then-last r knit (length g) (length p) (length s) (length o) _ _ (passed-none first e passed))
+    last-checked es el et ek last q =
+        rw (es, el, ek, et) at q
+        ∙ sym (then-last r knit (length g) (length p) (length s) (length o) _ _ _ (passed-none first e passed))
 
 -- ---- what a Restore that isn't refused was given
 module _ (knit : ℕ) (checkpoints : Checkpoints) (name : ℕ) (g : List ℕ) (p : List ℤ) (s o : List ℕ)
     {r : ℕ} (small : r ≤ 8) (check : Check) (sound : Bool)
     (e : checked check
-    ≡ restoreRefusal r knit (length g) (length p) (length s) (length o) sound
+    ≡ restoreRefusal r knit (length g) (length p) (length s) (length o) sound (lowMap r g)
     (canRestore checkpoints name (totalOf (greyTotal r g))))
     (passed : check ≡ Passed) (bytes : (i : ℕ) → getD g i 0 ≤ 255) where
-  none : (loadRefusal r knit (length g) (length p) (length s) (length o) ≡ 0)
+  none : (loadRefusal r knit (length g) (length p) (length s) (length o) true ≡ 0)
       × (canRestore checkpoints name (totalOf (greyTotal r g)) ≡ true)
-  none = restore-none r knit (length g) (length p) (length s) (length o) _ _ (passed-none check e passed)
+  none = restore-none r knit (length g) (length p) (length s) (length o) _ _ _ (passed-none check e passed)
 
   pub anew-asked : AnewAsked r g (length p) (length s) (length o)
   anew-asked =
-      let lent = load-none r knit (length g) (length p) (length s) (length o) .0 (none .0) in
+      let lent = load-none r knit (length g) (length p) (length s) (length o) true .0 (none .0) .0 in
       record { lent = fill-lent small lent; bytes = bytes }
 
   -- the sum of all greys has at most the eight digits of its column on the quote page, so the total is small
@@ -144,7 +146,7 @@ module _ (progress : Progress) (checkpoints : Checkpoints) (name : ℕ) (g : Lis
     {r : ℕ} (er : r ≡ powerOf (progress .side)) (check : Check)
     (e : checked check
     ≡ restoreRefusal r (progress .knit) (length g) (length p) (length s) (length o)
-    (isSound r (sheetIn r (progress .dots) (asRows r p) s o))
+    (isSound r (sheetIn r (progress .dots) (asRows r p) s o)) (lowMap r g)
     (canRestore checkpoints name (totalOf (greyTotal r g)))) where
   abbrev side-power : ℕ
   side-power = powerOf (progress .side)
@@ -155,7 +157,7 @@ module _ (progress : Progress) (checkpoints : Checkpoints) (name : ℕ) (g : Lis
   abbrev refusalOf : ℕ
   refusalOf =
       restoreRefusal side-power (progress .knit) (length g) (length rows) (length s) (length o)
-      (isSound side-power (sheetIn side-power (progress .dots) rows s o))
+      (isSound side-power (sheetIn side-power (progress .dots) rows s o)) (lowMap side-power g)
       (canRestore checkpoints name (totalOf (greyTotal side-power g)))
 
   check-rows : checked check ≡ refusalOf

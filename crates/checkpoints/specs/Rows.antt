@@ -1,5 +1,5 @@
 -- The rows of the two checks.
-use mathlib.Core.Path.{_≡_, refl}
+use mathlib.Core.Path.{_≡_, refl, sym, _∙_}
 use mathlib.Core.Bool.{Bool, true, false, not}
 use mathlib.Core.List.{List, [], _∷_}
 use Prim.Native.Nat.{ℕ, suc}
@@ -14,12 +14,13 @@ use Rattle.definition.specs.Refusals.{
   pyramidShort,
   sheetShort,
   sheetUnsound,
+  greyHigh,
   lowest,
 }
 use Rattle.definition.specs.Load.{loadRefusal}
 use Rattle.definition.specs.Checkpoints.{isName, nameUnknown, keepRefusal, restoreRefusal}
 use Rattle.definition.specs.declared.Refusal.the-variants.{NameUnknown}
-use Rattle.refusals.specs.Lowest.{positive, lowest-none, lowest-before, lowest-after, lowest-split}
+use Rattle.refusals.specs.Lowest.{positive, lowest-none, lowest-before, lowest-after, lowest-split, lowest-last-not}
 use Rattle.checks.specs.Checks.{checked}
 use Rattle.checks.specs.declared.Check.the-variants.{Passed, Failed}
 
@@ -33,30 +34,38 @@ module _ {r : ℕ} (some : r ≡ 0 → ⊥) (name : ℕ) {b : Bool} (e : b ≡ i
   unfolding checked numberOf keepRefusal lowest
   keep-failed no′ = rw (ne-eqb r 0 some, ← e, no′)
 
--- ---- Restore's rows: those of Load come first
-module _ (r knit g p s o : ℕ) (sound known : Bool) where
+-- ---- Restore's rows: those of Load by what is lent come first
+module _ (r knit g p s o : ℕ) (sound low known : Bool) where
+  abbrev first-rows : List Row
+  first-rows =
+      sideUnknown r ∷ knitUnknown knit ∷ greysShort r g ∷ pyramidShort r p ∷ sheetShort r s ∷ sheetShort r o ∷ []
+
   abbrev last-rows : List Row
-  last-rows = sheetUnsound sound ∷ nameUnknown known ∷ []
+  last-rows = sheetUnsound sound ∷ greyHigh low ∷ nameUnknown known ∷ []
 
-  pub load-first : (n : ℕ) → loadRefusal r knit g p s o ≡ suc n
-      → restoreRefusal r knit g p s o sound known ≡ suc n
-  unfolding restoreRefusal loadRefusal
-  load-first n e = lowest-before _ last-rows n e
+  -- Load's own rows, of low greys
+  lent-rows : loadRefusal r knit g p s o true ≡ lowest first-rows
+  unfolding loadRefusal
+  lent-rows = lowest-last-not first-rows (greyHigh true) refl
 
-  pub then-last : loadRefusal r knit g p s o ≡ 0
-      → restoreRefusal r knit g p s o sound known ≡ lowest (sheetUnsound sound ∷ nameUnknown known ∷ [])
-  unfolding restoreRefusal loadRefusal positive
-  then-last e = lowest-after _ last-rows refl e
+  pub lent-first : (n : ℕ) → loadRefusal r knit g p s o true ≡ suc n
+      → restoreRefusal r knit g p s o sound low known ≡ suc n
+  unfolding restoreRefusal
+  lent-first n e = lowest-before first-rows last-rows n (sym lent-rows ∙ e)
 
-  -- what is not refused: Load would not refuse it, and the name will do
-  pub restore-none : restoreRefusal r knit g p s o sound known ≡ 0
-      → (loadRefusal r knit g p s o ≡ 0) × (known ≡ true)
-  unfolding restoreRefusal loadRefusal positive
+  pub then-last : loadRefusal r knit g p s o true ≡ 0
+      → restoreRefusal r knit g p s o sound low known
+      ≡ lowest (sheetUnsound sound ∷ greyHigh low ∷ nameUnknown known ∷ [])
+  unfolding restoreRefusal positive
+  then-last e = lowest-after first-rows last-rows refl (sym lent-rows ∙ e)
+
+  -- what is not refused: what is lent will do, and so will the name
+  pub restore-none : restoreRefusal r knit g p s o sound low known ≡ 0
+      → (loadRefusal r knit g p s o true ≡ 0) × (known ≡ true)
+  unfolding restoreRefusal positive
   restore-none e =
-      let h = lowest-split
-      (sideUnknown r ∷ knitUnknown knit ∷ greysShort r g ∷ pyramidShort r p ∷ sheetShort r s
-      ∷ sheetShort r o ∷ [])
-      last-rows refl e in
+      let h = lowest-split first-rows last-rows refl e in
       let five = lowest-none 5 (not sound) _ (omega arith) (h .1) in
-      let ten = lowest-none 10 (not known) _ (omega arith) (five .1) in
-      (h .0, not-false known (ten .0))
+      let twelve = lowest-none 12 (not low) _ (omega arith) (five .1) in
+      let ten = lowest-none 10 (not known) _ (omega arith) (twelve .1) in
+      (lent-rows ∙ h .0, not-false known (ten .0))

@@ -12,7 +12,8 @@ ghost use lib.ListN.{length};
 ghost use Rattle.definition.specs.Answers.{checkpointSays};
 ghost use Rattle.definition.specs.Blocks.{greyTotal, totalOf};
 ghost use Rattle.definition.specs.Sound.{isSound};
-ghost use Rattle.definition.specs.Refusals.{sheetUnsound, lowest};
+ghost use Rattle.definition.specs.Refusals.{sheetUnsound, greyHigh, lowest};
+ghost use Rattle.definition.specs.Load.{lowMap};
 ghost use Rattle.definition.specs.Advance.{sheetIn};
 ghost use Rattle.definition.specs.Checkpoints.{keptAt, nameUnknown, keepRefusal, keepOf};
 ghost use Rattle.definition.specs.Checkpoints.{canRestore, restoreRefusal};
@@ -86,12 +87,15 @@ fn total_dots(r: usize, greys: &[u8]) -> u64
     (2 * sum + 255) / 510
 }
 
-// Restore's last refusals: 5, then 10.
-fn check_last(sound: bool, known: bool) -> Check
-    ensures { λ c. ⌜ checked c ≡ lowest (sheetUnsound sound ∷ nameUnknown known ∷ []) ⌝ }
+// Restore's last refusals: 5, then 12, then 10.
+fn check_last(sound: bool, low: bool, known: bool) -> Check
+    ensures { λ c. ⌜ checked c ≡ lowest (sheetUnsound sound ∷ greyHigh low ∷ nameUnknown known ∷ []) ⌝ }
 {
     if !sound {
         return Check::Failed(Refusal::SheetUnsound);
+    }
+    if !low {
+        return Check::Failed(Refusal::GreyHigh);
     }
     if !known {
         return Check::Failed(Refusal::NameUnknown);
@@ -99,7 +103,7 @@ fn check_last(sound: bool, known: bool) -> Check
     Check::Passed
 }
 
-// Restore's refusals: those of Load, then the last.
+// Restore's refusals: those of Load by what is lent, for which its greys count as low, then the last.
 fn check_restore(
     r: usize,
     dots: u32,
@@ -120,6 +124,7 @@ fn check_restore(
         (length (now (greys .entry))) (length (now (pyramid .entry)))
         (length (now (serials .entry))) (length (now (order .entry)))
         (isSound r (sheetIn r dots (asRows r (now (pyramid .entry))) (now (serials .entry)) (now (order .entry))))
+        (lowMap r (now (greys .entry)))
         (canRestore checkpoints name (totalOf (greyTotal r (now (greys .entry)))))
         ⌝ }
 {
@@ -130,12 +135,14 @@ fn check_restore(
         pyramid.len(),
         serials.len(),
         order.len(),
+        true,
     ) {
         Check::Failed(why) => Check::Failed(why),
         Check::Passed => {
             let sound = sheet::sound_lent(r, dots, false, table, pyramid, serials, order);
+            let low = fresh_sheet::low_map(r, greys);
             let known = names::can_restore(checkpoints, name, total_dots(r, greys));
-            check_last(sound, known)
+            check_last(sound, low, known)
         }
     }
 }

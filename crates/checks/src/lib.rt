@@ -27,6 +27,7 @@ pub fn number_of(why: Refusal) -> u32
         Refusal::InputLong => 9,
         Refusal::NameUnknown => 10,
         Refusal::KnitUnknown => 11,
+        Refusal::GreyHigh => 12,
     }
 }
 

@@ -15,6 +15,7 @@ use Rattle.definition.specs.declared.Refusal.the-variants.{
   InputLong,
   NameUnknown,
   KnitUnknown,
+  GreyHigh,
 }
 use Rattle.definition.specs.declared.LoadStatus.{LoadStatus}
 use Rattle.definition.specs.declared.LoadStatus.the-variants as Load
@@ -75,6 +76,7 @@ numberOf OutputShort = 8
 numberOf InputLong = 9
 numberOf NameUnknown = 10
 numberOf KnitUnknown = 11
+numberOf GreyHigh = 12
 
 -- Load returns its record and, beside it, nothing or a number
 unfoldable pub loadSays : LoadStatus → Said
@@ -101,7 +103,7 @@ unfoldable pub mapTextSays : MapTextAnswer → Said
 mapTextSays (MapText.Side n) = returned (n ∷ [])
 mapTextSays (MapText.Refused why) = refused (numberOf why)
 
--- Drill List and Quote Page
+-- Drill List, Quote Page and Lower Text
 unfoldable pub textSays : TextAnswer → Said
 textSays (Text.Length n) = returned (n ∷ [])
 textSays (Text.Refused why) = refused (numberOf why)

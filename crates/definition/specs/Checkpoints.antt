@@ -22,8 +22,10 @@ use Rattle.definition.specs.Refusals.{
   pyramidShort,
   sheetShort,
   sheetUnsound,
+  greyHigh,
   lowest,
 }
+use Rattle.definition.specs.Load.{lowMap}
 use Rattle.definition.specs.Advance.{sheetIn}
 use Rattle.definition.specs.declared.Progress.{Progress}
 use Rattle.definition.specs.declared.Checkpoints.{Checkpoints}
@@ -68,13 +70,13 @@ unfoldable pub canRestore : Checkpoints → ℕ → ℕ → Bool
 canRestore checkpoints name total =
     isName name && elim (keptAt checkpoints name) [ zero ↦ false | suc dots ↦ leb dots total ]
 
--- The checks of Load and Advance, 1, 11, 2, 3, 4, 5, then 10: from the side's power, the knit, the lengths lent,
--- whether the sheet is sound, and whether the name will do
-unfoldable pub restoreRefusal : ℕ → ℕ → ℕ → ℕ → ℕ → ℕ → Bool → Bool → ℕ
-restoreRefusal r knit greys pyramid serials order sound known =
+-- The checks of Load and Advance, 1, 11, 2, 3, 4, 5, 12, then 10: from the side's power, the knit, the lengths lent,
+-- whether the sheet is sound, whether the map's greys are low, and whether the name will do
+unfoldable pub restoreRefusal : ℕ → ℕ → ℕ → ℕ → ℕ → ℕ → Bool → Bool → Bool → ℕ
+restoreRefusal r knit greys pyramid serials order sound low known =
     lowest
     (sideUnknown r ∷ knitUnknown knit ∷ greysShort r greys ∷ pyramidShort r pyramid
-    ∷ sheetShort r serials ∷ sheetShort r order ∷ sheetUnsound sound ∷ nameUnknown known ∷ [])
+    ∷ sheetShort r serials ∷ sheetShort r order ∷ sheetUnsound sound ∷ greyHigh low ∷ nameUnknown known ∷ [])
 
 pub record RestoreOutcome : Type 0 where
   pub progress : Progress
@@ -108,7 +110,7 @@ restoreOf progress checkpoints name greys pyramid serials order =
     let sound = isSound r (sheetIn r (progress .dots) pyramid serials order) in
     let known = canRestore checkpoints name (totalOf (greyTotal r greys)) in
     let refusal = restoreRefusal r (progress .knit) (length greys) (length pyramid) (length serials) (length order)
-    sound known in
+    sound (lowMap r greys) known in
     elim refusal [
       | zero ↦ restored progress r (keptAt checkpoints name - 1) checkpoints greys pyramid serials order
       | suc n ↦

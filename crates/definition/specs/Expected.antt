@@ -10,7 +10,7 @@ use lib.IntN.{ℤ, pos, negsuc}
 unfoldable pub greys4 : List ℕ
 greys4 =
     61 ∷ 233 ∷ 156 ∷ 237 ∷ 12 ∷ 219
-    ∷ 92 ∷ 13 ∷ 17 ∷ 251 ∷ 249 ∷ 136
+    ∷ 92 ∷ 13 ∷ 17 ∷ 240 ∷ 240 ∷ 136
     ∷ 115 ∷ 140 ∷ 154 ∷ 199
     ∷ []
 
@@ -30,23 +30,23 @@ serials4 =
 
 unfoldable pub pyramid4 : List ℤ
 pyramid4 =
-    negsuc 2815 ∷ pos 837 ∷ negsuc 11041 ∷ pos 12117 ∷ negsuc 4727 ∷ pos 13295
-    ∷ negsuc 9204 ∷ pos 0 ∷ negsuc 7376 ∷ pos 435 ∷ negsuc 3687 ∷ pos 7795
-    ∷ negsuc 11459 ∷ negsuc 496 ∷ negsuc 9273 ∷ negsuc 16867 ∷ pos 0 ∷ pos 21888
-    ∷ pos 0 ∷ pos 21267 ∷ negsuc 9126
+    negsuc 7935 ∷ pos 244 ∷ negsuc 12212 ∷ pos 10682 ∷ negsuc 6648 ∷ pos 13234
+    ∷ negsuc 9339 ∷ pos 0 ∷ negsuc 7391 ∷ pos 46 ∷ negsuc 3695 ∷ pos 6953
+    ∷ negsuc 11773 ∷ negsuc 1180 ∷ negsuc 9575 ∷ negsuc 17706 ∷ pos 0 ∷ pos 21439
+    ∷ pos 0 ∷ pos 20300 ∷ negsuc 9241
     ∷ []
 
 unfoldable pub quarters4 : List ℤ
 quarters4 =
-    negsuc 2815 ∷ pos 837 ∷ negsuc 11041 ∷ pos 12117 ∷ negsuc 4727 ∷ pos 13295
-    ∷ negsuc 9204 ∷ pos 435 ∷ negsuc 3687 ∷ pos 0 ∷ negsuc 7376 ∷ pos 7795
-    ∷ negsuc 11459 ∷ negsuc 496 ∷ negsuc 9273 ∷ pos 21888 ∷ pos 0 ∷ negsuc 16867
-    ∷ pos 0 ∷ pos 21267 ∷ negsuc 9126
+    negsuc 7935 ∷ pos 244 ∷ negsuc 12212 ∷ pos 10682 ∷ negsuc 6648 ∷ pos 13234
+    ∷ negsuc 9339 ∷ pos 46 ∷ negsuc 3695 ∷ pos 0 ∷ negsuc 7391 ∷ pos 6953
+    ∷ negsuc 11773 ∷ negsuc 1180 ∷ negsuc 9575 ∷ pos 21439 ∷ pos 0 ∷ negsuc 17706
+    ∷ pos 0 ∷ pos 20300 ∷ negsuc 9241
     ∷ []
 
 unfoldable pub levels4 : List ℕ
 levels4 =
-    121 ∷ 1267 ∷ 92207 ∷ 0 ∷ 0 ∷ 0
+    961 ∷ 1669 ∷ 92605 ∷ 0 ∷ 0 ∷ 0
     ∷ 0 ∷ 0 ∷ 0
     ∷ []
 
@@ -217,18 +217,18 @@ serialsRibbed4 =
 
 unfoldable pub pyramidRibbed4 : List ℤ
 pyramidRibbed4 =
-    negsuc 2815 ∷ pos 1247 ∷ negsuc 11024 ∷ pos 10717 ∷ negsuc 3754 ∷ pos 13739
-    ∷ negsuc 12701 ∷ pos 0 ∷ negsuc 9841 ∷ pos 210 ∷ pos 0 ∷ pos 10465
-    ∷ negsuc 11647 ∷ pos 4000 ∷ negsuc 12791 ∷ negsuc 13023 ∷ pos 0 ∷ pos 19509
-    ∷ pos 0 ∷ pos 21941 ∷ negsuc 12671
+    negsuc 7935 ∷ pos 823 ∷ negsuc 12004 ∷ pos 9092 ∷ negsuc 5845 ∷ pos 13739
+    ∷ negsuc 12913 ∷ pos 0 ∷ negsuc 9841 ∷ negsuc 1 ∷ pos 0 ∷ pos 9677
+    ∷ negsuc 11839 ∷ pos 3152 ∷ negsuc 13286 ∷ negsuc 14063 ∷ pos 0 ∷ pos 19227
+    ∷ pos 0 ∷ pos 21082 ∷ negsuc 12863
     ∷ []
 
 unfoldable pub quartersRibbed4 : List ℤ
 quartersRibbed4 =
-    negsuc 2815 ∷ pos 1247 ∷ negsuc 11024 ∷ pos 10717 ∷ negsuc 3754 ∷ pos 13739
-    ∷ negsuc 12701 ∷ pos 210 ∷ pos 0 ∷ pos 0 ∷ negsuc 9841 ∷ pos 10465
-    ∷ negsuc 11647 ∷ pos 4000 ∷ negsuc 12791 ∷ pos 19509 ∷ pos 0 ∷ negsuc 13023
-    ∷ pos 0 ∷ pos 21941 ∷ negsuc 12671
+    negsuc 7935 ∷ pos 823 ∷ negsuc 12004 ∷ pos 9092 ∷ negsuc 5845 ∷ pos 13739
+    ∷ negsuc 12913 ∷ negsuc 1 ∷ pos 0 ∷ pos 0 ∷ negsuc 9841 ∷ pos 9677
+    ∷ negsuc 11839 ∷ pos 3152 ∷ negsuc 13286 ∷ pos 19227 ∷ pos 0 ∷ negsuc 14063
+    ∷ pos 0 ∷ pos 21082 ∷ negsuc 12863
     ∷ []
 
 unfoldable pub orderRibbed8 : List ℕ

@@ -88,10 +88,11 @@ knitPlates =
     )
     ∷ (93, leavesOn ribbed 1 p3 (9 ∷ []) pyramidRibbed2 serialsRibbed2 orderRibbed2)
     ∷ (93, answersOn ribbed 1 p3 (0 ∷ 1 ∷ 1 ∷ []) ((0, more) ∷ (1, more) ∷ (1, finished) ∷ []))
-    -- as P2 and P6: all debts 0; one dot, which presses on its straight neighbours alone
+    -- as P2 and P6: the last two dots press on the first two alone; one dot, which presses on its straight neighbours
     ∷ (
       94,
-      leavesOn ribbed 1 p2 (9 ∷ []) (replicate 5 (pos 0)) (1 ∷ 3 ∷ 4 ∷ 2 ∷ []) (0 ∷ 3 ∷ 1 ∷ 2 ∷ []),
+      leavesOn ribbed 1 p2 (9 ∷ []) (minus 15360 ∷ minus 7680 ∷ pos 0 ∷ pos 0 ∷ minus 7680 ∷ [])
+          (1 ∷ 3 ∷ 4 ∷ 2 ∷ []) (0 ∷ 3 ∷ 1 ∷ 2 ∷ []),
     )
     ∷ (
       94,

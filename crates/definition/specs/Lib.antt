@@ -7,18 +7,21 @@ pub mod Diffusion
 pub mod Model
 pub mod Quarters
 pub mod Sound
+pub mod Lowering
 pub mod Refusals
 pub mod Load
 pub mod Advance
 pub mod Survey
 pub mod Text
 pub mod MapText
+pub mod LowerText
 pub mod DrillList
 pub mod QuotePage
 pub mod Renewal
 pub mod Sample
 pub mod Plate
 pub mod Quote
+pub mod Convert
 pub mod Shelf
 pub mod Calls
 pub mod Checkpoints
@@ -30,4 +33,5 @@ pub mod StagePlates
 pub mod KnitPlates
 pub mod SpreadPlates
 pub mod LayoutPlates
+pub mod LowPlates
 pub mod Plates

@@ -1,12 +1,14 @@
 -- Document 01, Load: what it answers and leaves in every buffer, for every side and all lists lent. "The caller lends the pyramid as
 -- 64-bit signed numbers", and "Two further buffers of N² 32-bit unsigned numbers": here they are lists.
+use mathlib.Core.Bool.{Bool}
 use mathlib.Core.List.{List, [], _∷_, _++_}
 use Prim.Native.Nat.{ℕ, zero, suc}
-use lib.ListN.{length, drop}
+use lib.ListN.{length, take, drop}
 use lib.IntN.{ℤ}
 use Rattle.definition.specs.Answers.{Said, returned, refused}
 use Rattle.definition.specs.Pyramid.{needed, cellCount}
 use Rattle.definition.specs.Model.{modelStart}
+use Rattle.definition.specs.Lowering.{noneHigh}
 use Rattle.definition.specs.Refusals.{
   powerOf,
   sideUnknown,
@@ -14,6 +16,7 @@ use Rattle.definition.specs.Refusals.{
   greysShort,
   pyramidShort,
   sheetShort,
+  greyHigh,
   lowest,
 }
 use Rattle.definition.specs.declared.Progress.{Progress}
@@ -25,12 +28,17 @@ pub record LoadOutcome : Type 0 where
   pub serials : List ℕ
   pub order : List ℕ
 
--- The checks of Load, 1, 11, 2, 3, 4: from the side's power, the knit and the lengths lent
-unfoldable pub loadRefusal : ℕ → ℕ → ℕ → ℕ → ℕ → ℕ → ℕ
-loadRefusal r knit greys pyramid serials order =
+-- whether none of the map's own greys is too high: those past its N² cells are not looked at
+unfoldable pub lowMap : ℕ → List ℕ → Bool
+lowMap r greys = noneHigh (take (cellCount r) greys)
+
+-- The checks of Load, 1, 11, 2, 3, 4, 12: from the side's power, the knit, the lengths lent, and whether the map's
+-- greys are low
+unfoldable pub loadRefusal : ℕ → ℕ → ℕ → ℕ → ℕ → ℕ → Bool → ℕ
+loadRefusal r knit greys pyramid serials order low =
     lowest
     (sideUnknown r ∷ knitUnknown knit ∷ greysShort r greys ∷ pyramidShort r pyramid
-    ∷ sheetShort r serials ∷ sheetShort r order ∷ [])
+    ∷ sheetShort r serials ∷ sheetShort r order ∷ greyHigh low ∷ [])
 
 -- Load fills the pyramid from the greys and the places of both other buffers with 0, each over its needed length, and
 -- what lies past that stays (document 01, Load). The record is (side, 0, knit).
@@ -49,7 +57,8 @@ loaded side knit r greys pyramid serials order =
 unfoldable pub loadOf : ℕ → ℕ → List ℕ → List ℤ → List ℕ → List ℕ → LoadOutcome
 loadOf side knit greys pyramid serials order =
     let r = powerOf side in
-    elim (loadRefusal r knit (length greys) (length pyramid) (length serials) (length order)) [
+    let low = lowMap r greys in
+    elim (loadRefusal r knit (length greys) (length pyramid) (length serials) (length order) low) [
       | zero ↦ loaded side knit r greys pyramid serials order
       | suc n ↦
           record {

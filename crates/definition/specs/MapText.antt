@@ -1,10 +1,12 @@
 -- Document 01, "Map Text": the one text of a side and greys; the reader, with its refusals in their order; the call.
+use mathlib.Core.Bool.{true, false}
 use mathlib.Core.List.{List, [], _∷_, _++_}
 use mathlib.Core.Option.{Option, some, none}
 use Prim.Native.Nat.{ℕ, zero, suc}
 use lib.ListN.{length, take, drop}
 use Rattle.definition.specs.Lists.{repeated}
 use Rattle.definition.specs.Answers.{GreysOutcome, returned, refused}
+use Rattle.definition.specs.Lowering.{noneHigh}
 use Rattle.definition.specs.Refusals.{powerOf, greysRefusal}
 use Rattle.definition.specs.Text.{newline, line, lineEnds, field, malformed, fieldOf}
 
@@ -47,10 +49,18 @@ readMap text room =
           elim (greysRefusal r room) [ zero ↦ readGreys side rest | suc n ↦ rejected (suc n) ]
     ]
 
+-- Map Text's own reader: by the grammar, as `readMap` does, and then no grey may be above 240 (document 02, request 11)
+unfoldable pub readLow : List ℕ → ℕ → Reading
+readLow text room =
+    elim (readMap text room) [
+      | rejected n ↦ rejected n
+      | accepted side greys ↦ elim (noneHigh greys) [ true ↦ accepted side greys | false ↦ rejected 12 ]
+    ]
+
 -- "The call returns the side and writes the N² greys by row; places past them stay." A refusal leaves them all.
 unfoldable pub mapTextOf : List ℕ → List ℕ → GreysOutcome
 mapTextOf text greys =
-    elim (readMap text (length greys)) [
+    elim (readLow text (length greys)) [
       | accepted side values ↦ record { said = returned (side ∷ []); greys = values ++ drop (length values) greys }
       | rejected n ↦ record { said = refused n; greys = greys }
     ]

@@ -9,7 +9,7 @@ use Rattle.definition.specs.Model.{Halftone, topOf, modelStart, steps}
 use Rattle.definition.specs.Refusals.{powerOf}
 use Rattle.definition.specs.Advance.{dotsDue}
 use Rattle.definition.specs.Text.{line}
-use Rattle.definition.specs.MapText.{accepted, rejected, readMap}
+use Rattle.definition.specs.MapText.{accepted, rejected, readLow}
 use Rattle.definition.specs.DrillList.{drillText}
 
 -- "or the line refused,n with n the refusal"
@@ -28,5 +28,9 @@ unfoldable pub plateOf : List ℕ → List ℕ
 plateOf input =
     elim (ltb 4099 (length input)) [
       | true ↦ refusedText 9
-      | false ↦ elim (readMap input 1024) [ accepted side greys ↦ let r = powerOf side in drillText r (finishedOf plain r greys) | rejected n ↦ refusedText n ]
+      | false ↦
+          elim (readLow input 1024) [
+            | accepted side greys ↦ let r = powerOf side in drillText r (finishedOf plain r greys)
+            | rejected n ↦ refusedText n
+          ]
     ]

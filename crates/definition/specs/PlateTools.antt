@@ -136,7 +136,7 @@ unfoldable pub p1 : List ℕ
 p1 = 0 ∷ 0 ∷ 0 ∷ 0 ∷ []
 
 unfoldable pub p2 : List ℕ
-p2 = 255 ∷ 255 ∷ 255 ∷ 255 ∷ []
+p2 = 240 ∷ 240 ∷ 240 ∷ 240 ∷ []
 
 unfoldable pub p3 : List ℕ
 p3 = 128 ∷ 128 ∷ 128 ∷ 128 ∷ []

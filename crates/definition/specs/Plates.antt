@@ -39,17 +39,20 @@ use Rattle.definition.specs.Diffusion.{
 use Rattle.definition.specs.Model.{topOf, modelStart, missing, placeDot, step, steps}
 use Rattle.definition.specs.Sound.{burntNear, everyEntry, fewDots, numbered, counted, unused, summed, bounded, owing, isSound}
 use Rattle.definition.specs.Refusals.{Row, powerUpTo, powerOf, lowest, greysRefusal}
-use Rattle.definition.specs.Load.{loadRefusal, loaded, loadOf}
+use Rattle.definition.specs.Lowering.{noneHigh, lowered}
+use Rattle.definition.specs.Load.{lowMap, loadRefusal, loaded, loadOf}
 use Rattle.definition.specs.Advance.{Reply, dotsDue, saidAt, sheetIn, advanceRefusal, advanced, advanceOf}
 use Rattle.definition.specs.Survey.{tallyRefusal, tallyOf, errorAt, squared, levelSum, levelsRefusal, levelsOf}
 use Rattle.definition.specs.Text.{digitsUpTo, decimal, rightAligned, line, lineEnds, isDigit, digitsThen, fieldOf, TextOutcome, textInto}
-use Rattle.definition.specs.MapText.{rowsText, mapText, valuesOf, readGreys, readMap, mapTextOf}
+use Rattle.definition.specs.MapText.{rowsText, mapText, valuesOf, readGreys, readMap, readLow, mapTextOf}
+use Rattle.definition.specs.LowerText.{textKept, textLowered, lowerTextOf}
 use Rattle.definition.specs.DrillList.{dotLines, drillText, drillListRefusal, drillListOf}
 use Rattle.definition.specs.QuotePage.{quoteCap, figures, alignedLine, quoteText, quotePageRefusal, quotePageOf}
 use Rattle.definition.specs.Renewal.{isNear, overThese, renewed, isSmall, entriesSmall, renewable, renewalOf}
 use Rattle.definition.specs.Sample.{nextState, greyOf, sampleGreys, stateAfter, sampleOf, sampleText}
 use Rattle.definition.specs.Plate.{refusedText, finishedOf, plateOf}
 use Rattle.definition.specs.Quote.{quoteOfMap, quoteOfText, quoteOf}
+use Rattle.definition.specs.Convert.{convertOf}
 use Rattle.definition.specs.Shelf.{
   pattern,
   firstDifference,
@@ -178,6 +181,20 @@ use Rattle.definition.specs.LayoutPlates.{
   relayRefused,
   layoutPlates,
 }
+use Rattle.definition.specs.LowPlates.{
+  loadsHigh,
+  loadsNothing,
+  restoresHigh,
+  readsNothing,
+  lowersNothing,
+  lowers,
+  highText,
+  lowText,
+  overText,
+  refusedHigh,
+  refusedText7,
+  lowPlates,
+}
 use Rattle.definition.specs.declared.Progress.{Progress}
 use Rattle.definition.specs.declared.Refusal.the-variants as Refusal
 use Rattle.definition.specs.Expected.{
@@ -218,9 +235,18 @@ unfoldable pub plates : List Row
 plates =
     -- P1: side 2, greys 0: no hole, finished
     (1, answers 1 p1 (9 ∷ []) ((0, finished) ∷ []))
-    -- P2: side 2, greys 255: (0,0), (1,1), (0,1), (1,0), all debts 0
+    -- P2, now with four greys of 240: a hole in each cell, by turns across; its sheet after two holes and after four
     ∷ (2, answers 1 p2 (9 ∷ []) ((4, finished) ∷ []))
-    ∷ (2, leaves 1 p2 (9 ∷ []) (replicate 5 (pos 0)) (1 ∷ 3 ∷ 4 ∷ 2 ∷ []) (0 ∷ 3 ∷ 1 ∷ 2 ∷ []))
+    ∷ (
+      2,
+      leaves 1 p2 (2 ∷ []) (pos 115200 ∷ minus 921 ∷ pos 58061 ∷ pos 58060 ∷ pos 0 ∷ [])
+          (1 ∷ 0 ∷ 0 ∷ 2 ∷ []) (0 ∷ 3 ∷ 0 ∷ 0 ∷ []),
+    )
+    ∷ (
+      2,
+      leaves 1 p2 (9 ∷ []) (minus 15360 ∷ minus 7274 ∷ minus 1732 ∷ pos 0 ∷ minus 6354 ∷ [])
+          (1 ∷ 3 ∷ 4 ∷ 2 ∷ []) (0 ∷ 3 ∷ 1 ∷ 2 ∷ []),
+    )
     -- P3, the greys 128 on a map of side 2: its sheet with one hole, then with both, finished
     ∷ (
       3,
@@ -251,7 +277,7 @@ plates =
     -- P9: what the three around the first cell get of 4
     ∷ (9, same (shares 2 0 0 4) (0 ∷ 2 ∷ 2 ∷ []))
     -- P10: G = 382 gives 1 hole, 383 gives 2
-    ∷ (10, total (255 ∷ 127 ∷ 0 ∷ 0 ∷ []) 382 1 && total (255 ∷ 128 ∷ 0 ∷ 0 ∷ []) 383 2)
+    ∷ (10, total (240 ∷ 142 ∷ 0 ∷ 0 ∷ []) 382 1 && total (240 ∷ 143 ∷ 0 ∷ 0 ∷ []) 383 2)
     -- P11: Levels of P3 finished: 4, 65,026
     ∷ (11, same (levelsOf 2 p3 (after 1 p3 (9 ∷ []) .serials) .sums) (4 ∷ 65026 ∷ 0 ∷ 0 ∷ 0 ∷ 0 ∷ 0 ∷ 0 ∷ 0 ∷ []))
     -- P12: P3's fresh sheet with 1 added to the top: 5
@@ -393,7 +419,7 @@ numbers =
     map numberOf
     (Refusal.SideUnknown ∷ Refusal.GreysShort ∷ Refusal.PyramidShort ∷ Refusal.SheetShort ∷ Refusal.SheetUnsound
     ∷ Refusal.BlockUnknown ∷ Refusal.TextMalformed ∷ Refusal.OutputShort ∷ Refusal.InputLong
-    ∷ Refusal.NameUnknown ∷ Refusal.KnitUnknown ∷ [])
+    ∷ Refusal.NameUnknown ∷ Refusal.KnitUnknown ∷ Refusal.GreyHigh ∷ [])
 
 -- Load of a side and a knit, lent buffers of these lengths: greys, pyramid, serials, order
 unfoldable pub loads : ℕ → ℕ → ℕ → ℕ → ℕ → ℕ → Said
@@ -442,10 +468,10 @@ givesBack side dots knit =
     eqb (reply .progress .side) side && eqb (reply .progress .dots) dots && eqb (reply .progress .knit) knit
     && eqb (reply .made) 0
 
--- the holes of a map of side 4 that is 255 at these cells and 0 elsewhere, in their order
+-- the holes of a map of side 4 that is 240 at these cells and 0 elsewhere, in their order
 unfoldable pub darkAt : List ℕ → List ℕ
 darkAt [] = replicate 16 0
-darkAt (cell ∷ cells) = set (darkAt cells) cell 255
+darkAt (cell ∷ cells) = set (darkAt cells) cell 240
 
 unfoldable pub orderOf : List ℕ → List ℕ
 orderOf cells = take (length cells) (after 2 (darkAt cells) (9 ∷ []) .order)
@@ -460,7 +486,7 @@ plateRefuses input n = same (plateOf input) (refusedLine n)
 unfoldable pub quoteRefuses : List ℕ → ℕ → Bool
 quoteRefuses input n = same (quoteOf input) (refusedLine n)
 
--- "64"; "x"; "0", for a level; "2", "0,255", "0,0", and its list "1,2", "1,0,1"; the digits of 429496729 and a last one
+-- "64"; "x"; "0", for a level; "2", "0,240", "0,0", and its list "1,2", "1,0,1"; the digits of 429496729 and a last one
 unfoldable pub text64 : List ℕ
 text64 = 54 ∷ 52 ∷ 10 ∷ []
 
@@ -471,7 +497,7 @@ unfoldable pub level0 : List ℕ
 level0 = 48 ∷ 10 ∷ []
 
 unfoldable pub textRight : List ℕ
-textRight = 50 ∷ 10 ∷ 48 ∷ 44 ∷ 50 ∷ 53 ∷ 53 ∷ 10 ∷ 48 ∷ 44 ∷ 48 ∷ 10 ∷ []
+textRight = 50 ∷ 10 ∷ 48 ∷ 44 ∷ 50 ∷ 52 ∷ 48 ∷ 10 ∷ 48 ∷ 44 ∷ 48 ∷ 10 ∷ []
 
 unfoldable pub listRight : List ℕ
 listRight = 49 ∷ 44 ∷ 50 ∷ 10 ∷ 49 ∷ 44 ∷ 48 ∷ 44 ∷ 49 ∷ 10 ∷ []
@@ -523,7 +549,7 @@ shelfRefuses side n plates lent number =
 unfoldable pub singlePlates : List Row
 singlePlates =
     -- the numbers of the table; the powers of 1, 2, 4 .. 512 as sides, and of other numbers; some needed lengths
-    (50, same numbers (1 ∷ 2 ∷ 3 ∷ 4 ∷ 5 ∷ 6 ∷ 7 ∷ 8 ∷ 9 ∷ 10 ∷ 11 ∷ []))
+    (50, same numbers (1 ∷ 2 ∷ 3 ∷ 4 ∷ 5 ∷ 6 ∷ 7 ∷ 8 ∷ 9 ∷ 10 ∷ 11 ∷ 12 ∷ []))
     ∷ (51, same (tabulateFrom 0 10 (λ r. powerOf (2 ^ r))) (tabulateFrom 0 9 (λ r. r) ++ 0 ∷ []))
     ∷ (51, same (map powerOf (0 ∷ 3 ∷ 5 ∷ 31 ∷ 33 ∷ 255 ∷ 257 ∷ [])) (replicate 7 0))
     ∷ (52, eqb (needed 1) 5 && eqb (cellCount 1) 4 && eqb (needed 8) 87381 && eqb (cellCount 8) 65536)
@@ -543,12 +569,12 @@ singlePlates =
     ∷ (57, refuses (levelsOf 3 [] [] .said) 1 && refuses (levelsOf 2 three [] .said) 2)
     ∷ (57, refuses (levelsOf 2 p1 three .said) 4 && says (levelsOf 2 p1 p1 .said) [])
     ∷ (58, refuses (quotePageOf 2 three three 2 [] .said) 2 && refuses (quotePageOf 2 p1 three 2 [] .said) 4)
-    -- Map Text: first lines of three and of four digits; its room; a grey of 255 and one of 256; the bytes just before
+    -- Map Text: first lines of three and of four digits; its room; a grey of 240 and one of 256; the bytes just before
     -- and just behind the digits, as a number's first and as its second
     ∷ (59, refuses (reads (57 ∷ 57 ∷ 57 ∷ 10 ∷ []) 0) 1)
     ∷ (59, refuses (reads (49 ∷ 48 ∷ 48 ∷ 48 ∷ 10 ∷ []) 0) 7)
     ∷ (60, refuses (reads (textOfGrey (48 ∷ [])) 3) 2 && says (reads (textOfGrey (48 ∷ [])) 4) (2 ∷ []))
-    ∷ (61, says (reads (textOfGrey (50 ∷ 53 ∷ 53 ∷ [])) 4) (2 ∷ []))
+    ∷ (61, says (reads (textOfGrey (50 ∷ 52 ∷ 48 ∷ [])) 4) (2 ∷ []))
     ∷ (61, refuses (reads (textOfGrey (50 ∷ 53 ∷ 54 ∷ [])) 4) 7)
     ∷ (62, refuses (reads (textOfGrey (47 ∷ [])) 4) 7 && refuses (reads (textOfGrey (58 ∷ [])) 4) 7)
     ∷ (62, refuses (reads (textOfGrey (49 ∷ 47 ∷ [])) 4) 7 && refuses (reads (textOfGrey (49 ∷ 58 ∷ [])) 4) 7)
@@ -625,10 +651,11 @@ firstFailing (row ∷ rows) = elim (row .1) [ true ↦ firstFailing rows | false
 abbrev pub allPlates : List Row
 allPlates =
     plates ++ furtherPlates ++ singlePlates ++ stagePlates ++ knitPlates ++ spreadPlates ++ layoutPlates
+    ++ lowPlates
 
 -- no row is lost
-pub plates-there : length allPlates ≡ 190
-unfolding plates furtherPlates singlePlates stagePlates knitPlates spreadPlates layoutPlates
+pub plates-there : length allPlates ≡ 222
+unfolding plates furtherPlates singlePlates stagePlates knitPlates spreadPlates layoutPlates lowPlates
 plates-there = refl
 
 pub plates-hold : firstFailing allPlates ≡ 0
@@ -637,12 +664,14 @@ unfolding sumTo sumZTo allTo tabulateFrom joined repeated eqZ numberOf start pla
     dotsIn allDots candidate firstOfEquals lastOfEquals ofEquals choiceOf better largest descend weightsOf
     placesInTurn kernelOf within onMap weightAt share diffuse topOf modelStart missing placeDot step steps burntNear
     everyEntry fewDots numbered counted unused summed bounded owing isSound powerUpTo powerOf lowest greysRefusal
-    loadRefusal loaded loadOf dotsDue saidAt sheetIn advanceRefusal advanced advanceOf tallyRefusal tallyOf errorAt
+    noneHigh lowered lowMap loadRefusal loaded loadOf dotsDue saidAt sheetIn advanceRefusal advanced advanceOf
+    tallyRefusal tallyOf errorAt
     squared levelSum levelsRefusal levelsOf digitsUpTo decimal rightAligned line lineEnds isDigit digitsThen
-    fieldOf textInto rowsText mapText valuesOf readGreys readMap mapTextOf dotLines drillText drillListRefusal
+    fieldOf textInto rowsText mapText valuesOf readGreys readMap readLow mapTextOf textKept
+    textLowered lowerTextOf dotLines drillText drillListRefusal
     drillListOf quoteCap figures alignedLine quoteText quotePageRefusal quotePageOf isNear overThese renewed
     isSmall entriesSmall renewable renewalOf nextState greyOf sampleGreys stateAfter sampleOf sampleText
-    refusedText finishedOf plateOf quoteOfMap quoteOfText quoteOf pattern firstDifference compared
+    refusedText finishedOf plateOf quoteOfMap quoteOfText quoteOf convertOf pattern firstDifference compared
     compareRefusal compareOf plateAt isBefore insert inOrder shelfRefusal shelfOf heldAfterLoad callOf
     heldAfter outcomesOf heldAfterCalls repliesOf modelRefusal modelCall modelReply modelAfterCalls
     modelReplies greys4 order4
@@ -663,5 +692,7 @@ unfolding sumTo sumZTo allTo tabulateFrom joined repeated eqZ numberOf start pla
     restoreByQuarters renewalByQuarters relayRefusal relayOf quarters4 quarters8 quartersRibbed8 advances4 lists4
     restores4
     apart
-    renewsQuarters8 relays4 relayRefused layoutPlates plates furtherPlates singlePlates firstFailing
+    renewsQuarters8 relays4 relayRefused layoutPlates loadsHigh loadsNothing restoresHigh readsNothing
+    lowersNothing lowers highText lowText overText refusedHigh refusedText7 lowPlates plates furtherPlates
+    singlePlates firstFailing
 plates-hold = refl

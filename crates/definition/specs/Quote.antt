@@ -6,7 +6,7 @@ use lib.Dec.{ltb}
 use Rattle.definition.specs.Diffusion.{plain}
 use Rattle.definition.specs.Refusals.{powerOf}
 use Rattle.definition.specs.Text.{newline, field, malformed, fieldOf}
-use Rattle.definition.specs.MapText.{accepted, rejected, readMap}
+use Rattle.definition.specs.MapText.{accepted, rejected, readLow}
 use Rattle.definition.specs.QuotePage.{quoteText}
 use Rattle.definition.specs.Plate.{refusedText, finishedOf}
 
@@ -22,7 +22,7 @@ quoteOfMap level side greys =
 -- the map text behind the level's line is read as `plate` reads its own, with room for 1,024 greys
 unfoldable pub quoteOfText : ℕ → List ℕ → List ℕ
 quoteOfText level text =
-    elim (readMap text 1024) [ accepted side greys ↦ quoteOfMap level side greys | rejected n ↦ refusedText n ]
+    elim (readLow text 1024) [ accepted side greys ↦ quoteOfMap level side greys | rejected n ↦ refusedText n ]
 
 -- a level is any number of 32 bits; where the input doesn't begin with one on its line, that is 7
 unfoldable pub quoteOf : List ℕ → List ℕ

@@ -42,6 +42,10 @@ sheetShort r lent = (4, ltb lent (cellCount r))
 abbrev pub sheetUnsound : Bool → Row
 sheetUnsound sound = (5, not sound)
 
+-- a grey of the map above 240 (document 02, request 11), where `low` tells that none is
+abbrev pub greyHigh : Bool → Row
+greyHigh low = (12, not low)
+
 -- "k above r, or a or b not below 2^k"
 abbrev pub blockUnknown : ℕ → ℕ → ℕ → ℕ → Row
 blockUnknown r k a b = (6, ltb r k || leb (2 ^ k) a || leb (2 ^ k) b)
@@ -55,7 +59,7 @@ abbrev pub outputShort : ℕ → ℕ → Row
 outputShort list lent = (8, ltb lent list)
 
 -- The first row of the call's list that applies; 0 if none does. In document 01 the rows go by rising number, so that
--- this is the lowest that applies; document 02 puts 11 directly after 1.
+-- this is the lowest that applies; document 02 puts 11 directly after 1, and 12 before 10.
 unfoldable pub lowest : List Row → ℕ
 lowest [] = 0
 lowest (row ∷ rows) = cond (row .1) (row .0) (lowest rows)

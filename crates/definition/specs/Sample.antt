@@ -4,6 +4,7 @@ use Prim.Native.Nat.{ℕ, zero, suc, _+_, _*_, _/_, _%_, _^_}
 use lib.ListN.{length, drop}
 use Rattle.definition.specs.Answers.{GreysOutcome, returned, refused}
 use Rattle.definition.specs.Pyramid.{cellCount}
+use Rattle.definition.specs.Lowering.{lowered}
 use Rattle.definition.specs.Refusals.{powerOf, greysRefusal}
 use Rattle.definition.specs.MapText.{mapText}
 
@@ -36,6 +37,7 @@ sampleOf seed side greys =
       | suc k ↦ record { said = refused (suc k); greys = greys }
     ]
 
--- "A program prints the sample of seed 1 and side 32 as map text."
+-- What the program `sample` prints: the map text of seed 1 and side 32 (document 02, request 4), with its greys lowered
+-- first (request 11). The call itself fills greys up to 255.
 unfoldable pub sampleText : List ℕ
-sampleText = mapText 32 (sampleGreys (32 * 32) 1)
+sampleText = mapText 32 (lowered (sampleGreys (32 * 32) 1))

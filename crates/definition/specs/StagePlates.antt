@@ -125,7 +125,7 @@ stagePlates =
     -- Restore on P3 finished: to no dot, to one, to the total; forwards from a fresh sheet; to one dot of other greys
     ∷ (85, goesBack (9 ∷ []) p3 twoKept 7 0 && goesBack (9 ∷ []) p3 twoKept 8 1)
     ∷ (85, goesBack (9 ∷ []) p3 (3 ∷ replicate 7 0) 1 2 && goesBack [] p3 twoKept 8 1)
-    ∷ (85, goesBack (9 ∷ []) (255 ∷ 128 ∷ 0 ∷ 0 ∷ 9 ∷ []) twoKept 8 1)
+    ∷ (85, goesBack (9 ∷ []) (240 ∷ 143 ∷ 0 ∷ 0 ∷ 9 ∷ []) twoKept 8 1)
     -- its refusals in turn, each buffer one place short, and all behind it bad too; then the names 9 and 0, an empty
     -- one, one with a dot too many, and the only one left
     ∷ (86, refuses (restores 3 2 3 4 3 3 1 0 9) 1 && refuses (restores 2 2 3 4 3 3 1 0 9) 11)

@@ -22,6 +22,7 @@ pub enum Refusal {
     InputLong,
     NameUnknown,
     KnitUnknown,
+    GreyHigh,
 }
 
 // Whether Load filled the buffers.
@@ -73,7 +74,7 @@ pub enum MapTextAnswer {
     Refused(Refusal),
 }
 
-// Drill List and Quote Page: the length of the text that was written.
+// Drill List, Quote Page and Lower Text: the length of the text that was written.
 pub enum TextAnswer {
     Length(usize),
     Refused(Refusal),

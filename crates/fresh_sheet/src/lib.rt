@@ -5,12 +5,26 @@ ghost use mathlib.Core.Path.{_≡_};
 ghost use mathlib.Core.List.{_++_};
 ghost use Prim.Native.Nat.{_≤_};
 ghost use lib.ListN.{length, drop, replicate};
-ghost use Rattle.definition.specs.Load.{loadRefusal};
+ghost use Rattle.definition.specs.Load.{lowMap, loadRefusal};
 ghost use Rattle.places.specs.Table.{places};
 ghost use Rattle.checks.specs.Checks.{checked};
 ghost use Rattle.fresh_sheet.specs.Filling.{FillLent, Filled};
 
-// Refusals 1, 11, 2, 3, 4, from the side's power, the knit and the lengths lent.
+// Whether no grey of the map is above 240. What lies behind its cells is not looked at; where fewer greys are lent,
+// those are.
+pub fn low_map(r: usize, greys: &[u8]) -> bool
+    requires { ⌜ r ≤ 8 ⌝ }
+    ensures { λ b. ⌜ b ≡ lowMap r (now (greys .entry)) ⌝ }
+{
+    let cells = sizes::cell_count(r);
+    if greys.len() < cells {
+        return lower::none_high(greys);
+    }
+    lower::none_high(&greys[..cells])
+}
+
+// Load's refusals 1, 11, 2, 3, 4, 12, from the side's power, the knit, the lengths lent, and whether the map's greys
+// are low.
 pub fn check_load(
     r: usize,
     knit: u32,
@@ -18,9 +32,10 @@ pub fn check_load(
     pyramid: usize,
     serials: usize,
     order: usize,
+    low: bool,
 ) -> Check
     requires { ⌜ r ≤ 8 ⌝ }
-    ensures { λ c. ⌜ checked c ≡ loadRefusal r knit greys pyramid serials order ⌝ }
+    ensures { λ c. ⌜ checked c ≡ loadRefusal r knit greys pyramid serials order low ⌝ }
 {
     let cells = sizes::cell_count(r);
     let needed = sizes::needed(r);
@@ -41,6 +56,9 @@ pub fn check_load(
     }
     if order < cells {
         return Check::Failed(Refusal::SheetShort);
+    }
+    if !low {
+        return Check::Failed(Refusal::GreyHigh);
     }
     Check::Passed
 }

@@ -1,19 +1,18 @@
--- The grammar of map texts: the reader accepts a text exactly if it is the text of a map that fits. So a written text is read back, and
--- the call returns a map's side and leaves its greys exactly on the map's text.
-use mathlib.Core.Path.{_≡_, refl, ap, _∙_}
-use mathlib.Core.List.{List, [], _∷_, _++_}
+-- The grammar of map texts: its reader accepts a text exactly if it is the text of a map that fits. So a written text
+-- is read back.
+use mathlib.Core.Path.{_≡_, refl, _∙_}
+use mathlib.Core.List.{List, _∷_, _++_}
 use mathlib.Core.Logic.{_↔_}
 use mathlib.Core.Option.{some, none}
 use Prim.Native.Nat.{ℕ, zero, suc, _*_, _<_, _≤_}
 use native.Mathlib.Nat.{suc-ne-zero}
 use native.Mathlib.Omega.{arith}
-use lib.ListN.{length, getD, drop}
+use lib.ListN.{length, getD}
 use lib.Seq.{append-snoc}
 use Rattle.definition.specs.Lists.{repeated}
-use Rattle.definition.specs.Answers.{GreysOutcome, returned}
 use Rattle.definition.specs.Refusals.{powerOf, greysRefusal}
 use Rattle.definition.specs.Text.{newline, decimal, line, lineEnds, field, malformed, isDigit, fieldOf}
-use Rattle.definition.specs.MapText.{mapText, valuesOf, accepted, rejected, readGreys, readMap, mapTextOf}
+use Rattle.definition.specs.MapText.{mapText, valuesOf, accepted, readGreys, readMap}
 use Rattle.grammar.specs.Fields.{field-of-decimal, text-of-field}
 use Rattle.grammar.specs.Lines.{fieldsText, rowsText-fields, length-repeated-lineEnds, repeated-lineEnds-no-digits, values-of-fields, fields-of-values}
 use Rattle.refusals.specs.Powers.{side-positive, side-most, cellCount-side}
@@ -111,23 +110,3 @@ pub written-text-accepted : (room side : ℕ) (greys : List ℕ) → 0 < powerOf
     → ((i : ℕ) → i < length greys → getD greys i 0 ≤ 255) → side * side ≤ room → readMap (mapText side greys) room ≡ accepted side greys
 written-text-accepted room side greys p c s f =
     grammar (mapText side greys) room side greys .1 (record { bytes = refl; one-of-eight = p; count = c; small = s; fits = f })
-
--- on a map's text the call returns the side, and leaves the greys with the rest of the buffer behind them
-pub map-text-outcome : (text buffer : List ℕ) (side : ℕ) (greys : List ℕ) → MapOf text (length buffer) side greys
-    → mapTextOf text buffer ≡ record { said = returned (side ∷ []); greys = greys ++ drop (side * side) buffer }
-unfolding mapTextOf
-map-text-outcome text buffer side greys m = rw (← m .count, grammar text (length buffer) side greys .1 m, mapTextOf)
-
--- and on no other text does it return a side
-pub map-text-returned-iff : (text buffer : List ℕ) (side : ℕ)
-    → (mapTextOf text buffer .said ≡ returned (side ∷ [])) ↔ ((greys : List ℕ) × MapOf text (length buffer) side greys)
-unfolding mapTextOf
-map-text-returned-iff text buffer side = (
-  λ e.
-      (elim (readMap text (length buffer)) as (λ o. readMap text (length buffer) ≡ o → (greys : List ℕ) × MapOf text (length buffer) side greys) [
-        | accepted n greys ↦
-            λ q. let n-is : n ≡ side = cc (rw (q, mapTextOf) at e) in (greys, grammar text (length buffer) side greys .0 (rw n-is at q))
-        | rejected n ↦ λ q. absurd (suc-ne-zero 0 (cc (rw (q, mapTextOf) at e)))
-      ]) refl,
-  λ m. ap (λ (o : GreysOutcome). o .said) (map-text-outcome text buffer side (m .0) (m .1)),
-)

@@ -2,3 +2,5 @@ pub mod Decimal
 pub mod Fields
 pub mod Lines
 pub mod Grammar
+pub mod MapText
+pub mod LowerText

@@ -3,6 +3,7 @@
 use mathlib.Core.Path.{_≡_, refl, sym, ap, _∙_}
 use mathlib.Core.Bool.{false}
 use mathlib.Core.List.{List, [], _∷_, _++_, append-assoc}
+use mathlib.Core.Logic.{_↔_}
 use mathlib.Core.Option.{some, none}
 use Prim.Native.Nat.{ℕ, zero, suc, _-_, _*_, _<_, _≤_}
 use native.Mathlib.Nat.{suc-mul, suc-ne-zero}
@@ -126,3 +127,16 @@ module _ (most : ℕ) where
                     (record { bytes = rw (← t .bytes) (f .0); count = ap suc (t .count); small = atMost-cons most v others (f .1) (t .small) })
               ]) refl
         ]) refl
+
+-- with a lower bound the reader reads the same numbers, where none of them is above it
+pub values-within : (most larger : ℕ) → 9 ≤ most → most ≤ larger → (ends text values : List ℕ) → NoDigits ends
+    → (valuesOf most ends text ≡ some values) ↔ ((valuesOf larger ends text ≡ some values) × AtMost most values)
+values-within most larger nine h ends text values n = (
+  λ e.
+      let f = fields-of-values most nine ends text values e in
+      let read = values-of-fields larger ends values n (f .count) (λ i k. omega (arith, f .small i k)) in
+      (rw (f .bytes) read, f .small),
+  λ e.
+      let f = fields-of-values larger (omega arith) ends text values (e .0) in
+      rw (f .bytes) (values-of-fields most ends values n (f .count) (e .1)),
+)

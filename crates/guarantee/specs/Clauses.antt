@@ -3,7 +3,7 @@
 -- `demand-3`, so none of them can go, or say less, unnoticed. The last law says who may ask: nobody is left out.
 use mathlib.Core.Path.{_≡_, sym, ap, _∙_}
 use mathlib.Core.Logic.{_≢_, _↔_}
-use mathlib.Core.Bool.{false}
+use mathlib.Core.Bool.{true, false}
 use mathlib.Core.List.{List, []}
 use Prim.Native.Nat.{ℕ, suc, _+_, _*_, _-_, _/_, _^_, _≤_, _<_, min}
 use native.Mathlib.Omega.{arith}
@@ -16,7 +16,7 @@ use Rattle.definition.specs.Blocks.{greySum, greyTotal, dotsIn, allDots}
 use Rattle.definition.specs.Diffusion.{kernelOf}
 use Rattle.definition.specs.Model.{Halftone, topOf, modelStart, steps}
 use Rattle.definition.specs.Refusals.{powerOf}
-use Rattle.definition.specs.Load.{loadRefusal, loaded, loadOf}
+use Rattle.definition.specs.Load.{lowMap, loadRefusal, loaded, loadOf}
 use Rattle.definition.specs.Quarters.{interleaved, quarterEntry, quartersFrom}
 use Rattle.definition.specs.ByQuarters.{loadByQuarters}
 use Rattle.definition.specs.Advance.{Reply, AdvanceOutcome}
@@ -38,7 +38,7 @@ use Rattle.refusals.specs.Lowest.{LoadLent, load-none}
 use Rattle.layouts.specs.Relaid.{quarters-entry}
 use Rattle.layouts.specs.Lent.{rows-length, quarter-taken}
 use Rattle.guarantee.specs.Demand3.{Each, Accepted, Demand3}
-use Rattle.guarantee.specs.Start.{each-of}
+use Rattle.guarantee.specs.Start.{each-of, at-low-map}
 use Rattle.guarantee.specs.Theorem.{demand-3}
 
 module _ (side knit : ℕ) (greys : List ℕ) (pyramid : List ℤ) (serials order : List ℕ)
@@ -174,15 +174,16 @@ module _ (side knit : ℕ) (greys : List ℕ) (pyramid : List ℤ) (serials orde
         let fits = demand .quotes k a b level row column .fits in
         (fits .0, fits .1 .0, fits .1 .1 .0, fits .1 .1 .1 .0, fits .1 .1 .1 .1 .0)
 
--- ---- who may ask: each of the eight sides and either knit, with bytes as greys and buffers that are long enough,
--- whatever they hold
+-- ---- who may ask: each of the eight sides and either knit, with bytes as greys, those of the map at most 240, and
+-- buffers that are long enough, whatever they hold
 pub everyone : (r knit : ℕ) → 1 ≤ r → r ≤ 8 → knit ≤ 1
     → (greys : List ℕ) (pyramid : List ℤ) (serials order : List ℕ)
     → 2 ^ r * 2 ^ r ≤ length greys → (4 ^ suc r - 1) / 3 ≤ length pyramid
     → 2 ^ r * 2 ^ r ≤ length serials → 2 ^ r * 2 ^ r ≤ length order
     → ((i : ℕ) → i < length greys → getD greys i 0 ≤ 255)
+    → ((i : ℕ) → i < 2 ^ r * 2 ^ r → getD greys i 0 ≤ 240)
     → Accepted (2 ^ r) knit greys pyramid serials order
-everyone r knit some most known greys pyramid serials order g p s o bytes =
+everyone r knit some most known greys pyramid serials order g p s o bytes low =
     record { bytes = each-of (λ grey. grey ≤ 255) greys 0 bytes; said = said }
   where
     lent : LoadLent r knit (length greys) (length pyramid) (length serials) (length order)
@@ -196,10 +197,15 @@ everyone r knit some most known greys pyramid serials order g p s o bytes =
           order-long = o;
         }
 
-    none : loadRefusal (powerOf (2 ^ r)) knit (length greys) (length pyramid) (length serials) (length order) ≡ 0
+    low-front : lowMap r greys ≡ true
+    low-front = at-low-map r greys low
+
+    none : loadRefusal (powerOf (2 ^ r)) knit (length greys) (length pyramid) (length serials) (length order)
+        (lowMap (powerOf (2 ^ r)) greys) ≡ 0
     none =
         rw (powerOf-pow r some most)
-        (load-none r knit (length greys) (length pyramid) (length serials) (length order) .1 lent)
+        (load-none r knit (length greys) (length pyramid) (length serials) (length order) (lowMap r greys) .1
+        (lent, low-front))
 
     said : loadByQuarters (2 ^ r) knit greys pyramid serials order .said ≡ returned []
     said =

@@ -93,12 +93,17 @@ pub record Holds (knit r G : ℕ) (greys : List ℕ) (lentPyramid : List ℤ) (l
   pub debt : pos (oneDot * held .progress .dots) +ℤ topOf (held .pyramid) ≡ pos (256 * G)
   pub ends : Each (Ends r (totalOf G)) outcomes
 
--- Demand 3 of one list of calls on the buffers that Load was lent.
-abbrev pub Demand3 : ℕ → ℕ → List ℕ → List ℤ → List ℕ → List ℕ → List Call → Type 0
-Demand3 side knit greys pyramid serials order calls =
-    let r = powerOf side in
-    let fresh = heldAfterLoad side knit greys pyramid serials order in
+-- What a list of calls makes of a fresh sheet that the caller holds, beside what it makes of the model's start of these
+-- greys.
+abbrev pub HoldsFrom : Held → ℕ → ℕ → List ℕ → List ℤ → List ℕ → List ℕ → List Call → Type 0
+HoldsFrom fresh knit r greys pyramid serials order calls =
     let model = modelStart r greys in
     Holds knit r (greyTotal r greys) greys pyramid serials order calls
     (heldAfterCalls fresh calls) (outcomesOf fresh calls) (repliesOf fresh calls)
     (modelAfterCalls knit r model calls) (modelReplies knit r model calls)
+
+-- Demand 3 of one list of calls on the buffers that Load was lent.
+abbrev pub Demand3 : ℕ → ℕ → List ℕ → List ℤ → List ℕ → List ℕ → List Call → Type 0
+Demand3 side knit greys pyramid serials order calls =
+    HoldsFrom (heldAfterLoad side knit greys pyramid serials order) knit (powerOf side)
+    greys pyramid serials order calls

@@ -4,11 +4,12 @@ use mathlib.Core.Path.{_≡_, refl}
 use mathlib.Core.List.{List, [], _∷_}
 use Prim.Native.Nat.{ℕ}
 use native.Mathlib.Omega.{arith}
-use lib.ListN.{replicate}
+use lib.ListN.{drop, replicate}
 use lib.IntN.{ℤ, pos}
 use Rattle.definition.specs.Lists.{sumTo, allTo, tabulateFrom, joined, eqZ}
 use Rattle.definition.specs.Answers.{Said, finished, more, refused}
-use Rattle.definition.specs.Pyramid.{start, placeIn, rowAt, columnAt, levelOf, inLevel, entry, four, coarser, pyramidOver}
+use Rattle.definition.specs.Pyramid.{needed, cellCount, start, placeIn, rowAt, columnAt}
+use Rattle.definition.specs.Pyramid.{levelOf, inLevel, entry, four, coarser, pyramidOver}
 use Rattle.definition.specs.Blocks.{greyAt, burnt, burntAt}
 use Rattle.definition.specs.Descent.{
   candidate,
@@ -35,7 +36,8 @@ use Rattle.definition.specs.Diffusion.{
 use Rattle.definition.specs.Model.{topOf, modelStart, missing, placeDot, step, steps}
 use Rattle.definition.specs.Sound.{burntNear, everyEntry, fewDots, numbered, counted, unused, summed, bounded, owing, isSound}
 use Rattle.definition.specs.Refusals.{powerUpTo, powerOf, lowest}
-use Rattle.definition.specs.Load.{loadRefusal, loaded, loadOf}
+use Rattle.definition.specs.Lowering.{noneHigh}
+use Rattle.definition.specs.Load.{lowMap, loadRefusal, loaded, loadOf}
 use Rattle.definition.specs.Advance.{Reply, dotsDue, saidAt, sheetIn, advanceRefusal, advanced, advanceOf}
 use Rattle.definition.specs.Quarters.{
   interleaved,
@@ -51,8 +53,9 @@ use Rattle.definition.specs.Quarters.{
 }
 use Rattle.definition.specs.ByQuarters.{loadByQuarters, advanceByQuarters}
 use Rattle.definition.specs.Calls.{Call, heldAfterLoad, callOf, heldAfter, outcomesOf, repliesOf}
-use Rattle.guarantee.specs.Demand3.{Accepted, Demand3}
-use Rattle.guarantee.specs.Theorem.{demand-3}
+use Rattle.guarantee.specs.Demand3.{Accepted, HoldsFrom, Demand3}
+use Rattle.guarantee.specs.Lent.{heldOf}
+use Rattle.guarantee.specs.Theorem.{loaded-before, demand-3}
 
 abbrev greys : List ℕ
 greys = 128 ∷ 128 ∷ 128 ∷ 128 ∷ []
@@ -70,13 +73,13 @@ abbrev calls : List Call
 calls = call 0 6 ∷ call 1 4 ∷ call 1 6 ∷ call 1 5 ∷ []
 
 accepted : Accepted 2 plain greys pyramid sheet sheet
-unfolding loadByQuarters asRows relaid rowsFrom joined levelOf tabulateFrom loadOf loadRefusal loaded lowest powerOf
-    powerUpTo start
+unfolding loadByQuarters asRows relaid rowsFrom joined levelOf tabulateFrom loadOf loadRefusal lowMap noneHigh loaded
+    lowest powerOf powerUpTo start
 accepted = record { bytes = (omega arith, (omega arith, (omega arith, (omega arith, tt)))); said = refl }
 
 accepted-ribbed : Accepted 2 ribbed greys pyramid sheet sheet
-unfolding loadByQuarters asRows relaid rowsFrom joined levelOf tabulateFrom loadOf loadRefusal loaded lowest powerOf
-    powerUpTo start
+unfolding loadByQuarters asRows relaid rowsFrom joined levelOf tabulateFrom loadOf loadRefusal lowMap noneHigh loaded
+    lowest powerOf powerUpTo start
 accepted-ribbed = record { bytes = accepted .bytes; said = refl }
 
 pub holds-here : Demand3 2 plain greys pyramid sheet sheet calls
@@ -84,6 +87,18 @@ holds-here = demand-3 2 plain greys pyramid sheet sheet accepted calls
 
 pub holds-ribbed : Demand3 2 ribbed greys pyramid sheet sheet calls
 holds-ribbed = demand-3 2 ribbed greys pyramid sheet sheet accepted-ribbed calls
+
+-- the same calls on a sheet that was loaded before request 11, of four greys of 255
+abbrev dark : List ℕ
+dark = 255 ∷ 255 ∷ 255 ∷ 255 ∷ []
+
+pub holds-before :
+    HoldsFrom
+    (heldOf plain 1 (modelStart 1 dark) (drop (needed 1) pyramid) (drop (cellCount 1) sheet) (drop (cellCount 1) sheet))
+    plain 1 dark pyramid sheet sheet calls
+holds-before =
+    loaded-before 1 plain (omega arith) (omega arith) (omega arith) dark
+    (omega arith, (omega arith, (omega arith, (omega arith, tt)))) pyramid sheet sheet calls
 
 -- what the calls reply on either cloth, by computing: more; refused, 3; more; finished
 abbrev reply : ℕ → ℕ → ℕ → Said → Reply
@@ -102,7 +117,8 @@ unfolding sumTo allTo tabulateFrom eqZ start placeIn rowAt columnAt levelOf inLe
     pyramidOver greyAt burnt burntAt candidate firstOfEquals lastOfEquals ofEquals choiceOf better largest
     descend weightsOf placesInTurn kernelOf within onMap weightAt share diffuse topOf modelStart missing placeDot
     step steps burntNear everyEntry fewDots numbered counted unused summed bounded owing isSound powerUpTo powerOf
-    lowest loadRefusal loaded loadOf dotsDue saidAt sheetIn advanceRefusal advanced advanceOf heldAfterLoad callOf
+    lowest loadRefusal lowMap noneHigh loaded loadOf dotsDue saidAt sheetIn advanceRefusal advanced advanceOf
+    heldAfterLoad callOf
     heldAfter outcomesOf repliesOf interleaved rowOf columnOf quarterEntry quarterLevel rowsFrom quartersFrom relaid
     asRows asQuarters joined loadByQuarters advanceByQuarters
 replies-here = (refl, refl)

@@ -8,6 +8,7 @@ pub mod OneCall
 pub mod ManyCalls
 pub mod Theorem
 pub mod Clauses
+pub mod Full
 pub mod Sharp
 pub mod Relay
 pub mod Example

@@ -1,10 +1,12 @@
 -- The model's start, on greys that are bytes: a sound sheet, with every square's cap and the total. And what an accepted Load leaves is that start.
 use mathlib.Core.Path.{_≡_, refl, sym, ap, _∙_}
+use mathlib.Core.Bool.{true}
 use mathlib.Core.List.{List, [], _∷_, _++_}
 use Prim.Native.Nat.{ℕ, zero, suc, _+_, _*_, _^_, _≤_, _<_}
 use native.Mathlib.Omega.{arith}
 use native.Mathlib.Nat.{zero-mul}
-use lib.ListN.{length, getD, drop, length-replicate, List·getD-append}
+use lib.ListN.{length, getD, take, drop, length-take, length-replicate, List·getD-append}
+use lib.Seq.{length-take-le, getD-take}
 use lib.IntN.{ℤ, pos}
 use Rattle.definition.specs.Answers.{refused}
 use Rattle.definition.specs.Pyramid.{cellCount, cellNumber, needed, placeIn, rowAt, columnAt, levelOf, entry}
@@ -12,11 +14,12 @@ use Rattle.definition.specs.Blocks.{greyAt, burnt, burntAt, greySum, greyTotal,
 use Rattle.definition.specs.Model.{Halftone, topOf, modelStart}
 use Rattle.definition.specs.Sound.{Sound}
 use Rattle.definition.specs.Refusals.{powerOf}
-use Rattle.definition.specs.Load.{loadRefusal, loaded, loadOf}
+use Rattle.definition.specs.Load.{lowMap, loadRefusal, loaded, loadOf}
 use Rattle.definition.specs.Advance.{dotsDue}
 use Rattle.definition.specs.Quarters.{quartersFrom, asRows, asQuarters}
 use Rattle.definition.specs.ByQuarters.{loadByQuarters}
 use Rattle.definition.specs.Calls.{heldAfterLoad}
+use Rattle.lowering.specs.Low.{low-at, at-low}
 use Rattle.integers.specs.Linear.{zz, ints, up-or-dn}
 use Rattle.integers.specs.Lists.{getD-replicate-self, tabulate-ext}
 use Rattle.integers.specs.Sums.{sumTo-zero}
@@ -162,22 +165,44 @@ module _ (r : ℕ) (values rest : List ℕ) (enough : cellCount r ≤ length val
       ∙ area-ext 0 0 (2 ^ r) _ _ (λ x y u v. grey-front x y (cell-lt (2 ^ r) x y (omega arith) (omega arith)))
       ∙ sym (total-area r values)
 
+-- ---- low greys: each cell of the map has at most 240, and the other way round
+pub low-map-at : (r : ℕ) (greys : List ℕ) → lowMap r greys ≡ true → cellCount r ≤ length greys
+    → (i : ℕ) → i < cellCount r → getD greys i 0 ≤ 240
+unfolding lowMap
+low-map-at r greys e enough i h =
+    rw (getD-take (cellCount r) greys i 0 h) at
+    (low-at (take (cellCount r) greys) e i (omega (arith, length-take-le (cellCount r) greys enough)))
+
+pub at-low-map : (r : ℕ) (greys : List ℕ) → ((i : ℕ) → i < cellCount r → getD greys i 0 ≤ 240)
+    → lowMap r greys ≡ true
+unfolding lowMap
+at-low-map r greys low =
+    at-low (take (cellCount r) greys)
+    (λ i h.
+    let k : i < cellCount r = omega (arith, length-take (cellCount r) greys) in
+    rw (getD-take (cellCount r) greys i 0 k) (low i k))
+
 -- ---- Load
 -- what an accepted Load was lent
 pub record Loaded (side knit : ℕ) (greys : List ℕ) (pyramid : List ℤ) (serials order : List ℕ) : Type 0 where
-  pub none : loadRefusal (powerOf side) knit (length greys) (length pyramid) (length serials) (length order) ≡ 0
+  pub none : loadRefusal (powerOf side) knit (length greys) (length pyramid) (length serials) (length order)
+      (lowMap (powerOf side) greys) ≡ 0
   pub lent : LoadLent (powerOf side) knit (length greys) (length pyramid) (length serials) (length order)
+  pub low : lowMap (powerOf side) greys ≡ true
   pub side-is : side ≡ 2 ^ powerOf side
 
 module _ (side knit : ℕ) (greys : List ℕ) (pyramid : List ℤ) (serials order : List ℕ) where
   abbrev refusal : ℕ
-  refusal = loadRefusal (powerOf side) knit (length greys) (length pyramid) (length serials) (length order)
+  refusal =
+      loadRefusal (powerOf side) knit (length greys) (length pyramid) (length serials) (length order)
+      (lowMap (powerOf side) greys)
 
   pub accepted-loaded : Accepted side knit greys pyramid serials order → Loaded side knit greys pyramid serials order
   accepted-loaded h =
       let z = go refusal refl in
-      let l = load-none (powerOf side) knit (length greys) (length pyramid) (length serials) (length order) .0 z in
-      record { none = z; lent = l; side-is = side-pow side (l .power) }
+      let l = load-none (powerOf side) knit (length greys) (length pyramid) (length serials) (length order)
+      (lowMap (powerOf side) greys) .0 z in
+      record { none = z; lent = l .0; low = l .1; side-is = side-pow side (l .0 .power) }
     where
       said-no : (n : ℕ) → refusal ≡ suc n
           → loadByQuarters side knit greys pyramid serials order .said ≡ refused (suc n)

@@ -22,13 +22,13 @@ use Rattle.definition.specs.Quarters.{quartersFrom}
 use Rattle.definition.specs.Calls.{Call, callOf, outcomesOf, repliesOf, modelCall, modelReply, modelAfterCalls, modelReplies, isRefusal}
 use Rattle.integers.specs.Linear.{zz, ints}
 use Rattle.integers.specs.Sums.{sumTo-rows, sumTo-ext}
-use Rattle.refusals.specs.Powers.{power-small}
+use Rattle.refusals.specs.Powers.{power-small, powerOf-pow, powerOf-small}
 use Rattle.quadtree.specs.Areas.{span, area, area-ext, block-area}
 use Rattle.quadtree.specs.Levels.{start-suc, cell-lt, block-side, block-on-map}
 use Rattle.layouts.specs.Relaid.{length-quarters, quarters-top}
 use Rattle.shares.specs.Kernels.{knit-fit}
 use Rattle.dots.specs.Steps.{Sheet, steps-keep}
-use Rattle.guarantee.specs.Demand3.{Each, EachBlock, Accepted, UnderCap, Ends, Holds, Demand3}
+use Rattle.guarantee.specs.Demand3.{Each, EachBlock, Accepted, UnderCap, Ends, Holds, HoldsFrom, Demand3}
 use Rattle.guarantee.specs.Floor.{floor}
 use Rattle.guarantee.specs.Quote.{figures-fit, under-quote}
 use Rattle.guarantee.specs.Capped.{Capped, capped-kept}
@@ -215,19 +215,28 @@ module _ (knit : ℕ) (known : knit ≤ 1) (r : ℕ) (big : 2 ≤ 2 ^ r) (power 
           ends = ends-all p s o cs fresh (start-sheet r greys bytes) due-total;
         }
 
--- Demand 3, for either knit
+-- A sheet that was loaded before document 02's request 11, when greys went up to 255, may be burnt to its end under its
+-- own total: of the model's start of such greys, in buffers with anything behind it, every list of calls keeps all that
+-- demand 3 says.
+pub loaded-before : (r knit : ℕ) → 1 ≤ r → r ≤ 8 → knit ≤ 1 → (greys : List ℕ) → Each (λ grey. grey ≤ 255) greys
+    → (pyramid : List ℤ) (serials order : List ℕ) (calls : List Call)
+    → HoldsFrom
+    (heldOf knit r (modelStart r greys)
+    (drop (needed r) pyramid) (drop (cellCount r) serials) (drop (cellCount r) order))
+    knit r greys pyramid serials order calls
+loaded-before r knit some most known greys bytes pyramid serials order calls =
+    let big : 2 ≤ 2 ^ r = pow-mono {i = 1} {j = r} some in
+    let power : powerOf (2 ^ r) ≡ r = powerOf-pow r some most in
+    rw (calls-held knit known r big power (drop (needed r) pyramid) (drop (cellCount r) serials)
+    (drop (cellCount r) order) calls (modelStart r greys) (start-sheet r greys bytes))
+    (holds knit known r big power greys bytes calls pyramid serials order)
+
+-- Demand 3, for either knit: an accepted Load leaves such a sheet
 pub demand-3 : (side knit : ℕ) (greys : List ℕ) (pyramid : List ℤ) (serials order : List ℕ)
     → Accepted side knit greys pyramid serials order → (calls : List Call)
     → Demand3 side knit greys pyramid serials order calls
 demand-3 side knit greys pyramid serials order accepted calls =
     let h = accepted-loaded side knit greys pyramid serials order accepted in
-    let r = powerOf side in
-    let known = h .lent .known in
-    let big : 2 ≤ 2 ^ r = pow-mono {i = 1} {j = r} (h .lent .power) in
-    let power : powerOf (2 ^ r) ≡ r = ap powerOf (sym (h .side-is)) in
-    rw (
-      loaded-held side knit greys pyramid serials order h,
-      calls-held knit known r big power (drop (needed r) pyramid) (drop (cellCount r) serials)
-          (drop (cellCount r) order) calls (modelStart r greys) (start-sheet r greys (accepted .bytes)),
-    )
-    (holds knit known r big power greys (accepted .bytes) calls pyramid serials order)
+    rw (loaded-held side knit greys pyramid serials order h)
+    (loaded-before (powerOf side) knit (h .lent .power) (powerOf-small side) (h .lent .known) greys (accepted .bytes)
+    pyramid serials order calls)

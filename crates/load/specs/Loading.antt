@@ -1,5 +1,6 @@
 -- Load's two ways out: refused, with nothing changed, and loaded. Either is told of the pyramid row after row first.
 use mathlib.Core.Path.{_≡_, _∙_}
+use mathlib.Core.Bool.{Bool}
 use mathlib.Core.List.{List, _++_}
 use Prim.Native.Nat.{ℕ, suc, _-_}
 use lib.ListN.{length, drop}
@@ -8,7 +9,7 @@ use Rattle.definition.specs.Answers.{loadSays, numberOf}
 use Rattle.definition.specs.Refusals.{powerOf}
 use Rattle.definition.specs.Pyramid.{needed}
 use Rattle.definition.specs.Model.{modelStart}
-use Rattle.definition.specs.Load.{loadRefusal, loaded, loadOf}
+use Rattle.definition.specs.Load.{lowMap, loadRefusal, loaded, loadOf}
 use Rattle.definition.specs.Quarters.{quartersFrom, asRows, asQuarters}
 use Rattle.definition.specs.ByQuarters.{loadByQuarters}
 use Rattle.definition.specs.declared.Refusal.{Refusal}
@@ -26,13 +27,17 @@ use Rattle.pyramid.specs.Fresh.{fresh-length}
 use Rattle.fresh_sheet.specs.Filling.{FillLent, fill-lent, Filled}
 
 module _ (side knit : ℕ) {r : ℕ} (er : r ≡ powerOf side) (g : List ℕ) (p : List ℤ) (s o : List ℕ)
-    (check : Check)
-    (e : checked check ≡ loadRefusal r knit (length g) (length p) (length s) (length o)) where
+    {low : Bool} (el : low ≡ lowMap r g) (check : Check)
+    (e : checked check ≡ loadRefusal r knit (length g) (length p) (length s) (length o) low) where
   abbrev rows : List ℤ
   rows = asRows (powerOf side) p
 
-  check-rows : checked check ≡ loadRefusal (powerOf side) knit (length g) (length rows) (length s) (length o)
-  check-rows = rw (rows-length (powerOf side) p, ← er) e
+  abbrev refusal : ℕ
+  refusal =
+      loadRefusal (powerOf side) knit (length g) (length rows) (length s) (length o) (lowMap (powerOf side) g)
+
+  check-rows : checked check ≡ refusal
+  check-rows = rw (rows-length (powerOf side) p, ← er, ← el) e
 
   pub refused-is : {why : Refusal} {a : LoadAnswer} → check ≡ Failed why
       → a ≡ record { progress = record { side = 0; dots = 0; knit = 0 }; status = Refused why }
@@ -40,16 +45,14 @@ module _ (side knit : ℕ) {r : ℕ} (er : r ≡ powerOf side) (g : List ℕ) (p
       ≡ loadByQuarters side knit g p s o
   unfolding loadByQuarters loadOf loadSays
   refused-is {why} failed ea =
-      let n : loadRefusal (powerOf side) knit (length g) (length rows) (length s) (length o)
-      ≡ suc (numberOf why - 1) =
-      failed-number check check-rows why failed in
+      let n : refusal ≡ suc (numberOf why - 1) = failed-number check check-rows why failed in
       rw (ea, loadByQuarters, n, loadOf, quarters-rows (powerOf side) p, ← number-positive why)
 
   module _ (passed : check ≡ Passed) where
     pub room : FillLent r (length g) (length p) (length s) (length o)
     room =
         fill-lent (power-small side er)
-        (load-none r knit (length g) (length p) (length s) (length o) .0 (passed-none check e passed))
+        (load-none r knit (length g) (length p) (length s) (length o) low .0 (passed-none check e passed) .0)
 
     filled-is : asQuarters (powerOf side) (freshPyramid (powerOf side) g ++ drop (needed (powerOf side)) rows)
         ≡ quartersFrom (powerOf side) (freshPyramid (powerOf side) g) ++ drop (needed (powerOf side)) p
@@ -68,6 +71,5 @@ module _ (side knit : ℕ) {r : ℕ} (er : r ≡ powerOf side) (g : List ℕ) (p
         } ≡ loadByQuarters side knit g p s o
     unfolding loadByQuarters loadOf loaded modelStart loadSays freshPyramid
     loaded-is f ea =
-        let z : loadRefusal (powerOf side) knit (length g) (length rows) (length s) (length o) ≡ 0 =
-        passed-none check check-rows passed in
+        let z : refusal ≡ 0 = passed-none check check-rows passed in
         rw (f .pyramid, f .serials, f .order, ea, er, loadByQuarters, z, loadOf, filled-is)

@@ -46,6 +46,7 @@ pub fn load(
         pyramid.len(),
         serials.len(),
         order.len(),
+        fresh_sheet::low_map(r, greys),
     ) {
         Check::Failed(why) => answer(0, 0, LoadStatus::Refused(why)),
         Check::Passed => {

@@ -1,4 +1,4 @@
 pub mod Greys
+pub mod Written
 pub mod Calls
 pub mod Accepted
-pub mod Written

@@ -6,6 +6,7 @@ use native.Mathlib.Numerals.{add-one}
 use native.Mathlib.Omega.{arith}
 use lib.ListN.{length, getD, take, length-append}
 use lib.Seq.{take-suc, take-all, length-take-le, append-snoc}
+use Rattle.definition.specs.Lowering.{lowered}
 use Rattle.definition.specs.Text.{newline, decimal}
 use Rattle.definition.specs.MapText.{mapText}
 use Rattle.grammar.specs.Lines.{AtMost, fieldsText, fieldsText-append, length-repeated-lineEnds}
@@ -57,6 +58,15 @@ module _ {side : ℕ} (greys : List ℕ) (lent : MapLent side (length greys)) wh
       let ends = mapEnds side in
       let all : greysText side greys (length greys) ≡ fieldsText greys ends = rw (take-all (length greys) greys (omega arith), take-all (length greys) ends (omega (arith, ends-long))) in
       rw (mapText-fields side greys (lent .some-side) (lent .whole), ← append-snoc (decimal side) newline (fieldsText greys ends), ← all) (wrote-append x y)
+
+-- ---- the greys lowered in their place, as `low`, and the text of them
+pub record LoweredPut (side : ℕ) (greys output low : List ℕ) (next : ℕ) (after : List ℕ) : Type 0 where
+  pub in-place : low ≡ lowered greys
+  pub text : Wrote output 0 (mapText side (lowered greys)) next after
+
+pub lowered-put : {side : ℕ} (greys : List ℕ) {output low after : List ℕ} {next : ℕ} → low ≡ lowered greys
+    → Wrote output 0 (mapText side low) next after → LoweredPut side greys output low next after
+lowered-put greys e w = record { in-place = e; text = rw e at w }
 
 -- ---- how long a text is: at most four bytes for each grey
 fields-length : (values ends : List ℕ) → AtMost 255 values → length (fieldsText values ends) ≤ 4 * length values

@@ -1,5 +1,6 @@
 -- A map of at most 1,024 cells, loaded and run with a budget of 1,024 holes or more: the buffers then begin with its finished sheet.
 use mathlib.Core.Path.{_≡_, sym, ap, _∙_}
+use mathlib.Core.Bool.{true}
 use mathlib.Core.List.{List, _++_, append-nil}
 use Prim.Native.Nat.{ℕ, _^_, _≤_, _<_, min}
 use native.Mathlib.Omega.{arith}
@@ -13,6 +14,7 @@ use Rattle.definition.specs.Pyramid.{needed, cellCount}
 use Rattle.definition.specs.Diffusion.{plain, kernelOf}
 use Rattle.definition.specs.Model.{Halftone, topOf, modelStart, steps}
 use Rattle.definition.specs.Refusals.{powerOf, lowest}
+use Rattle.definition.specs.Load.{lowMap}
 use Rattle.definition.specs.Quarters.{quartersFrom}
 use Rattle.definition.specs.ByQuarters.{loadByQuarters, advanceByQuarters}
 use Rattle.definition.specs.Advance.{Reply, AdvanceOutcome, dotsDue}
@@ -33,10 +35,11 @@ abbrev pub finishedIn : ℕ → List ℕ → List ℤ → List ℕ → List ℕ 
 finishedIn r greys p s o =
     heldOf plain r (finishedOf plain r greys) (drop (needed r) p) (drop (cellCount r) s) (drop (cellCount r) o)
 
--- a side of at most 32, greys from which the model starts with a sound sheet, and the lengths of the three buffers
+-- a side of at most 32, low greys from which the model starts with a sound sheet, and the lengths of the three buffers
 pub record MapAsked (side : ℕ) (greys : List ℕ) (pyramid serials order : ℕ) : Type 0 where
   pub few : cellCount (powerOf side) ≤ 1024
   pub lent : LoadLent (powerOf side) plain (length greys) pyramid serials order
+  pub low : lowMap (powerOf side) greys ≡ true
   pub start : Sheet (powerOf side) (modelStart (powerOf side) greys)
 
 pub power-again : (side : ℕ) → 0 < powerOf side → powerOf (2 ^ powerOf side) ≡ powerOf side
@@ -135,8 +138,11 @@ module _ (side : ℕ) (greys : List ℕ) (p : List ℤ) (s o : List ℕ) (asked 
   loaded : Loaded side plain greys p s o
   loaded =
       record {
-        none = load-none r plain (length greys) (length p) (length s) (length o) .1 (asked .lent);
+        none =
+            load-none r plain (length greys) (length p) (length s) (length o) (lowMap r greys) .1
+            (asked .lent, asked .low);
         lent = asked .lent;
+        low = asked .low;
         side-is = side-pow side one-of-eight;
       }
 

@@ -9,3 +9,4 @@ pub mod Outputs
 pub mod FirstLine
 pub mod Sampled
 pub mod Written
+pub mod Converting

@@ -11,7 +11,7 @@ use Rattle.definition.specs.Answers.{GreysOutcome, refused, mapTextSays, number
 use Rattle.definition.specs.Pyramid.{cellCount}
 use Rattle.definition.specs.Diffusion.{plain}
 use Rattle.definition.specs.Refusals.{powerOf}
-use Rattle.definition.specs.MapText.{accepted, rejected, readMap, mapTextOf}
+use Rattle.definition.specs.MapText.{accepted, rejected, readLow, mapTextOf}
 use Rattle.definition.specs.DrillList.{drillText}
 use Rattle.definition.specs.Plate.{refusedText, finishedOf, plateOf}
 use Rattle.definition.specs.Quote.{quoteOfMap, quoteOfText}
@@ -19,11 +19,11 @@ use Rattle.definition.specs.declared.Refusal.{Refusal}
 use Rattle.definition.specs.declared.MapTextAnswer.{MapTextAnswer}
 use Rattle.definition.specs.declared.MapTextAnswer.the-variants.{Side, Refused}
 use Rattle.refusals.specs.Powers.{cellCount-side}
-use Rattle.grammar.specs.Grammar.{MapOf, grammar}
+use Rattle.grammar.specs.MapText.{LowMapOf, read-low-iff}
 use Rattle.map_text.specs.Accepted.{accepts-iff, leaves-greys}
 use Rattle.decimals.specs.Printed.{Printed}
 use Rattle.program_texts.specs.Lengths.{needed-few}
-use Rattle.program_texts.specs.Greys.{front-sheet}
+use Rattle.program_texts.specs.Greys.{front-sheet, front-low}
 use Rattle.program_texts.specs.Finished.{MapAsked}
 use Rattle.program_texts.specs.Fronts.{finished-front, quoted-front}
 
@@ -33,23 +33,24 @@ module _ (input : List ℕ) {before after : List ℕ} {n : ℕ} where
   long-printed h w = rw (lt-ltb 4099 (length input) h, plateOf) w
 
   module _ (short : length input ≤ 4099) where
-    rejected-printed : {k : ℕ} → readMap input 1024 ≡ rejected k → Printed (refusedText k) before n after → Printed (plateOf input) before n after
+    rejected-printed : {k : ℕ} → readLow input 1024 ≡ rejected k → Printed (refusedText k) before n after
+        → Printed (plateOf input) before n after
     unfolding plateOf
     rejected-printed e w = rw (le-ltb 4099 (length input) short, e, plateOf) w
 
-    accepted-printed : {side : ℕ} {values : List ℕ} → readMap input 1024 ≡ accepted side values
+    accepted-printed : {side : ℕ} {values : List ℕ} → readLow input 1024 ≡ accepted side values
         → Printed (drillText (powerOf side) (finishedOf plain (powerOf side) values)) before n after → Printed (plateOf input) before n after
     unfolding plateOf
     accepted-printed e w = rw (le-ltb 4099 (length input) short, e, plateOf) w
 
   -- the same for `quote`
   module _ (level : ℕ) where
-    quote-rejected : {k : ℕ} → readMap input 1024 ≡ rejected k → Printed (refusedText k) before n after
+    quote-rejected : {k : ℕ} → readLow input 1024 ≡ rejected k → Printed (refusedText k) before n after
         → Printed (quoteOfText level input) before n after
     unfolding quoteOfText
     quote-rejected e w = rw (e, quoteOfText) w
 
-    quote-accepted : {side : ℕ} {values : List ℕ} → readMap input 1024 ≡ accepted side values
+    quote-accepted : {side : ℕ} {values : List ℕ} → readLow input 1024 ≡ accepted side values
         → Printed (quoteOfMap level side values) before n after → Printed (quoteOfText level input) before n after
     unfolding quoteOfText
     quote-accepted e w = rw (e, quoteOfText) w
@@ -58,27 +59,28 @@ module _ (input : List ℕ) {before after : List ℕ} {n : ℕ} where
 module _ (input buffer : List ℕ) (whole : length buffer ≡ 1024) {greys : List ℕ} {a : MapTextAnswer}
     (promise : record { said = mapTextSays a; greys = greys } ≡ mapTextOf input buffer) where
   -- a refusal is the reader's
-  refused-rejected : {why : Refusal} → a ≡ Refused why → readMap input (length buffer) ≡ rejected (numberOf why)
+  refused-rejected : {why : Refusal} → a ≡ Refused why → readLow input (length buffer) ≡ rejected (numberOf why)
   unfolding mapTextOf mapTextSays
   refused-rejected {why} e =
       let told : refused (numberOf why) ≡ mapTextOf input buffer .said = ap mapTextSays (sym e) ∙ ap (λ (o : GreysOutcome). o .said) promise in
-      (elim (readMap input (length buffer)) as (λ o. readMap input (length buffer) ≡ o → readMap input (length buffer) ≡ rejected (numberOf why)) [
+      (elim (readLow input (length buffer))
+      as (λ o. readLow input (length buffer) ≡ o → readLow input (length buffer) ≡ rejected (numberOf why)) [
         | accepted side values ↦ λ q. absurd (suc-ne-zero 0 (cc (rw (q, mapTextOf) at told)))
         | rejected k ↦ λ q. let k-is : k ≡ numberOf why = cc (rw (q, mapTextOf) at told) in q ∙ ap rejected k-is
       ]) refl
 
   module _ {side : ℕ} (e : a ≡ Side side) where
-    found : (values : List ℕ) × MapOf input (length buffer) side values
+    found : (values : List ℕ) × LowMapOf input (length buffer) side values
     found = accepts-iff input buffer greys a promise side .0 e
 
     abbrev values : List ℕ
     values = found .0
 
     few : cellCount (powerOf side) ≤ 1024
-    few = omega (arith, cellCount-side side (found .1 .one-of-eight), found .1 .fits)
+    few = omega (arith, cellCount-side side (found .1 .map .one-of-eight), found .1 .map .fits)
 
     count : length values ≡ cellCount (powerOf side)
-    count = found .1 .count ∙ sym (cellCount-side side (found .1 .one-of-eight))
+    count = found .1 .map .count ∙ sym (cellCount-side side (found .1 .map .one-of-eight))
 
     greys-are : greys ≡ values ++ drop (side * side) buffer
     greys-are = leaves-greys input buffer greys a promise side values (found .1)
@@ -89,22 +91,24 @@ module _ (input buffer : List ℕ) (whole : length buffer ≡ 1024) {greys : Lis
           few = few;
           lent =
               record {
-                power = found .1 .one-of-eight;
+                power = found .1 .map .one-of-eight;
                 known = omega arith;
                 greys-long = omega (arith, ap length greys-are, length-append values (drop (side * side) buffer), count);
                 pyramid-long = needed-few (powerOf side) few;
                 serials-long = few;
                 order-long = few;
               };
-          start = rw greys-are (front-sheet (powerOf side) values (drop (side * side) buffer) count (found .1 .small));
+          low = rw greys-are (front-low (powerOf side) values (drop (side * side) buffer) count (found .1 .low));
+          start =
+              rw greys-are (front-sheet (powerOf side) values (drop (side * side) buffer) count (found .1 .map .small));
         }
 
     finished-same : finishedOf plain (powerOf side) greys ≡ finishedOf plain (powerOf side) values
     finished-same =
         ap (finishedOf plain (powerOf side)) greys-are ∙ finished-front side values (drop (side * side) buffer) count
 
-    read-is : readMap input 1024 ≡ accepted side values
-    read-is = rw whole at (grammar input (length buffer) side values .1 (found .1))
+    read-is : readLow input 1024 ≡ accepted side values
+    read-is = rw whole at (read-low-iff input (length buffer) side values .1 (found .1))
 
     -- the page of the greys in their buffer is that of the map
     quoted-same : (level : ℕ) → quoteOfMap level side greys ≡ quoteOfMap level side values

@@ -1,5 +1,5 @@
-// What the programs print, as functions from bytes to bytes: `plate` (document 01), `quote` (docs/DECISIONS.md 61) and
-// `sample` (document 02, request 4).
+// What the programs print, as functions from bytes to bytes: `plate` (document 01), `quote` (docs/DECISIONS.md 61),
+// `sample` (document 02, requests 4 and 11) and `convert` (request 11, docs/DECISIONS.md 130).
 use decimals::Number;
 use definition::MapTextAnswer;
 use definition::Progress;
@@ -13,6 +13,7 @@ ghost use Rattle.definition.specs.DrillList.{drillText};
 ghost use Rattle.definition.specs.Sample.{sampleText};
 ghost use Rattle.definition.specs.Plate.{finishedOf, plateOf};
 ghost use Rattle.definition.specs.Quote.{quoteOfMap, quoteOfText, quoteOf};
+ghost use Rattle.definition.specs.Convert.{convertOf};
 ghost use Rattle.decimals.specs.Printed.{Printed};
 ghost use Rattle.program_texts.specs.Finished.{finishedIn, MapAsked};
 
@@ -32,6 +33,12 @@ pub struct QuoteText {
 // A text of at most 4,099 bytes, the longest of a map of side 32.
 pub struct SampleText {
     pub bytes: [u8; 4099],
+    pub length: usize,
+}
+
+// A text of at most 262,148 bytes, the longest of a map of side 256.
+pub struct ConvertText {
+    pub bytes: [u8; 262148],
     pub length: usize,
 }
 
@@ -154,7 +161,20 @@ fn put_sample(out: &mut [u8]) -> usize
 {
     let mut greys = [0u8; 1024];
     let _ = sample_map::sample(1, 32, &mut greys);
+    lower::lower(&mut greys);
     map_text::put_map(out, 32, &greys)
+}
+
+// What `convert` prints.
+fn put_converted(input: &[u8], out: &mut [u8]) -> usize
+    requires { ⌜ 262148 ≤ length (now out) ⌝ }
+    ensures { λ n. ⌜ Printed (convertOf (now (input .entry))) (now (out .entry)) n (now (out .exit)) ⌝ }
+{
+    let mut greys = [0u8; 65536];
+    match map_text::lower_text(input, &mut greys, out) {
+        TextAnswer::Length(n) => n,
+        TextAnswer::Refused(why) => refusal_line::put_refused(out, checks::number_of(why)),
+    }
 }
 
 pub fn plate_text(input: &[u8]) -> PlateText
@@ -182,4 +202,13 @@ pub fn sample_text() -> SampleText
     let mut bytes = [0u8; 4099];
     let length = put_sample(&mut bytes);
     SampleText { bytes, length }
+}
+
+pub fn convert_text(input: &[u8]) -> ConvertText
+    ensures { λ c. ⌜ take (c .length) (c .bytes) ≡ convertOf (now (input .entry)) ⌝ }
+    ensures { λ c. ⌜ c .length ≤ 262148 ⌝ }
+{
+    let mut bytes = [0u8; 262148];
+    let length = put_converted(input, &mut bytes);
+    ConvertText { bytes, length }
 }

@@ -1,12 +1,12 @@
 -- The lowest number that applies: a row that applies gives its number, one that doesn't is passed over, and 0 means that none applies.
-use mathlib.Core.Path.{_≡_, refl, _∙_}
-use mathlib.Core.Bool.{Bool, true, false, _&&_}
+use mathlib.Core.Path.{_≡_, refl, ap, _∙_}
+use mathlib.Core.Bool.{Bool, true, false, not, _&&_}
 use mathlib.Core.Logic.{_↔_}
 use mathlib.Core.List.{List, [], _∷_, _++_}
 use Prim.Native.Nat.{ℕ, suc, _≤_, _<_}
 use native.Mathlib.Omega.{arith}
 use lib.Dec.{ltb, eqb}
-use borrow.Author.Tests.{ltb-true, ltb-false, le-ltb, eqb-false, ne-eqb}
+use borrow.Author.Tests.{ltb-true, ltb-false, le-ltb, eqb-false, ne-eqb, not-false}
 use Rattle.definition.specs.Pyramid.{needed, cellCount}
 use Rattle.definition.specs.Refusals.{
   Row,
@@ -15,6 +15,7 @@ use Rattle.definition.specs.Refusals.{
   greysShort,
   pyramidShort,
   sheetShort,
+  greyHigh,
   lowest,
   greysRefusal,
 }
@@ -45,6 +46,13 @@ unfolding lowest
 lowest-before [] more n e = absurd (omega arith)
 lowest-before ((k, true) ∷ rows) more n e = e
 lowest-before ((k, false) ∷ rows) more n e = lowest-before rows more n e
+
+-- a last one that does not apply might as well be left out
+pub lowest-last-not : (rows : List Row) (row : Row) → row .1 ≡ false → lowest (rows ++ row ∷ []) ≡ lowest rows
+unfolding lowest
+lowest-last-not [] row e = rw e
+lowest-last-not ((n, true) ∷ rows) row e = refl
+lowest-last-not ((n, false) ∷ rows) row e = lowest-last-not rows row e
 
 -- if none applies, those behind decide
 pub lowest-after : (rows more : List Row) → positive rows ≡ true → lowest rows ≡ 0
@@ -78,7 +86,7 @@ greys-none r lent = (
   λ h. lowest-past 1 (eqb r 0) _ (ne-eqb r 0 (λ e. omega arith)) ∙ lowest-past 2 (ltb lent (cellCount r)) _ (le-ltb _ _ (h .1)) ∙ unfold lowest in refl,
 )
 
--- what Load accepts: one of the eight sides, and buffers that are long enough
+-- what Load is lent, if it accepts it: one of the eight sides, a knit, and buffers that are long enough
 pub record LoadLent (r knit greys pyramid serials order : ℕ) : Type 0 where
   pub power : 0 < r
   pub known : knit ≤ 1
@@ -87,14 +95,16 @@ pub record LoadLent (r knit greys pyramid serials order : ℕ) : Type 0 where
   pub serials-long : cellCount r ≤ serials
   pub order-long : cellCount r ≤ order
 
-pub load-none : (r knit greys pyramid serials order : ℕ) → (loadRefusal r knit greys pyramid serials order ≡ 0)
-    ↔ LoadLent r knit greys pyramid serials order
+-- and no grey of the map is too high
+pub load-none : (r knit greys pyramid serials order : ℕ) (low : Bool)
+    → (loadRefusal r knit greys pyramid serials order low ≡ 0)
+    ↔ (LoadLent r knit greys pyramid serials order × (low ≡ true))
 unfolding loadRefusal
-load-none r knit greys pyramid serials order = (lent, none)
+load-none r knit greys pyramid serials order low = (lent, λ h. none (h .0) (h .1))
   where
     lent : lowest
         (sideUnknown r ∷ knitUnknown knit ∷ greysShort r greys ∷ pyramidShort r pyramid ∷ sheetShort r serials
-        ∷ sheetShort r order ∷ []) ≡ 0 → LoadLent r knit greys pyramid serials order
+        ∷ sheetShort r order ∷ greyHigh low ∷ []) ≡ 0 → LoadLent r knit greys pyramid serials order × (low ≡ true)
     lent e =
         let r₁ = lowest-none 1 (eqb r 0) _ (omega arith) e in
         let r₀ = lowest-none 11 (ltb 1 knit) _ (omega arith) (r₁ .1) in
@@ -102,23 +112,27 @@ load-none r knit greys pyramid serials order = (lent, none)
         let r₃ = lowest-none 3 (ltb pyramid (needed r)) _ (omega arith) (r₂ .1) in
         let r₄ = lowest-none 4 (ltb serials (cellCount r)) _ (omega arith) (r₃ .1) in
         let r₅ = lowest-none 4 (ltb order (cellCount r)) _ (omega arith) (r₄ .1) in
-        record {
-          power = omega (arith, eqb-false r 0 (r₁ .0));
-          known = ltb-false _ _ (r₀ .0);
-          greys-long = ltb-false _ _ (r₂ .0);
-          pyramid-long = ltb-false _ _ (r₃ .0);
-          serials-long = ltb-false _ _ (r₄ .0);
-          order-long = ltb-false _ _ (r₅ .0);
-        }
+        let r₆ = lowest-none 12 (not low) _ (omega arith) (r₅ .1) in (
+          record {
+            power = omega (arith, eqb-false r 0 (r₁ .0));
+            known = ltb-false _ _ (r₀ .0);
+            greys-long = ltb-false _ _ (r₂ .0);
+            pyramid-long = ltb-false _ _ (r₃ .0);
+            serials-long = ltb-false _ _ (r₄ .0);
+            order-long = ltb-false _ _ (r₅ .0);
+          },
+          not-false low (r₆ .0),
+        )
 
-    none : LoadLent r knit greys pyramid serials order
+    none : LoadLent r knit greys pyramid serials order → low ≡ true
         → lowest (sideUnknown r ∷ knitUnknown knit ∷ greysShort r greys ∷ pyramidShort r pyramid
-        ∷ sheetShort r serials ∷ sheetShort r order ∷ []) ≡ 0
-    none h =
+        ∷ sheetShort r serials ∷ sheetShort r order ∷ greyHigh low ∷ []) ≡ 0
+    none h e =
         lowest-past 1 (eqb r 0) _ (ne-eqb r 0 (λ e. omega arith))
         ∙ lowest-past 11 (ltb 1 knit) _ (le-ltb _ _ (h .known))
         ∙ lowest-past 2 (ltb greys (cellCount r)) _ (le-ltb _ _ (h .greys-long))
         ∙ lowest-past 3 (ltb pyramid (needed r)) _ (le-ltb _ _ (h .pyramid-long))
         ∙ lowest-past 4 (ltb serials (cellCount r)) _ (le-ltb _ _ (h .serials-long))
         ∙ lowest-past 4 (ltb order (cellCount r)) _ (le-ltb _ _ (h .order-long))
+        ∙ lowest-past 12 (not low) _ (ap not e)
         ∙ unfold lowest in refl

@@ -15,6 +15,7 @@ use Rattle.definition.specs.declared.Refusal.the-variants.{
   InputLong,
   NameUnknown,
   KnitUnknown,
+  GreyHigh,
 }
 
 pub number-positive : (why : Refusal) → numberOf why ≡ suc (numberOf why - 1)
@@ -30,3 +31,4 @@ number-positive OutputShort = refl
 number-positive InputLong = refl
 number-positive NameUnknown = refl
 number-positive KnitUnknown = refl
+number-positive GreyHigh = refl

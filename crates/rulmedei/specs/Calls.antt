@@ -22,6 +22,7 @@ use Rattle.definition.specs.Checkpoints.{keepOf}
 use Rattle.definition.specs.ByQuarters.{loadByQuarters, advanceByQuarters, restoreByQuarters, RelayOutcome}
 use Rattle.definition.specs.Survey.{tallyOf, levelsOf}
 use Rattle.definition.specs.Text.{TextOutcome}
+use Rattle.definition.specs.LowerText.{LowerTextOutcome}
 use Rattle.definition.specs.Shelf.{ShelfOutcome}
 use Rattle.definition.specs.declared.LoadAnswer.{LoadAnswer}
 use Rattle.definition.specs.declared.LoadStatus.{LoadStatus}
@@ -48,6 +49,7 @@ use Rattle.rulmedei.specs.Codes.{
   levelsCode,
   greysCode,
   textCode,
+  lowerTextCode,
   compareCode,
   shelfCode,
   relayCode,
@@ -152,6 +154,13 @@ pub text-coded : {o : TextOutcome} {after : List ℕ} (a : TextAnswer) → recor
     → {n v : ℕ} → n ≡ codeOf (textSays a) → v ≡ valueOf (textSays a) → record { code = n; length = v; output = after } ≡ textCode o
 unfolding textCode
 text-coded a h n v = rw (← h, n, v)
+
+pub lower-text-coded : {o : LowerTextOutcome} {low after : List ℕ} (a : TextAnswer)
+    → record { said = textSays a; greys = low; output = after } ≡ o
+    → {n v : ℕ} → n ≡ codeOf (textSays a) → v ≡ valueOf (textSays a)
+    → record { code = n; length = v; greys = low; output = after } ≡ lowerTextCode o
+unfolding lowerTextCode
+lower-text-coded a h n v = rw (← h, n, v)
 
 -- ---- the comparison and the shelf
 pub compare-coded : {o : Said} (a : CompareAnswer) → compareSays a ≡ o → {t : CompareAnswer} → a ≡ t

@@ -23,6 +23,7 @@ use Rattle.definition.specs.Checkpoints.{keepOf}
 use Rattle.definition.specs.ByQuarters.{loadByQuarters, advanceByQuarters, restoreByQuarters, RelayOutcome}
 use Rattle.definition.specs.Survey.{tallyOf, levelsOf}
 use Rattle.definition.specs.Text.{TextOutcome}
+use Rattle.definition.specs.LowerText.{LowerTextOutcome}
 use Rattle.definition.specs.Shelf.{ShelfOutcome}
 
 -- 102 to 106 for what a comparison says
@@ -155,6 +156,17 @@ pub record TextCode : Type 0 where
 
 unfoldable pub textCode : TextOutcome → TextCode
 textCode o = record { code = codeOf (o .said); length = valueOf (o .said); output = o .output }
+
+-- Lower Text: the lowered greys beside it
+pub record LowerTextCode : Type 0 where
+  pub code : ℕ
+  pub length : ℕ
+  pub greys : List ℕ
+  pub output : List ℕ
+
+unfoldable pub lowerTextCode : LowerTextOutcome → LowerTextCode
+lowerTextCode o =
+    record { code = codeOf (o .said); length = valueOf (o .said); greys = o .greys; output = o .output }
 
 -- the row and the column of the cell that a comparison names; 0 and 0 where it names none
 unfoldable pub cellOf : Said → ℕ × ℕ

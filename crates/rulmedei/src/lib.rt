@@ -1,7 +1,7 @@
 // The calls for programs in C and Rust: numbers and slices only. Each returns a code: 0 where the call did its work,
-// 100 where Advance says more, 102 to 106 for what Compare says, or else document 01's number of the refusal. The
-// renewal by itself, no call of document 01, returns 0 or 101. A slice is a pointer and a length (include/rulmedei.h
-// says what a caller must ensure).
+// 100 where Advance says more, 102 to 106 for what Compare says, or else the papers' number of the refusal. The
+// renewal by itself, no call of document 01, returns 0 or 101; the lowering of greys by itself returns nothing. A slice
+// is a pointer and a length (include/rulmedei.h says what a caller must ensure).
 use definition::AdvanceStatus;
 use definition::CheckpointStatus;
 use definition::Checkpoints;
@@ -19,13 +19,16 @@ ghost use mathlib.Core.Path.{_≡_};
 ghost use lib.ListN.{set};
 ghost use lib.Seq.{sets};
 ghost use Rattle.definition.specs.Answers.{checkpointSays, textSays, compareSays};
+ghost use Rattle.definition.specs.Lowering.{lowered};
 ghost use Rattle.definition.specs.MapText.{mapTextOf};
+ghost use Rattle.definition.specs.LowerText.{lowerTextOf};
 ghost use Rattle.definition.specs.QuotePage.{quotePageOf};
 ghost use Rattle.definition.specs.ByQuarters.{drillListByQuarters, renewalByQuarters, relayOf};
 ghost use Rattle.definition.specs.Sample.{sampleOf};
 ghost use Rattle.definition.specs.Shelf.{compareOf, shelfOf};
 ghost use Rattle.rulmedei.specs.Codes.{codeOf, valueOf, loadCode, advanceCode, tallyCode, levelsCode};
 ghost use Rattle.rulmedei.specs.Codes.{keepCode, restoreCode};
+ghost use Rattle.rulmedei.specs.Codes.{lowerTextCode};
 ghost use Rattle.rulmedei.specs.Codes.{greysCode, textCode, compareCode, shelfCode, relayCode, renewCode};
 
 // Load. The record is written to `progress_side`, `progress_dots` and `progress_knit`.
@@ -279,6 +282,23 @@ fn text_code(answer: TextAnswer, length: &mut usize) -> u32
     }
 }
 
+// Lower Text. The text's length is written to `length`, 0 where it refuses.
+#[no_mangle]
+pub extern "C" fn rulmedei_lower_text(
+    text: &[u8],
+    greys: &mut [u8],
+    out: &mut [u8],
+    length: &mut usize,
+) -> u32
+    ensures { λ n. ⌜
+        record { code = n; length = now (length .exit); greys = now (greys .exit); output = now (out .exit) }
+        ≡ lowerTextCode (lowerTextOf (now (text .entry)) (now (greys .entry)) (now (out .entry)))
+        ⌝ }
+{
+    let answer = map_text::lower_text(text, greys, out);
+    text_code(answer, length)
+}
+
 // Drill List, with the record (side, dots, knit). The list's length is written to `length`, 0 where it refuses.
 #[no_mangle]
 pub extern "C" fn rulmedei_drill_list(
@@ -407,6 +427,14 @@ pub extern "C" fn rulmedei_relay(
         RelayAnswer::Relaid => 0,
         RelayAnswer::Refused(why) => checks::number_of(why),
     }
+}
+
+// The lowering of greys by itself: no call of the papers, and it refuses nothing.
+#[no_mangle]
+pub extern "C" fn rulmedei_lower(greys: &mut [u8])
+    ensures { λ _. ⌜ now (greys .exit) ≡ lowered (now (greys .entry)) ⌝ }
+{
+    lower::lower(greys);
 }
 
 // The renewal by itself, around the cell in this row and column. It is no call of document 01: 101 where it isn't made.

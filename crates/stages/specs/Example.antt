@@ -56,7 +56,8 @@ use Rattle.definition.specs.Sound.{
   isSound,
 }
 use Rattle.definition.specs.Refusals.{powerUpTo, powerOf, lowest}
-use Rattle.definition.specs.Load.{loadRefusal, loaded, loadOf}
+use Rattle.definition.specs.Lowering.{noneHigh}
+use Rattle.definition.specs.Load.{lowMap, loadRefusal, loaded, loadOf}
 use Rattle.definition.specs.Advance.{dotsDue, saidAt, sheetIn, advanceRefusal, advanced, advanceOf}
 use Rattle.definition.specs.Quarters.{
   interleaved,
@@ -120,8 +121,8 @@ actions =
     ∷ return 3 4 5 ∷ return 8 4 4 ∷ return 8 3 5 ∷ return 8 9 5 ∷ return 1 4 6 ∷ []
 
 accepted : Accepted 2 ribbed greys pyramid sheet sheet
-unfolding loadByQuarters asRows relaid rowsFrom joined levelOf tabulateFrom loadOf loadRefusal loaded lowest powerOf
-    powerUpTo start
+unfolding loadByQuarters asRows relaid rowsFrom joined levelOf tabulateFrom loadOf loadRefusal lowMap noneHigh loaded
+    lowest powerOf powerUpTo start
 accepted =
     record { bytes = (omega arith, (omega arith, (omega arith, (omega arith, tt)))); said = refl }
 
@@ -144,7 +145,8 @@ unfolding sumTo allTo tabulateFrom eqZ start placeIn rowAt columnAt levelOf inLe
     pyramidOver blockSum greyAt burnt burntAt greySum greyTotal candidate firstOfEquals lastOfEquals ofEquals
     choiceOf better largest descend weightsOf placesInTurn kernelOf within onMap weightAt share diffuse topOf
     modelStart missing placeDot step steps burntNear everyEntry fewDots numbered counted unused summed
-    bounded owing isSound powerUpTo powerOf lowest loadRefusal loaded loadOf dotsDue saidAt sheetIn advanceRefusal
+    bounded owing isSound powerUpTo powerOf lowest loadRefusal lowMap noneHigh loaded loadOf dotsDue saidAt sheetIn
+    advanceRefusal
     advanced advanceOf heldAfterLoad callOf heldAfter isName keptAt keepRefusal keepOf canRestore
     restoreRefusal restored restoreOf callerAtFirst returnOf callerAfter act answerOf callerAfterAll answersOf
     interleaved rowOf columnOf quarterEntry quarterLevel rowsFrom quartersFrom relaid asRows asQuarters joined

@@ -8,6 +8,7 @@ use Prim.Native.Nat.{ℕ, zero, suc, _-_, _^_, _≤_}
 use native.Mathlib.Omega.{arith}
 use lib.Dec.{ltb}
 use lib.ListN.{length, set, take, drop, length-set, length-take, length-append, take-append-drop, List·getD-map}
+use lib.Seq.{take-take}
 use lib.IntN.{ℤ}
 use borrow.Author.Tests.{ltb-false, le-ltb, le-leb, ne-eqb, not-false}
 use Rattle.definition.specs.Answers.{returned, refused}
@@ -17,6 +18,8 @@ use Rattle.definition.specs.Diffusion.{kernelOf}
 use Rattle.definition.specs.Model.{Halftone, modelStart, steps}
 use Rattle.definition.specs.Sound.{isSound}
 use Rattle.definition.specs.Refusals.{powerOf, lowest}
+use Rattle.definition.specs.Lowering.{noneHigh}
+use Rattle.definition.specs.Load.{lowMap}
 use Rattle.definition.specs.Advance.{AdvanceOutcome, sheetIn}
 use Rattle.definition.specs.Checkpoints.{isName, keptAt, nameUnknown, keepRefusal, keepOf}
 use Rattle.definition.specs.Checkpoints.{canRestore, restoreRefusal, RestoreOutcome, restored, restoreOf}
@@ -82,8 +85,13 @@ kept-count : (m : Memory) (name : ℕ) → keptAt (countsOf m) name ≡ countOf 
 unfolding keptAt countsOf sheetAt countOf
 kept-count m name = List·getD-map countOf (m .names) (name - 1) none
 
+-- what Load was lent as greys: enough of them, and those of the map low
+pub record GreysLent (r : ℕ) (greys : List ℕ) : Type 0 where
+  pub long : cellCount r ≤ length greys
+  pub low : lowMap r greys ≡ true
+
 module _ (knit : ℕ) (known : knit ≤ 1) (r : ℕ) (big : 2 ≤ 2 ^ r) (power : powerOf (2 ^ r) ≡ r)
-    (greys : List ℕ) (bytes : Each (λ grey. grey ≤ 255) greys) (long : cellCount r ≤ length greys) where
+    (greys : List ℕ) (bytes : Each (λ grey. grey ≤ 255) greys) (lent : GreysLent r greys) where
   abbrev pub IsStage : Halftone → Type 0
   IsStage = Stage knit known r big power greys bytes
 
@@ -140,7 +148,11 @@ module _ (knit : ℕ) (known : knit ≤ 1) (r : ℕ) (big : 2 ≤ 2 ^ r) (power 
       -- parts that are long enough hold the map and the sheet
       module _ (enough : cellCount r ≤ b .greysLent) where
         lent-enough : cellCount r ≤ length lentGreys
-        lent-enough = omega (arith, length-take (b .greysLent) greys)
+        lent-enough = omega (arith, length-take (b .greysLent) greys, lent .long)
+
+        low-lent : lowMap r lentGreys ≡ true
+        unfolding lowMap
+        low-lent = ap noneHigh (take-take (cellCount r) (b .greysLent) greys enough) ∙ lent .low
 
         start-lent : modelStart r lentGreys ≡ modelStart r greys
         start-lent =
@@ -190,7 +202,7 @@ module _ (knit : ℕ) (known : knit ≤ 1) (r : ℕ) (big : 2 ≤ 2 ^ r) (power 
       abbrev refusal : ℕ
       refusal =
           restoreRefusal r knit (length lentGreys) (length lentRows) (length lentSerials) (length lentOrder)
-          (isSound r lentSheet) can
+          (isSound r lentSheet) (lowMap r lentGreys) can
 
       refusal-same : refusal ≡ modelReturnRefusal r m b
       unfolding restoreRefusal modelReturnRefusal lowest
@@ -198,7 +210,7 @@ module _ (knit : ℕ) (known : knit ≤ 1) (r : ℕ) (big : 2 ≤ 2 ^ r) (power 
           rw (
             ne-eqb r 0 (λ z. omega (arith, ap (λ (n : ℕ). 2 ^ n) z)),
             le-ltb 1 knit known,
-            lent-test greys (b .greysLent) (cellCount r) long,
+            lent-test greys (b .greysLent) (cellCount r) (lent .long),
             rows-length r lentPyramid,
             lent-test (quartersFrom r (m .sheet .pyramid) ++ p) (b .pyramidLent) (needed r)
                 (omega (
@@ -219,7 +231,8 @@ module _ (knit : ℕ) (known : knit ≤ 1) (r : ℕ) (big : 2 ≤ 2 ^ r) (power 
               → (y : Bool) → ltb (b .serialsLent) (cellCount r) ≡ y
               → (z : Bool) → ltb (b .orderLent) (cellCount r) ≡ z
               → _≡_ {A = ℕ}
-              (cond w 2 (cond x 3 (cond y 4 (cond z 4 (cond (not (isSound r lentSheet)) 5 (cond (not can) 10 0))))))
+              (cond w 2 (cond x 3 (cond y 4 (cond z 4 (cond (not (isSound r lentSheet)) 5
+              (cond (not (lowMap r lentGreys)) 12 (cond (not can) 10 0)))))))
               (cond w 2 (cond x 3 (cond y 4 (cond z 4 (cond (not named) 10 0)))))
           go true d x e y f z h = refl
           go false d true e y f z h = refl
@@ -232,7 +245,7 @@ module _ (knit : ℕ) (known : knit ≤ 1) (r : ℕ) (big : 2 ≤ 2 ^ r) (power 
               let same : can ≡ named
               = ap (λ (n : ℕ). canRestore (countsOf m) (b .name) (totalOf n)) (total-lent (ltb-false _ _ d))
               ∙ kept-named in
-              rw (sound, same)
+              rw (sound, low-lent (ltb-false _ _ d), same)
 
       -- what the model does not refuse
       pub record Taken : Type 0 where

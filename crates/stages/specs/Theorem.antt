@@ -53,6 +53,7 @@ use Rattle.guarantee.specs.Theorem.{demand-3}
 use Rattle.stages.specs.Promise.{StagesHold, Request7}
 use Rattle.stages.specs.Stage.{stage-first, stage-sheet, stage-most, stage-again}
 use Rattle.stages.specs.OneAction.{
+  GreysLent,
   IsStage,
   StageOr,
   Good,
@@ -108,21 +109,21 @@ module _ (side knit : ℕ) (greys : List ℕ) (pyramid : List ℤ) (serials orde
   abbrev o : List ℕ
   o = drop (cellCount r) order
 
-  abbrev long : cellCount r ≤ length greys
-  long = loaded .lent .greys-long
+  abbrev lent : GreysLent r greys
+  lent = record { long = loaded .lent .greys-long; low = loaded .low }
 
   -- ---- the start
   abbrev memory : Memory
   memory = memoryAtFirst r greys
 
   abbrev caller : Memory → Caller
-  caller = callerOf knit known r big power greys (accepted .bytes) long p s o
+  caller = callerOf knit known r big power greys (accepted .bytes) lent p s o
 
-  empty : (n : ℕ) → Each (StageOr knit known r big power greys (accepted .bytes) long) (replicate n none)
+  empty : (n : ℕ) → Each (StageOr knit known r big power greys (accepted .bytes) lent) (replicate n none)
   empty zero = tt
   empty (suc n) = (tt, empty n)
 
-  good : Good knit known r big power greys (accepted .bytes) long (memoryAtFirst r greys)
+  good : Good knit known r big power greys (accepted .bytes) lent (memoryAtFirst r greys)
   unfolding memoryAtFirst
   good =
       record {
@@ -140,7 +141,7 @@ module _ (side knit : ℕ) (greys : List ℕ) (pyramid : List ℤ) (serials orde
       }
 
   -- ---- a stage is what one Advance call leaves, so demand 3 speaks of it
-  module _ (t : Halftone) (h : IsStage knit known r big power greys (accepted .bytes) long t) where
+  module _ (t : Halftone) (h : IsStage knit known r big power greys (accepted .bytes) lent t) where
     one-call : heldAfterCalls (heldAfterLoad side knit greys pyramid serials order) (whole r (t .dots) ∷ [])
         ≡ heldOf knit r t p s o
     one-call =
@@ -163,8 +164,8 @@ module _ (side knit : ℕ) (greys : List ℕ) (pyramid : List ℤ) (serials orde
     abbrev last : Memory
     last = memoryAfterAll knit r memory actions
 
-    last-good : Good knit known r big power greys (accepted .bytes) long last
-    last-good = all-good knit known r big power greys (accepted .bytes) long p s o actions memory good
+    last-good : Good knit known r big power greys (accepted .bytes) lent last
+    last-good = all-good knit known r big power greys (accepted .bytes) lent p s o actions memory good
 
     abbrev t : Halftone
     t = last .sheet
@@ -180,13 +181,13 @@ module _ (side knit : ℕ) (greys : List ℕ) (pyramid : List ℤ) (serials orde
       abbrev until-return : Memory
       until-return = memoryAfterAll knit r memory (before ++ (keeping (b .name) ∷ between))
 
-      return-good : Good knit known r big power greys (accepted .bytes) long until-return
+      return-good : Good knit known r big power greys (accepted .bytes) lent until-return
       return-good =
-          all-good knit known r big power greys (accepted .bytes) long p s o
+          all-good knit known r big power greys (accepted .bytes) lent p s o
           (before ++ (keeping (b .name) ∷ between)) memory good
 
-      keep-good : Good knit known r big power greys (accepted .bytes) long until-keep
-      keep-good = all-good knit known r big power greys (accepted .bytes) long p s o before memory good
+      keep-good : Good knit known r big power greys (accepted .bytes) lent until-keep
+      keep-good = all-good knit known r big power greys (accepted .bytes) lent p s o before memory good
 
       abbrev outcome : RestoreOutcome
       outcome =
@@ -196,10 +197,10 @@ module _ (side knit : ℕ) (greys : List ℕ) (pyramid : List ℤ) (serials orde
       outcome-said : outcome .said ≡ saidOf (modelReturnRefusal r until-return b)
       outcome-said =
           ap (λ (c : Caller). returnOf greys c b .said)
-          (all-held knit known r big power greys (accepted .bytes) long p s o
+          (all-held knit known r big power greys (accepted .bytes) lent p s o
           (before ++ (keeping (b .name) ∷ between)) memory good)
           ∙ ap (λ (out : RestoreOutcome). out .said)
-          (return-same knit known r big power greys (accepted .bytes) long p s o until-return return-good b)
+          (return-same knit known r big power greys (accepted .bytes) lent p s o until-return return-good b)
 
       -- with the name kept last before `between`
       still : Each (λ a. a ≢ keeping (b .name)) between → isName (b .name) ≡ true
@@ -218,7 +219,7 @@ module _ (side knit : ℕ) (greys : List ℕ) (pyramid : List ℤ) (serials orde
         is-name : isName (b .name) ≡ true
         is-name =
             both (isName (b .name)) (isKept (sheetAt until-return (b .name)))
-            (taken knit known r big power greys (accepted .bytes) long p s o until-return return-good b none-refused
+            (taken knit known r big power greys (accepted .bytes) lent p s o until-return return-good b none-refused
             .is-known)
             .0
 
@@ -228,7 +229,7 @@ module _ (side knit : ℕ) (greys : List ℕ) (pyramid : List ℤ) (serials orde
             ∙ ap (λ (m : Memory). m .sheet)
             (memory-more knit r memory (before ++ (keeping (b .name) ∷ between)) (returning b ∷ []))
             ∙ unfold memoryAfterAll modelAct in
-            return-taken knit known r big power greys (accepted .bytes) long p s o until-return return-good b
+            return-taken knit known r big power greys (accepted .bytes) lent p s o until-return return-good b
             none-refused
             ∙ unfold orElse in rw (still differ is-name, orElse)
 
@@ -236,7 +237,7 @@ module _ (side knit : ℕ) (greys : List ℕ) (pyramid : List ℤ) (serials orde
         as-then =
             ap (λ (u : Halftone). heldOf knit r u p s o) back-there
             ∙ ap (λ (c : Caller). c .held)
-            (sym (all-held knit known r big power greys (accepted .bytes) long p s o before memory good))
+            (sym (all-held knit known r big power greys (accepted .bytes) lent p s o before memory good))
 
     -- ---- after a keep, a return to its name that is lent enough
     module _ (before between : List Action) (b : Return) (split : actions ≡ before ++ (keeping (b .name) ∷ between))
@@ -264,7 +265,7 @@ module _ (side knit : ℕ) (greys : List ℕ) (pyramid : List ℤ) (serials orde
       unfolding saidOf
       is-done =
           ap (λ (out : RestoreOutcome). out .said)
-          (return-same knit known r big power greys (accepted .bytes) long p s o last last-good b)
+          (return-same knit known r big power greys (accepted .bytes) lent p s o last last-good b)
           ∙ ap saidOf none-applies
 
     holds : StagesHold knit r (greyTotal r greys) greys pyramid serials order actions (caller memory) (caller last)
@@ -299,7 +300,7 @@ module _ (side knit : ℕ) (greys : List ℕ) (pyramid : List ℤ) (serials orde
     request-7 =
         rw (
           first-is,
-          all-held knit known r big power greys (accepted .bytes) long p s o actions memory good,
-          all-answered knit known r big power greys (accepted .bytes) long p s o actions memory good,
+          all-held knit known r big power greys (accepted .bytes) lent p s o actions memory good,
+          all-answered knit known r big power greys (accepted .bytes) lent p s o actions memory good,
         )
         holds

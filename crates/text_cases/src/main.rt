@@ -1,7 +1,8 @@
-// Reads cases on standard input and writes what Map Text answers to each text, and what Drill List answers where a
-// map was read. The first line is the count of cases. A case is a line of six decimal numbers parted by commas: the
-// text's length, the places lent of the greys buffer and of the output, a damage, the knit that Load is given and
-// the one that Drill List is given in its record; and then the text itself, of just that length. Damage 0 is none.
+// Reads cases on standard input and writes what Map Text answers to each text, what Drill List answers where a map was
+// read, and what Lower Text answers to the same text. The first line is the count of cases. A case is a line of six
+// decimal numbers parted by commas: the text's length, the places lent of the greys buffer and of the output, a damage,
+// the knit that Load is given and the one that Drill List is given in its record; and then the text itself, of just
+// that length. Damage 0 is none.
 // Before Drill List 1 adds 1 to the pyramid's top; 2 says one hole more than were made, and 3 says side 3; 4, 5 and
 // 6 lend one place less of the pyramid, the serial sheet and the order list.
 use case_io::end_line;
@@ -46,14 +47,19 @@ fn print_spare(out: &[u8], from: usize) {
     end_line();
 }
 
-// Writes the list's length, the list, and what is left past it.
+// Writes a text of this length, and what is left past it.
+fn print_text(out: &[u8], length: usize) {
+    let end = least(length, out.len());
+    io::write_all(1, &out[..end]);
+    print_spare(out, end);
+}
+
+// Writes the list's length, and the list.
 fn print_list(out: &[u8], length: usize) {
     io::write_all(1, b"list");
     field(length as u64);
     end_line();
-    let end = least(length, out.len());
-    io::write_all(1, &out[..end]);
-    print_spare(out, end);
+    print_text(out, length);
 }
 
 fn print_answer(answer: TextAnswer, out: &[u8]) {
@@ -223,6 +229,36 @@ fn run_lent(text: &[u8], asked: Asked, g: u32, o: u32) {
     );
 }
 
+// Writes the text's length, the greys, and the text.
+fn print_lowered(greys: &[u8], out: &[u8], length: usize) {
+    io::write_all(1, b"lowered");
+    field(length as u64);
+    end_line();
+    print_greys(greys);
+    print_text(out, length);
+}
+
+// Gives Lower Text a text, and writes its answer and both buffers.
+fn lower_text(text: &[u8], greys: &mut [u8], out: &mut [u8]) {
+    match map_text::lower_text(text, greys, out) {
+        TextAnswer::Length(length) => print_lowered(greys, out, length),
+        TextAnswer::Refused(why) => {
+            case_io::print_refused(why);
+            print_greys(greys);
+            print_spare(out, 0);
+        }
+    }
+}
+
+// The same with so many places lent of both buffers.
+fn lower_lent(text: &[u8], g: u32, o: u32) {
+    let greys_lent = limit(g, 300);
+    let output_lent = limit(o, 4000);
+    let mut greys = [9u8; 300];
+    let mut out = [46u8; 4000];
+    lower_text(text, &mut greys[..greys_lent], &mut out[..output_lent]);
+}
+
 // Reads a case from a place on, writes its answers, and returns the place behind it.
 fn run_case(text: &[u8], from: usize) -> usize {
     let length = next(text, from);
@@ -240,6 +276,7 @@ fn run_case(text: &[u8], from: usize) -> usize {
         said: said.value,
     };
     run_lent(&text[start..end], asked, g.value, o.value);
+    lower_lent(&text[start..end], g.value, o.value);
     end
 }
 

@@ -1,8 +1,8 @@
-//! The benchmark: side 256, the sample of seed 1, Load and one Advance to the end, by the library, by the team's own
-//! Rust in the same layout, and by the team's own Rust row after row, on plain cloth and then on ribbed. Runs
-//! alternate, every buffer is cleared before each, the median of nine is taken. Printed for each knit: the times, the
-//! library's ratio to either, and the time of the test for a sound sheet alone (an Advance of budget 0 on the loaded
-//! sheet).
+//! The benchmark: side 256, the sample of seed 1 lowered to 240, Load and one Advance to the end, by the library, by
+//! the team's own Rust in the same layout, and by the team's own Rust row after row, on plain cloth and then on ribbed.
+//! Runs alternate, every buffer is cleared before each, the median of nine is taken. Printed for each knit: the times,
+//! the library's ratio to either, and the time of the test for a sound sheet alone (an Advance of budget 0 on the
+//! loaded sheet).
 
 mod quarters;
 mod rows;
@@ -89,14 +89,14 @@ fn by_library(knit: u32, greys: &[u8]) -> Run {
 }
 
 /// Load and Advance of one of the two in Rust.
-type Load = fn(usize, &[u8], &mut [i64], &mut [u32], &mut [u32]);
+type Load = fn(usize, &[u8], &mut [i64], &mut [u32], &mut [u32]) -> Option<()>;
 type Advance = fn(usize, usize, u32, u32, &mut [i64], &mut [u32], &mut [u32]) -> Option<u32>;
 
 fn by_rust(knit: u32, greys: &[u8], fill: Load, advance: Advance) -> Run {
     let knit = knit as usize;
     let mut b = Buffers::cleared();
     let start = Instant::now();
-    fill(POWER, greys, &mut b.pyramid, &mut b.serials, &mut b.order);
+    fill(POWER, greys, &mut b.pyramid, &mut b.serials, &mut b.order).expect("load");
     let load = start.elapsed().as_secs_f64();
     let start = Instant::now();
     advance(POWER, knit, 0, 0, &mut b.pyramid, &mut b.serials, &mut b.order).expect("advance by 0");
@@ -125,9 +125,10 @@ fn print_line(what: &str, runs: &[Run], of: impl Fn(&Run) -> f64) {
     println!("{what}: {:.3} ms", 1000.0 * median(runs, of));
 }
 
-/// The greys, by the library's own call.
+/// The greys, by the library's own calls.
 fn sampled() -> Vec<u8> {
     let mut greys = vec![0; CELLS];
     rulmedei::sample(SEED, SIDE, &mut greys).expect("sample");
+    rulmedei::lower(&mut greys);
     greys
 }

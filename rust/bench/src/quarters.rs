@@ -2,7 +2,7 @@
 //! below the one at place i are at the places 4 i + 1 to 4 i + 4, and a cell's place is found in a table of 32 by 32.
 //! Otherwise as `rows`: plain indexing, so every access is bounds-checked, and no unsafe code.
 
-use crate::rows::{around, level_start, numbered, DOT, HALF_DOT, WEIGHTS};
+use crate::rows::{around, level_start, low, numbered, DOT, HALF_DOT, WEIGHTS};
 
 /// The places of 32 by 32 entries, by row then column.
 static PLACES: [u16; 1024] = small_places();
@@ -29,9 +29,13 @@ fn place(row: usize, column: usize) -> usize {
     1024 * small(row / 32, column / 32) + small(row % 32, column % 32)
 }
 
-pub fn load(power: usize, greys: &[u8], pyramid: &mut [i64], serials: &mut [u32], order: &mut [u32]) {
+/// Load: none for a map with a grey above 240.
+pub fn load(power: usize, greys: &[u8], pyramid: &mut [i64], serials: &mut [u32], order: &mut [u32]) -> Option<()> {
     let side = 1 << power;
     let cells = level_start(power);
+    if !low(side * side, greys) {
+        return None;
+    }
     for cell in 0..side * side {
         pyramid[cells + place(cell / side, cell % side)] = 256 * i64::from(greys[cell]);
         serials[cell] = 0;
@@ -40,6 +44,7 @@ pub fn load(power: usize, greys: &[u8], pyramid: &mut [i64], serials: &mut [u32]
     for at in (0..cells).rev() {
         pyramid[at] = four(at, pyramid);
     }
+    Some(())
 }
 
 /// The sum of the four entries below the one at a place of the pyramid.

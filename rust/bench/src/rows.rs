@@ -1,10 +1,13 @@
 //! The team's own implementation in Rust of the same work, for either knit, with the pyramid row after row, as it lay
 //! before it came by quarters: plain indexing, so every access is
-//! bounds-checked, and no unsafe code. Load fills the pyramid and makes all sums; Advance tests the sheet, then
-//! descends, burns, spreads, and renews the sums over the burnt cell and its neighbours, each once.
+//! bounds-checked, and no unsafe code. Load tests the greys, fills the pyramid and makes all sums; Advance tests the
+//! sheet, then descends, burns, spreads, and renews the sums over the burnt cell and its neighbours, each once.
 
 pub const DOT: i64 = 65_280;
 pub const HALF_DOT: i64 = 32_640;
+
+/// The highest grey that Load takes.
+const HIGHEST: u8 = 240;
 
 /// What the cells around a cell weigh, a table for each knit.
 pub const WEIGHTS: [[i64; 9]; 2] = [[1, 2, 1, 2, 0, 2, 1, 2, 1], [0, 1, 0, 1, 0, 1, 0, 1, 0]];
@@ -16,15 +19,25 @@ pub fn level_start(level: usize) -> usize {
     ((1 << (2 * level)) - 1) / 3
 }
 
-pub fn load(power: usize, greys: &[u8], pyramid: &mut [i64], serials: &mut [u32], order: &mut [u32]) {
+/// Load: none for a map with a grey above 240.
+pub fn load(power: usize, greys: &[u8], pyramid: &mut [i64], serials: &mut [u32], order: &mut [u32]) -> Option<()> {
     let side = 1 << power;
     let cells = level_start(power);
+    if !low(side * side, greys) {
+        return None;
+    }
     for place in 0..side * side {
         pyramid[cells + place] = 256 * i64::from(greys[place]);
         serials[place] = 0;
         order[place] = 0;
     }
     renew_all(power, pyramid);
+    Some(())
+}
+
+/// None of the greys of so many cells is above 240.
+pub fn low(cells: usize, greys: &[u8]) -> bool {
+    (0..cells).all(|cell| greys[cell] <= HIGHEST)
 }
 
 /// All coarser sums, from the finest level up.

@@ -1,7 +1,7 @@
 //! The cases, by kind: every call answered, and every call refused, both on either knit; loads; runs of calls with lent
 //! parts and damage between them; runs with names; sheets that no Load made; noise; the renewal by itself on wrong
-//! pyramids; samples one after another; plates compared, and shelves of plates; older sheets; texts, and texts of two
-//! sides.
+//! pyramids; samples one after another, and lowered; plates compared, and shelves of plates; older sheets; texts, and
+//! texts of two sides, read and lowered.
 
 use reference::SIDES;
 

@@ -1,38 +1,42 @@
 //! Which codes the calls returned at which of the eight sides, which of them on ribbed cloth, and what kinds of
-//! comparison, shelf, Keep, Restore and knit there were.
+//! comparison, shelf, Keep, Restore, knit and greys there were.
 
 use std::collections::BTreeSet;
 
 use reference::SIDES;
 
+use crate::grey_kinds;
 use crate::knit_kinds;
 use crate::plate_kinds::{self, Kind};
 use crate::stage_kinds;
 
-/// The codes that each call can return at every side: those of its answers, then those of its refusals.
-const CODES: [(&str, &[u32]); 14] = [
-    ("load", &[0, 11, 2, 3, 4]),
+/// The codes that each call can return at every side: those of its answers, then those of its refusals. Lower has none,
+/// and is noted with 0.
+const CODES: [(&str, &[u32]); 16] = [
+    ("load", &[0, 11, 2, 3, 4, 12]),
     ("advance", &[0, 100, 11, 3, 4, 5]),
     ("tally", &[0, 4, 6]),
     ("levels", &[0, 2, 4]),
-    ("map_text", &[0, 2, 7]),
+    ("map_text", &[0, 2, 7, 12]),
+    ("lower_text", &[0, 2, 7, 8]),
     ("drill_list", &[0, 11, 3, 4, 5, 8]),
     ("quote_page", &[0, 2, 4, 6, 8]),
     ("sample", &[0, 2]),
     ("compare", &[102, 103, 104, 105, 106, 4]),
     ("shelf", &[0, 4, 8]),
     ("keep", &[0, 10]),
-    ("restore", &[0, 11, 2, 3, 4, 5, 10]),
+    ("restore", &[0, 11, 2, 3, 4, 5, 12, 10]),
     ("relay", &[0, 11, 3, 4, 5]),
     ("renew", &[0, 101]),
+    ("lower", &[0]),
 ];
 
 /// The codes that the calls that look at the knit can return at every side on ribbed cloth.
 const RIBBED_CODES: [(&str, &[u32]); 5] = [
-    ("load", &[0, 2, 3, 4]),
+    ("load", &[0, 2, 3, 4, 12]),
     ("advance", &[0, 100, 3, 4, 5]),
     ("drill_list", &[0, 3, 4, 5, 8]),
-    ("restore", &[0, 2, 3, 4, 5, 10]),
+    ("restore", &[0, 2, 3, 4, 5, 12, 10]),
     ("relay", &[0, 3, 4, 5]),
 ];
 
@@ -72,14 +76,19 @@ impl Coverage {
 
     /// Whether some kind has not been met yet; once all are, nobody asks of what kinds a call is. Only these are noted.
     pub fn wants_kinds(&self) -> bool {
-        self.kinds.len() < plate_kinds::KINDS.len() + stage_kinds::KINDS.len() + knit_kinds::KINDS.len()
+        self.kinds.len() < all_kinds().count()
     }
 
-    /// The kinds of comparison, shelf, Keep, Restore and knit that have not been seen.
+    /// The kinds of comparison, shelf, Keep, Restore, knit and greys that have not been seen.
     pub fn missing_kinds(&self) -> Vec<Kind> {
-        let kinds = plate_kinds::KINDS.into_iter().chain(stage_kinds::KINDS).chain(knit_kinds::KINDS);
-        kinds.filter(|wanted| !self.kinds.contains(wanted)).collect()
+        all_kinds().filter(|wanted| !self.kinds.contains(wanted)).collect()
     }
+}
+
+/// The kinds that have to be met.
+fn all_kinds() -> impl Iterator<Item = Kind> {
+    let of_sheets = plate_kinds::KINDS.into_iter().chain(stage_kinds::KINDS);
+    of_sheets.chain(knit_kinds::KINDS).chain(grey_kinds::KINDS)
 }
 
 /// What a table has, at every side, and was not seen.

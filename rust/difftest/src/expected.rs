@@ -60,6 +60,11 @@ pub fn map_text(text: &[u8], greys: &mut [u8]) -> Outcome {
     Outcome { code: code_of(answer), values: vec![answer.unwrap_or(0).into()] }
 }
 
+pub fn lower_text(text: &[u8], greys: &mut [u8], out: &mut [u8]) -> Outcome {
+    let answer = reference::lower_text(text, greys, out);
+    Outcome { code: code_of(answer), values: vec![answer.unwrap_or(0) as u64] }
+}
+
 pub fn drill_list(progress: Progress, pyramid: &[i64], serials: &[u32], order: &[u32], out: &mut [u8]) -> Outcome {
     let answer = reference::drill_list(progress, pyramid, serials, order, out);
     Outcome { code: code_of(answer), values: vec![answer.unwrap_or(0) as u64] }
@@ -117,6 +122,11 @@ pub fn relay(progress: Progress, pyramid: &[i64], serials: &[u32], order: &[u32]
 pub fn renew(side: u32, [row, column]: [u32; 2], pyramid: &mut [i64]) -> Outcome {
     let renewed = reference::renew(side, row, column, pyramid);
     Outcome { code: if renewed { 0 } else { NOT_RENEWED }, values: Vec::new() }
+}
+
+pub fn lower(greys: &mut [u8]) -> Outcome {
+    reference::lower(greys);
+    Outcome { code: 0, values: Vec::new() }
 }
 
 fn record(progress: Progress) -> Vec<u64> {

@@ -57,6 +57,11 @@ pub fn map_text(text: &[u8], greys: &mut [u8]) -> Outcome {
     Outcome { code, values: vec![side.into()] }
 }
 
+pub fn lower_text(text: &[u8], greys: &mut [u8], out: &mut [u8]) -> Outcome {
+    let (code, length) = codes::lower_text(text, greys, out);
+    Outcome { code, values: vec![length as u64] }
+}
+
 pub fn drill_list(progress: Progress, pyramid: &[i64], serials: &[u32], order: &[u32], out: &mut [u8]) -> Outcome {
     let (code, length) = codes::drill_list(ours(progress), pyramid, serials, order, out);
     Outcome { code, values: vec![length as u64] }
@@ -107,6 +112,12 @@ pub fn relay(progress: Progress, pyramid: &[i64], serials: &[u32], order: &[u32]
 
 pub fn renew(side: u32, [row, column]: [u32; 2], pyramid: &mut [i64]) -> Outcome {
     Outcome { code: codes::renew(side, row, column, pyramid), values: Vec::new() }
+}
+
+/// It has no code, and is always done.
+pub fn lower(greys: &mut [u8]) -> Outcome {
+    codes::lower(greys);
+    Outcome { code: 0, values: Vec::new() }
 }
 
 /// The record as the library has it.

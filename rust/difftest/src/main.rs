@@ -4,6 +4,7 @@
 mod cases;
 mod coverage;
 mod expected;
+mod grey_kinds;
 mod knit_kinds;
 mod library;
 mod older;
@@ -28,7 +29,7 @@ use random::Random;
 use side_by_side::SideBySide;
 
 /// Within so many cases every call has returned each of its codes at every side, those that look at the knit on ribbed
-/// cloth too, and there was every kind of comparison, shelf, Keep, Restore and knit.
+/// cloth too, and there was every kind of comparison, shelf, Keep, Restore, knit and greys.
 const COVERED: u64 = 1000;
 
 fn main() -> ExitCode {
@@ -85,11 +86,11 @@ fn compare_cases(cases: u64, seed: u64) -> Result<String, String> {
         println!("{call},{code},{count}");
     }
     let [codes, kinds] = [codes, kinds].map(|covered| covered.unwrap_or(cases));
+    println!("each of the fourteen calls, the renewal by itself and the lowering of greys was answered, and gave each");
     println!(
-        "each of the fourteen calls was answered, and gave each refusal, at all eight sides within {codes} cases,"
+        "refusal, at all eight sides within {codes} cases, those that look at the knit on plain cloth and on ribbed"
     );
-    println!("those that look at the knit on plain cloth and on ribbed");
-    println!("every kind of comparison, shelf, Keep, Restore and knit was met within {kinds} cases");
+    println!("every kind of comparison, shelf, Keep, Restore, knit and greys was met within {kinds} cases");
     Ok(format!("{} calls compared in {cases} cases of seed {seed}, no difference", calls.total()))
 }
 

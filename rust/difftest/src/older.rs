@@ -1,6 +1,6 @@
 //! Relay: sheets that lie row after row, as earlier versions left them, sound or damaged; and how they go on.
 
-use reference::{by_rows, to_rows, Progress};
+use reference::{by_rows, to_rows, Buffers, Progress};
 
 use crate::parts::{blank, budget, damage, greys, lent, needed, noise, whole};
 use crate::random::Random;
@@ -25,14 +25,22 @@ pub fn older_case(random: &mut Random, calls: &mut SideBySide, side: u32) -> Res
     goes_on(calls, progress, &old, second, budget(random, side))
 }
 
-/// A sheet that the reference made row after row; for a number that is no side, a blank one.
+/// A sheet that the reference made row after row, of greys up to 255, which were not refused then; for a number that is
+/// no side, a blank one.
 fn older(random: &mut Random, side: u32) -> (Progress, Sheet) {
     let spare = random.below(3);
-    let greys = greys(random, needed(side).0);
+    let (cells, needed) = needed(side);
+    let greys = greys(random, cells);
+    let start = Progress { side, dots: 0, knit: random.good_knit() };
     let mut old = blank(side, spare);
+    let Ok(loaded) = Buffers::older(side, &greys) else {
+        return (start, old);
+    };
     let Sheet { pyramid, serials, order } = &mut old;
-    let loaded = by_rows::load(side, random.good_knit(), &greys, pyramid, serials, order);
-    let after = by_rows::advance(loaded.progress, budget(random, side), pyramid, serials, order);
+    pyramid[..needed].copy_from_slice(&to_rows(side, &loaded.pyramid));
+    serials[..cells].fill(0);
+    order[..cells].fill(0);
+    let after = by_rows::advance(start, budget(random, side), pyramid, serials, order);
     (after.progress, old)
 }
 

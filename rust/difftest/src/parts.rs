@@ -1,6 +1,6 @@
 //! What is lent to calls: sheets, greys and parts of them, damage, blocks, levels and budgets, drawn for a side.
 
-use reference::{cell_count, power, pyramid_length, Progress, PLAIN, RIBBED};
+use reference::{cell_count, lowered, power, pyramid_length, Progress, HIGHEST, PLAIN, RIBBED};
 
 use crate::random::Random;
 use crate::side_by_side::{Lent, Sheet};
@@ -82,12 +82,30 @@ pub fn damage(random: &mut Random, progress: &mut Progress, sheet: &mut Sheet) {
     }
 }
 
-/// Greys of one kind or another.
+/// Greys that Load takes.
+pub fn low_greys(random: &mut Random, count: usize) -> Vec<u8> {
+    lowered(&greys(random, count))
+}
+
+/// Mostly greys that Load takes; now and then one of them is too high, or any may be.
+pub fn mostly_low_greys(random: &mut Random, count: usize) -> Vec<u8> {
+    let mut greys = greys(random, count);
+    if !random.once_in(8) {
+        greys = lowered(&greys);
+    }
+    if random.once_in(4) && count > 0 {
+        let any = random.below(count);
+        greys[random.pick(&[0, count - 1, any])] = HIGHEST + 1 + random.below(15) as u8;
+    }
+    greys
+}
+
+/// Greys of one kind or another, up to 255.
 pub fn greys(random: &mut Random, count: usize) -> Vec<u8> {
     let flat = random.next() as u8;
     match random.below(6) {
         0 => vec![flat; count],
-        1 => vec![random.pick(&[0, 1, 127, 128, 129, 254, 255]); count],
+        1 => vec![random.pick(&[0, 1, 127, 128, 129, 239, 240, 241, 255]); count],
         2 => (0..count).map(|_| if random.once_in(8) { 255 } else { 0 }).collect(),
         3 => (0..count).map(|place| (place * 255 / count) as u8).collect(),
         _ => random.bytes(count),

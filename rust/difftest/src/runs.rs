@@ -4,7 +4,8 @@ use reference::{renew_all, to_quarters, Progress};
 use rulmedei::page_length;
 
 use crate::parts::{
-    blank, block, budget, damage, greys, last_level, lent, lent_greys, level, needed, noise, other_knit, whole,
+    blank, block, budget, damage, last_level, lent, lent_greys, level, low_greys, mostly_low_greys, needed, noise,
+    other_knit, whole,
 };
 use crate::random::Random;
 use crate::side_by_side::{Differs, Lent, Sheet, SideBySide};
@@ -12,7 +13,7 @@ use crate::side_by_side::{Differs, Lent, Sheet, SideBySide};
 /// Load into buffers of any length and content.
 pub fn load_case(random: &mut Random, calls: &mut SideBySide, side: u32) -> Result<(), Differs> {
     let count = random.length(needed(side).0);
-    let greys = greys(random, count);
+    let greys = mostly_low_greys(random, count);
     let mut sheet = noise(random, side);
     let lent = lent(random, side, &sheet);
     calls.load(side, random.knit(), &greys, &mut sheet, lent)?;
@@ -22,7 +23,7 @@ pub fn load_case(random: &mut Random, calls: &mut SideBySide, side: u32) -> Resu
 /// A map loaded, then a list of calls; now and then the record's knit becomes the other one between two of them.
 pub fn run_case(random: &mut Random, calls: &mut SideBySide, side: u32) -> Result<(), Differs> {
     let spare = random.below(3);
-    let greys = greys(random, needed(side).0 + spare);
+    let greys = low_greys(random, needed(side).0 + spare);
     let mut sheet = blank(side, spare);
     let all = whole(&sheet);
     let mut progress = calls.load(side, random.good_knit(), &greys, &mut sheet, all)?.progress();

@@ -8,6 +8,7 @@ use reference::{Checkpoints, Progress, RIBBED};
 
 use crate::coverage::Coverage;
 use crate::expected;
+use crate::grey_kinds;
 use crate::knit_kinds;
 use crate::library::{self, Outcome};
 use crate::plate_kinds;
@@ -74,6 +75,7 @@ impl SideBySide {
         self.agreed("load", &inputs, (&ours, &*sheet), (&theirs, &other))?;
         if self.coverage.wants_kinds() {
             self.coverage.note_kinds(knit_kinds::of_load(side, knit, greys, lent, ours.code));
+            self.coverage.note_kinds(grey_kinds::of_load(side, greys, ours.code));
         }
         self.counted_on(knit, "load", side, ours)
     }
@@ -132,8 +134,25 @@ impl SideBySide {
         let ours = library::map_text(text, greys);
         let theirs = expected::map_text(text, &mut other);
         self.agreed("map_text", &(text, &before), (&ours, &*greys), (&theirs, &other[..]))?;
+        if self.coverage.wants_kinds() {
+            self.coverage.note_kinds(grey_kinds::of_map_text(text, ours.code));
+        }
         let side = if ours.code == 0 { ours.values[0] as u32 } else { side };
         self.counted("map_text", side, ours)
+    }
+
+    /// The side is the one that the text is about, under which every answer is noted.
+    pub fn lower_text(&mut self, side: u32, text: &[u8], greys: &mut [u8], out: &mut [u8]) -> Result<Outcome, Differs> {
+        let before = (greys.to_vec(), out.len());
+        let mut other = (greys.to_vec(), out.to_vec());
+        let ours = library::lower_text(text, greys, out);
+        let theirs = expected::lower_text(text, &mut other.0, &mut other.1);
+        let left = (&ours, &*greys, &*out);
+        self.agreed("lower_text", &(text, &before), left, (&theirs, &other.0[..], &other.1[..]))?;
+        if self.coverage.wants_kinds() {
+            self.coverage.note_kinds(grey_kinds::of_lower_text(text, greys, out, &ours));
+        }
+        self.counted("lower_text", side, ours)
     }
 
     pub fn drill_list(
@@ -264,6 +283,7 @@ impl SideBySide {
             let top = before.pyramid.first().copied();
             self.coverage.note_kinds(stage_kinds::of_restore(progress, checkpoints, name, greys, top, ours.code));
             self.coverage.note_kinds(knit_kinds::of_restore(progress, name, greys, &before, lent, ours.code));
+            self.coverage.note_kinds(grey_kinds::of_restore(progress, checkpoints, name, greys, ours.code));
         }
         self.counted_on(progress.knit, "restore", progress.side, ours)
     }
@@ -297,6 +317,16 @@ impl SideBySide {
         let inputs = (side, cell, &before, lent);
         self.agreed("renew", &inputs, (&ours, &*pyramid), (&theirs, &other[..]))?;
         self.counted("renew", side, ours)
+    }
+
+    /// Lower of the first greys of a buffer, as many as are lent; they are those of a side, under which it is noted.
+    pub fn lower(&mut self, side: u32, greys: &mut [u8], lent: usize) -> Result<Outcome, Differs> {
+        let before = greys.to_vec();
+        let mut other = greys.to_vec();
+        let ours = library::lower(&mut greys[..lent]);
+        let theirs = expected::lower(&mut other[..lent]);
+        self.agreed("lower", &(&before, lent), (&ours, &*greys), (&theirs, &other[..]))?;
+        self.counted("lower", side, ours)
     }
 
     fn agreed<T: Debug + PartialEq>(&self, call: &str, inputs: &dyn Debug, ours: T, theirs: T) -> Result<(), Differs> {

@@ -2,7 +2,9 @@
 
 use reference::{Checkpoints, Progress};
 
-use crate::parts::{blank, budget, damage, greys, lent, lent_greys, needed, other_knit, total, whole};
+use crate::parts::{
+    blank, budget, damage, lent, lent_greys, low_greys, mostly_low_greys, needed, other_knit, total, whole,
+};
 use crate::random::Random;
 use crate::side_by_side::{Differs, Lent, Sheet, SideBySide};
 
@@ -17,7 +19,7 @@ struct Stage {
 /// A map loaded, some holes made and kept, then a list of calls; now and then the record's knit becomes the other one.
 pub fn stage_case(random: &mut Random, calls: &mut SideBySide, side: u32) -> Result<(), Differs> {
     let spare = random.below(3);
-    let greys = greys(random, needed(side).0 + spare);
+    let greys = low_greys(random, needed(side).0 + spare);
     let mut sheet = blank(side, spare);
     let all = whole(&sheet);
     let progress = calls.load(side, random.good_knit(), &greys, &mut sheet, all)?.progress();
@@ -84,7 +86,7 @@ fn keep(random: &mut Random, calls: &mut SideBySide, stage: &mut Stage) -> Resul
 /// place of it another. The sheet stays sound, whatever comes of it.
 fn restore(random: &mut Random, calls: &mut SideBySide, stage: &mut Stage) -> Result<(), Differs> {
     let Progress { side, .. } = stage.progress;
-    let other_greys = if random.once_in(8) { Some(greys(random, stage.greys.len())) } else { None };
+    let other_greys = if random.once_in(4) { Some(mostly_low_greys(random, stage.greys.len())) } else { None };
     let all_greys = other_greys.as_ref().unwrap_or(&stage.greys);
     let (name, mut value) = (kept_name(random, stage.checkpoints), stage.checkpoints);
     if random.once_in(4) {
@@ -108,11 +110,15 @@ fn entry(random: &mut Random, side: u32, greys: &[u8]) -> u64 {
     random.pick(&[0, 1, few, few, last + 1, last + 1, last + 2, (1 << 32) + few, 1 << 63, u64::MAX, any])
 }
 
-/// Restore on a copy of the sheet in which one bit, or the record, is another.
+/// Restore on a copy of the sheet in which one bit, or the record, is another; now and then a grey is too high.
 fn restore_damaged(random: &mut Random, calls: &mut SideBySide, stage: &Stage) -> Result<(), Differs> {
     let (mut record, mut damaged) = (stage.progress, stage.sheet.clone());
     damage(random, &mut record, &mut damaged);
-    let given = lent_greys(random, record.side, &stage.greys);
+    let mut greys = stage.greys.clone();
+    if random.once_in(4) {
+        greys[random.below(stage.greys.len())] = 241;
+    }
+    let given = lent_greys(random, record.side, &greys);
     let lent = lent(random, stage.progress.side, &damaged);
     let name = kept_name(random, stage.checkpoints);
     calls.restore(record, stage.checkpoints, name, given, &mut damaged, lent)?;
@@ -120,7 +126,8 @@ fn restore_damaged(random: &mut Random, calls: &mut SideBySide, stage: &Stage) -
 }
 
 /// A finished map of two holes or more, with a name for no hole, for one, for all, and for more than there can be. Then
-/// back to one hole; where the map isn't large also, with all greys half as dark, to none, and forwards to its end.
+/// back to one hole, with a high grey behind the map's, which is not looked at; where the map isn't large also, with
+/// all greys half as dark, to none, and forwards to its end.
 pub fn stages_tour(calls: &mut SideBySide, progress: Progress, greys: &[u8], finished: &Sheet) -> Result<(), Differs> {
     let mut sheet = finished.clone();
     let all = whole(&sheet);
@@ -130,7 +137,8 @@ pub fn stages_tour(calls: &mut SideBySide, progress: Progress, greys: &[u8], fin
     }
     let lighter: Vec<u8> = greys.iter().map(|grey| grey / 2).collect();
     let mut record = progress;
-    let returns = [(5, greys), (1, &lighter), (8, greys)];
+    let longer = [greys, &[255]].concat();
+    let returns = [(5, &longer[..]), (1, &lighter), (8, greys)];
     for (name, greys) in returns.into_iter().take(if progress.side > 64 { 1 } else { 3 }) {
         record = calls.restore(record, checkpoints, name, greys, &mut sheet, all)?.progress();
     }
@@ -169,10 +177,42 @@ pub fn refused_stages(
     for name in [0, 9, 1 << 31] {
         calls.keep(progress, &mut value, name)?;
     }
-    // greys past the map's don't make the total more
+    refused_high_stages(random, calls, progress, value, greys, sheet)?;
+    // greys past the map's don't make the total more, nor are they looked at
     let longer = [greys, &[255; 2]].concat();
     for name in [7, wrong] {
         calls.restore(progress, value, name, &longer, sheet, all)?;
     }
+    Ok(())
+}
+
+/// Restore with a grey above 240, by itself and together with each other reason: one that comes before it is told, and
+/// the name comes after it.
+fn refused_high_stages(
+    random: &mut Random,
+    calls: &mut SideBySide,
+    progress: Progress,
+    value: Checkpoints,
+    greys: &[u8],
+    sheet: &mut Sheet,
+) -> Result<(), Differs> {
+    let all = whole(sheet);
+    let mut high = greys.to_vec();
+    // not the first, so that it is still there where the first is left out
+    high[1 + random.below(greys.len() - 1)] = random.pick(&[241, 242, 254, 255]);
+    for (record, lent) in [
+        (progress, all),
+        (Progress { side: progress.side + 1, ..progress }, all),
+        (Progress { knit: random.no_knit(), ..progress }, all),
+        (progress, Lent { pyramid: all.pyramid - 1, ..all }),
+        (progress, Lent { serials: all.serials - 1, ..all }),
+        (progress, Lent { order: all.order - 1, ..all }),
+        (Progress { dots: progress.dots + 1, ..progress }, all),
+    ] {
+        for name in [1, 7, 9] {
+            calls.restore(record, value, name, &high, sheet, lent)?;
+        }
+    }
+    calls.restore(progress, value, 1, &high[1..], sheet, all)?;
     Ok(())
 }

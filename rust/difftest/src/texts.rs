@@ -1,8 +1,8 @@
-//! Map texts.
+//! Map texts, read and lowered.
 
 use reference::{cell_count, write_map_text};
 
-use crate::parts::greys;
+use crate::parts::mostly_low_greys;
 use crate::random::Random;
 use crate::side_by_side::{Differs, SideBySide};
 
@@ -34,15 +34,18 @@ pub fn mixed_text_case(random: &mut Random, calls: &mut SideBySide, side: u32) -
 
 /// The text of greys of one kind or another.
 fn written(random: &mut Random, side: u32) -> Vec<u8> {
-    let greys = greys(random, cell_count(side));
+    let greys = mostly_low_greys(random, cell_count(side));
     write_map_text(side, &greys)
 }
 
-/// Map Text into a greys buffer around the length that a side needs.
+/// Map Text into a greys buffer around the length that a side needs, and Lower Text, into an output around the text's
+/// length as well; now and then it has none.
 fn read(random: &mut Random, calls: &mut SideBySide, side: u32, text: &[u8]) -> Result<(), Differs> {
     let room = random.length(cell_count(side));
     let mut buffer = vec![9; room];
     calls.map_text(side, text, &mut buffer)?;
+    let bytes = if random.once_in(16) { 0 } else { random.length(text.len()) };
+    calls.lower_text(side, text, &mut vec![9; room], &mut vec![46; bytes])?;
     Ok(())
 }
 

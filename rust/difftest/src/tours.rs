@@ -1,7 +1,7 @@
 //! Two cases, each on either knit, in which every call is made at a side whatever is drawn: once each call is answered,
 //! once each call gives every refusal that it gives on a known side.
 
-use reference::{write_map_text, Checkpoints, Progress, PLAIN, RIBBED};
+use reference::{lowered, write_map_text, Checkpoints, Progress, PLAIN, RIBBED};
 use rulmedei::{list_room, page_length};
 
 use crate::knit_kinds;
@@ -20,13 +20,15 @@ pub fn ribbed_tour_case(random: &mut Random, calls: &mut SideBySide, side: u32) 
     tour(random, calls, side, RIBBED)
 }
 
-/// A sample of at least two holes, its text read, the map loaded and run to its end in three calls, with Levels and
-/// Drill List after each. Then Tally and Quote Page at every level, Compare and Shelf on the plate and others, Keep and
-/// Restore, Relay, and the renewal of sums of which the top is wrong.
+/// A sample of at least two holes, which is lowered, its text read, the map loaded and run to its end in three calls,
+/// with Levels and Drill List after each. Then Tally and Quote Page at every level, Compare and Shelf on the plate and
+/// others, Keep and Restore, Relay, and the renewal of sums of which the top is wrong. After the text was read, another
+/// one, with greys that are too high, is lowered.
 fn tour(random: &mut Random, calls: &mut SideBySide, side: u32, knit: u32) -> Result<(), Differs> {
     let greys = sampled(random, calls, side)?;
     let mut read = vec![9; greys.len()];
     calls.map_text(side, &write_map_text(side, &greys), &mut read)?;
+    lower_tour(random, calls, side, &greys)?;
     let mut sheet = blank(side, 0);
     let all = whole(&sheet);
     let mut progress = calls.load(side, knit, &greys, &mut sheet, all)?.progress();
@@ -45,13 +47,42 @@ fn tour(random: &mut Random, calls: &mut SideBySide, side: u32, knit: u32) -> Re
     Ok(())
 }
 
-/// Sample, then two of the greys set so that two holes are due.
+/// Sample, then two of the greys set so that two holes are due, then all lowered.
 fn sampled(random: &mut Random, calls: &mut SideBySide, side: u32) -> Result<Vec<u8>, Differs> {
     let mut greys = vec![9; needed(side).0];
     let room = greys.len();
     calls.sample(random.next() as u32, side, &mut greys, room)?;
     greys[..2].fill(255);
+    calls.lower(side, &mut greys, room)?;
     Ok(greys)
+}
+
+/// The greys with one that is too high, or more.
+fn raised(random: &mut Random, greys: &[u8]) -> Vec<u8> {
+    let mut high = greys.to_vec();
+    for _ in 0..random.pick(&[1, 1, 3, greys.len()]) {
+        let any = random.below(greys.len());
+        high[random.pick(&[0, greys.len() - 1, any])] = 241 + random.below(15) as u8;
+    }
+    high
+}
+
+/// Lower Text of a text with greys that are too high gives a text that Map Text takes; of that text it gives the same.
+fn lower_tour(random: &mut Random, calls: &mut SideBySide, side: u32, greys: &[u8]) -> Result<(), Differs> {
+    let high = raised(random, greys);
+    let text = write_map_text(side, &high);
+    let (mut read, mut out) = (vec![9; greys.len() + 1], vec![46; text.len() + 1]);
+    calls.lower_text(side, &text, &mut read, &mut out)?;
+    let low = write_map_text(side, &lowered(&high));
+    if (&out[..text.len()], &read[..greys.len()]) != (&low[..], &lowered(&high)[..]) {
+        return Err(format!("lower_text of side {side}: not the text of the lowered greys"));
+    }
+    calls.map_text(side, &low, &mut read)?;
+    calls.lower_text(side, &low, &mut read, &mut out)?;
+    if out[..text.len()] == low && out[text.len()] == 46 {
+        return Ok(());
+    }
+    Err(format!("lower_text of side {side}: a text without a grey above 240 is not copied"))
 }
 
 /// Tally of a square, and Quote Page, for each level that the map has.
@@ -87,6 +118,7 @@ fn refusals(random: &mut Random, calls: &mut SideBySide, side: u32, knit: u32) -
     let progress = calls.advance(start, 1 + random.below(50) as u32, &mut sheet, all)?.progress();
     refused_for_lengths(calls, progress, &greys, &mut sheet)?;
     refused_for_knit(random, calls, progress, &greys, &mut sheet)?;
+    refused_for_greys(random, calls, progress, &greys, &mut sheet)?;
     refused_looks(random, calls, side, &greys, &sheet.serials)?;
     refused_lists(calls, progress, &sheet)?;
     refused_plates(calls, side, &sheet.serials)?;
@@ -157,6 +189,34 @@ fn refused_for_knit(
         calls.keep(record, &mut value, name)?;
     }
     calls.keep(no_side, &mut value, 1)?;
+    Ok(())
+}
+
+/// Load with a grey above 240, by itself and together with all that it looks at before; then with one behind the map's
+/// own greys, on a copy of the sheet.
+fn refused_for_greys(
+    random: &mut Random,
+    calls: &mut SideBySide,
+    progress: Progress,
+    greys: &[u8],
+    sheet: &mut Sheet,
+) -> Result<(), Differs> {
+    let Progress { side, knit, .. } = progress;
+    let all = whole(sheet);
+    let Lent { pyramid, serials, order } = all;
+    let high = [greys, &[241]].concat();
+    calls.load(side, knit, &high, &mut sheet.clone(), all)?;
+    for place in [0, greys.len() - 1, random.below(greys.len())] {
+        let mut high = greys.to_vec();
+        high[place] = random.pick(&[241, 242, 254, 255]);
+        calls.load(side, knit, &high, sheet, all)?;
+        calls.load(side + 1, knit, &high, sheet, all)?;
+        calls.load(side, random.no_knit(), &high, sheet, all)?;
+        calls.load(side, knit, &high[..greys.len() - 1], sheet, all)?;
+        calls.load(side, knit, &high, sheet, Lent { pyramid: pyramid - 1, ..all })?;
+        calls.load(side, knit, &high, sheet, Lent { serials: serials - 1, ..all })?;
+        calls.load(side, knit, &high, sheet, Lent { order: order - 1, ..all })?;
+    }
     Ok(())
 }
 
@@ -232,13 +292,26 @@ fn refused_for_damage(
     Ok(())
 }
 
-/// Map Text with a greys buffer one place short, and with the text's last byte cut off or another behind it.
+/// Map Text and Lower Text with a greys buffer one place short, and with the text's last byte cut off or another behind
+/// it; Lower Text with an output one byte short, and with none. All of it without a grey above 240 and with one, which
+/// by itself Map Text alone refuses.
 fn refused_texts(random: &mut Random, calls: &mut SideBySide, side: u32, greys: &[u8]) -> Result<(), Differs> {
-    let text = write_map_text(side, greys);
-    let mut read = vec![9; greys.len()];
-    calls.map_text(side, &text, &mut read[1..])?;
-    calls.map_text(side, &text[..text.len() - 1], &mut read)?;
-    let longer = [&text[..], &[random.next() as u8]].concat();
-    calls.map_text(side, &longer, &mut read)?;
+    let high = raised(random, greys);
+    for greys in [greys, &high[..]] {
+        let text = write_map_text(side, greys);
+        let (mut read, mut out) = (vec![9; greys.len()], vec![46; text.len()]);
+        calls.map_text(side, &text, &mut read.clone())?;
+        let longer = [&text[..], &[random.next() as u8]].concat();
+        for text in [&text[..text.len() - 1], &longer] {
+            calls.map_text(side, text, &mut read)?;
+            calls.lower_text(side, text, &mut read, &mut out)?;
+            calls.lower_text(side, text, &mut read, &mut [])?;
+        }
+        calls.map_text(side, &text, &mut read[1..])?;
+        calls.lower_text(side, &text, &mut read[1..], &mut out)?;
+        calls.lower_text(side, &text, &mut read[1..], &mut [])?;
+        calls.lower_text(side, &text, &mut read, &mut out[1..])?;
+        calls.lower_text(side, &text, &mut read, &mut [])?;
+    }
     Ok(())
 }

@@ -61,6 +61,16 @@ extern "C" {
         side: *mut u32,
     ) -> u32;
 
+    pub fn rulmedei_lower_text(
+        text: *const u8,
+        text_length: usize,
+        greys: *mut u8,
+        greys_length: usize,
+        out: *mut u8,
+        out_length: usize,
+        length: *mut usize,
+    ) -> u32;
+
     pub fn rulmedei_drill_list(
         side: u32,
         dots: u32,
@@ -143,4 +153,6 @@ extern "C" {
     ) -> u32;
 
     pub fn rulmedei_renew(side: u32, row: u32, column: u32, pyramid: *mut i64, pyramid_length: usize) -> u32;
+
+    pub fn rulmedei_lower(greys: *mut u8, greys_length: usize);
 }

@@ -1,6 +1,6 @@
 //! The calls with their codes, on slices: the number that a call returns (0 for done, 100 for more, 102 to 106 for how
 //! two plates compare, else a refusal's), and what it writes beside the buffers. And the renewal by itself, whose
-//! number is 0 or 101.
+//! number is 0 or 101, and the lowering of greys, which has none.
 
 use crate::c;
 use crate::{Checkpoints, Progress};
@@ -106,6 +106,24 @@ pub fn map_text(text: &[u8], greys: &mut [u8]) -> (u32, u32) {
     // SAFETY: each pointer and length is that of a slice, and `side` is a local.
     let code = unsafe { c::rulmedei_map_text(text.as_ptr(), text.len(), greys.as_mut_ptr(), greys.len(), &mut side) };
     (code, side)
+}
+
+/// The code, and the text's length.
+pub fn lower_text(text: &[u8], greys: &mut [u8], out: &mut [u8]) -> (u32, usize) {
+    let mut length = usize::MAX;
+    // SAFETY: each pointer and length is that of a slice, and `length` is a local.
+    let code = unsafe {
+        c::rulmedei_lower_text(
+            text.as_ptr(),
+            text.len(),
+            greys.as_mut_ptr(),
+            greys.len(),
+            out.as_mut_ptr(),
+            out.len(),
+            &mut length,
+        )
+    };
+    (code, length)
 }
 
 /// The code, and the list's length.
@@ -240,4 +258,10 @@ pub fn relay(progress: Progress, pyramid: &[i64], serials: &[u32], order: &[u32]
 pub fn renew(side: u32, row: u32, column: u32, pyramid: &mut [i64]) -> u32 {
     // SAFETY: the pointer and length are those of a slice.
     unsafe { c::rulmedei_renew(side, row, column, pyramid.as_mut_ptr(), pyramid.len()) }
+}
+
+/// Always done.
+pub fn lower(greys: &mut [u8]) {
+    // SAFETY: the pointer and length are those of a slice.
+    unsafe { c::rulmedei_lower(greys.as_mut_ptr(), greys.len()) }
 }

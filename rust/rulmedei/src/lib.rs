@@ -1,17 +1,22 @@
-//! Grey maps to ordered lists of holes: the thirteen calls of the proved library, on slices that the caller lends. No
+//! Grey maps to ordered lists of holes: the fourteen calls of the proved library, on slices that the caller lends. No
 //! call asks anything of its arguments; what doesn't fit is refused, and a refused call leaves every buffer as it was.
 //! Each call below has the numbers of its refusals in the order in which it looks for them, and of several the first is
-//! told. That is by rising number, but for 11, which comes directly after 1; Map Text has an order of its own.
+//! told. That is by rising number, but for 11, which comes directly after 1, and 12, which in Restore comes before 10;
+//! Map Text and Lower Text have an order of their own.
 //!
 //! Map Text reads a map, Load fills the buffers, Advance makes holes until it is finished, and Drill List writes them
 //! down (`examples/list.rs`). Tally, Levels and Quote Page look at what was made. Sample makes a map from a seed.
 //! Compare tells which of two plates comes first, and Shelf puts many in order (`examples/shelf.rs`). Keep writes down
 //! under a name how far a plate is, and Restore goes back to it.
 //!
+//! No map may have a grey above [`HIGHEST`]: Map Text, Load and Restore refuse it. Lower Text makes of a text that was
+//! stored before one that they take.
+//!
 //! The pyramid lies by quarters: [`place`] says where. One that an earlier version left row after row is written anew
 //! by Relay.
 //!
-//! Besides the thirteen there is `renew`, the renewal of sums that Advance does after each hole, by itself.
+//! Besides the fourteen there are `renew`, the renewal of sums that Advance does after each hole, by itself, and
+//! `lower`, which lowers greys.
 
 #[cfg(not(all(target_arch = "x86_64", target_os = "linux")))]
 compile_error!("the proved library is compiled for x86-64 Linux");
@@ -31,6 +36,9 @@ pub const PLAIN: u32 = 0;
 /// The knit of ribbed cloth: the rest is taken from the cells above, below and beside the hole alone, from each as
 /// much.
 pub const RIBBED: u32 = 1;
+
+/// The highest grey that a map may have.
+pub const HIGHEST: u8 = 240;
 
 /// The record that goes from call to call: the side, the holes made so far, and the knit, `PLAIN` or `RIBBED`. Any
 /// numbers may be handed in.
@@ -119,7 +127,8 @@ pub fn list_room(side: u32) -> usize {
 }
 
 /// Load: fills the pyramid from the greys and sets the cells of serials and order to 0. The knit goes into the record,
-/// and plays no part in this. Refusals: 1, 11, 2, 3, 4.
+/// and plays no part in this. Refusals: 1, 11, 2, 3, 4, 12 (for the N² greys of the map; those past them are not looked
+/// at).
 pub fn load(
     side: u32,
     knit: u32,
@@ -171,11 +180,35 @@ pub fn levels(side: u32, greys: &[u8], serials: &[u32]) -> Result<[u64; 9], Refu
 }
 
 /// Map Text: reads a line with the side, then a line of greys, parted by commas, for each row; returns the side.
-/// Refusals: 7 for the first line, then 1, 2, then 7 for the rest.
+/// Refusals: 7 for the first line, then 1, 2, then 7 for the rest, which a grey above 255 is too, then 12.
 pub fn map_text(text: &[u8], greys: &mut [u8]) -> Result<u32, Refusal> {
     let (code, side) = codes::map_text(text, greys);
     did(code)?;
     Ok(side)
+}
+
+/// Lower Text: reads a stored text by the grammar of Map Text, whose greys may be up to 255, lowers each grey above 240
+/// to 240, and writes the text of the result, which Map Text takes. Returns the number of bytes; they are as many as
+/// the text has that was read, and a text without a grey above 240 is copied. The lowered greys are written by row.
+/// Greys past N² stay, and so do bytes past the text. Refusals: 7 for the first line, then 1, 2, then 7 for the rest,
+/// then 8.
+///
+/// ```
+/// use rulmedei::{lower_text, map_text, Refusal};
+///
+/// let stored = b"2\n255,9\n241,240\n";
+/// let (mut greys, mut text) = ([0; 4], [0; 17]);
+/// assert_eq!(map_text(stored, &mut greys), Err(Refusal::GreyHigh));
+/// let length = lower_text(stored, &mut greys, &mut text)?;
+/// assert_eq!(&text[..length], b"2\n240,9\n240,240\n");
+/// assert_eq!(greys, [240, 9, 240, 240]);
+/// assert_eq!(map_text(&text[..length], &mut greys), Ok(2));
+/// # Ok::<(), rulmedei::Refusal>(())
+/// ```
+pub fn lower_text(text: &[u8], greys: &mut [u8], output: &mut [u8]) -> Result<usize, Refusal> {
+    let (code, length) = codes::lower_text(text, greys, output);
+    did(code)?;
+    Ok(length)
 }
 
 /// Drill List: writes the number of holes and the side on a first line, and then the serial, row and column of each
@@ -207,7 +240,19 @@ pub fn quote_page(side: u32, greys: &[u8], serials: &[u32], level: u32, out: &mu
 /// Sample: fills the greys, by row, from a seed; returns the state reached. The state is the seed at first; for each
 /// grey it becomes (1,664,525 × state + 1,013,904,223) modulo 2^32, and the grey is the new state divided by 2^24,
 /// rounded down. A further call with the state reached as its seed goes on where this one ended. Greys past N² stay.
-/// Refusals: 1, 2.
+/// The greys go up to 255, so whoever loads a sample lowers it first (`lower`). Refusals: 1, 2.
+///
+/// ```
+/// use rulmedei::{load, lower, sample, Refusal, PLAIN};
+///
+/// let (mut greys, mut pyramid, mut serials, mut order) = ([0; 16], [0; 21], [0; 16], [0; 16]);
+/// sample(7, 4, &mut greys)?;
+/// assert_eq!(greys[9], 251);
+/// assert_eq!(load(4, PLAIN, &greys, &mut pyramid, &mut serials, &mut order), Err(Refusal::GreyHigh));
+/// lower(&mut greys);
+/// load(4, PLAIN, &greys, &mut pyramid, &mut serials, &mut order)?;
+/// # Ok::<(), rulmedei::Refusal>(())
+/// ```
 pub fn sample(seed: u32, side: u32, greys: &mut [u8]) -> Result<u32, Refusal> {
     let (code, state) = codes::sample(seed, side, greys);
     did(code)?;
@@ -268,8 +313,8 @@ pub fn keep(progress: Progress, checkpoints: Checkpoints, name: u32) -> Result<C
 /// load, all with that knit. The counts all stay, so that one can go back, and to a later stage forwards again. With
 /// other greys, or the other knit, the sheet is theirs.
 ///
-/// Refusals: 1, 11, 2, 3, 4, 5 (though the sheet is then made anew), 10 (also for an empty name, and for more holes
-/// than the total, (2 × the sum of the N² greys + 255) / 510 rounded down).
+/// Refusals: 1, 11, 2, 3, 4, 5 (though the sheet is then made anew), 12 (for the N² greys), 10 (also for an empty name,
+/// and for more holes than the total, (2 × the sum of the N² greys + 255) / 510 rounded down).
 ///
 /// ```
 /// use rulmedei::{advance, keep, load, restore, Checkpoints, PLAIN};
@@ -326,7 +371,7 @@ pub fn relay(
     did(codes::relay(progress, pyramid, serials, order, second))
 }
 
-/// The renewal by itself, none of the thirteen calls: makes each coarser entry over the cell (row, column), or over one
+/// The renewal by itself, none of the fourteen calls: makes each coarser entry over the cell (row, column), or over one
 /// of its up to eight neighbours on the map, the sum of its four entries on the level below, level by level up to the
 /// top. All other entries stay as they are, right or wrong.
 ///
@@ -334,4 +379,10 @@ pub fn relay(
 /// and each entry of the needed length is from −2^40 to 2^40. Else false, and nothing has changed.
 pub fn renew(side: u32, row: u32, column: u32, pyramid: &mut [i64]) -> bool {
     codes::renew(side, row, column, pyramid) == 0
+}
+
+/// Lowers greys, none of the fourteen calls: each grey above 240 becomes 240, whatever the length. Sample gives greys
+/// up to 255, and Load refuses those above 240.
+pub fn lower(greys: &mut [u8]) {
+    codes::lower(greys);
 }

@@ -1,6 +1,6 @@
 //! The calls on document 01's example, a map of side 2 with four greys of 128, on plain cloth and on ribbed, and each
 //! refusal once; those of Quote Page and Sample in their order, and the one for the knit among the others. Samples of
-//! sides 2 and 4. And the renewal by itself.
+//! sides 2 and 4. And the renewal by itself. What has to do with greys above 240 is in lowering.rs.
 
 use rulmedei::{
     advance, cells, codes, drill_list, levels, list_room, load, map_text, page_length, place, pyramid_length,
@@ -137,8 +137,8 @@ fn levels_sums_squares() {
 #[test]
 fn map_text_reads_a_map() {
     let mut greys = [9; 5];
-    assert_eq!(map_text(b"2\n1,20\n255,0\n", &mut greys), Ok(2));
-    assert_eq!(greys, [1, 20, 255, 0, 9]);
+    assert_eq!(map_text(b"2\n1,20\n240,0\n", &mut greys), Ok(2));
+    assert_eq!(greys, [1, 20, 240, 0, 9]);
 }
 
 #[test]
@@ -235,6 +235,7 @@ fn each_refusal() {
     assert_eq!(map_text(b"2\n1,20\n256,0\n", &mut [0; 4]), Err(Refusal::TextMalformed));
     assert_eq!(sheet.list(record(2), &mut out), Err(Refusal::OutputShort));
     assert_eq!(sheet.list(Progress { knit: 2, ..record(2) }, &mut out), Err(Refusal::KnitUnknown));
+    assert_eq!(map_text(b"2\n1,20\n241,0\n", &mut [0; 4]), Err(Refusal::GreyHigh));
     assert_eq!(out, [9; 15]);
 }
 

@@ -2,10 +2,11 @@
 //! maps taken back, on plain cloth and on ribbed.
 
 use rulmedei::{
-    advance, cells, codes, keep, load, pyramid_length, restore, sample, Checkpoints, Progress, Refusal, PLAIN, RIBBED,
+    advance, cells, codes, keep, load, lower, pyramid_length, restore, sample, Checkpoints, Progress, Refusal, PLAIN,
+    RIBBED,
 };
 
-/// The buffers of a side, each one place longer than needed; that place is 9, and stays.
+/// The buffers of a side, each one place longer than needed; that place is 9, and stays, and 255 among the greys.
 #[derive(Clone, Debug, PartialEq)]
 struct Sheet {
     greys: Vec<u8>,
@@ -182,7 +183,7 @@ fn a_refused_restore_writes_the_record_given() {
 
 #[test]
 fn values_around_the_total() {
-    for (greys, total) in [([0; 4], 0), ([127, 0, 0, 0], 0), ([0, 128, 0, 0], 1), ([0, 0, 255, 128], 2), ([255; 4], 4)]
+    for (greys, total) in [([0; 4], 0), ([127, 0, 0, 0], 0), ([0, 128, 0, 0], 1), ([0, 0, 240, 143], 2), ([240; 4], 4)]
     {
         let (sheet, progress) = Sheet::new(2, &greys, 0);
         let restored = |entry: u64| sheet.clone().restore(progress, only(entry), 4).map(|record| record.dots);
@@ -199,8 +200,8 @@ fn values_around_the_total() {
 #[test]
 fn other_greys() {
     let (mut sheet, progress) = Sheet::new(4, &[10; 16], 1);
-    let (expected, record) = Sheet::new(4, &[250; 16], 11);
-    sheet.greys[..16].fill(250);
+    let (expected, record) = Sheet::new(4, &[240; 16], 11);
+    sheet.greys[..16].fill(240);
     assert_eq!(sheet.restore(progress, only(12), 4), Ok(record));
     assert_eq!(sheet, expected);
     sheet.greys[..16].fill(10);
@@ -212,6 +213,7 @@ fn other_greys() {
 fn the_other_knit() {
     let mut greys = [0; 64];
     sample(1, 8, &mut greys).unwrap();
+    lower(&mut greys);
     for (loaded, asked) in [(PLAIN, RIBBED), (RIBBED, PLAIN)] {
         let (mut sheet, progress) = Sheet::on(loaded, 8, &greys, 20);
         let (expected, record) = Sheet::on(asked, 8, &greys, 20);
@@ -227,6 +229,7 @@ fn finished_maps() {
     for (side, knit) in [(8, PLAIN), (8, RIBBED), (32, PLAIN), (64, RIBBED), (256, PLAIN)] {
         let mut greys = vec![0; cells(side)];
         sample(1, side, &mut greys).unwrap();
+        lower(&mut greys);
         let (mut sheet, mut progress) = Sheet::on(knit, side, &greys, 0);
         let mut checkpoints = Checkpoints::default();
         let mut stages = Vec::new();

@@ -5,7 +5,7 @@ use rulmedei::Refusal;
 const HEADER: &str = include_str!("../../../include/rulmedei.h");
 const EXAMPLE: &str = include_str!("../../../include/example.c");
 
-const REFUSALS: [Refusal; 11] = [
+const REFUSALS: [Refusal; 12] = [
     Refusal::SideUnknown,
     Refusal::GreysShort,
     Refusal::PyramidShort,
@@ -17,6 +17,7 @@ const REFUSALS: [Refusal; 11] = [
     Refusal::InputLong,
     Refusal::NameUnknown,
     Refusal::KnitUnknown,
+    Refusal::GreyHigh,
 ];
 
 /// The name, number and words of a line `#define RULMEDEI_NAME number /* words */`, where the number is a refusal's.
@@ -48,8 +49,14 @@ fn the_header_has_the_same_refusals() {
 }
 
 #[test]
-fn the_numbers_are_1_to_11() {
-    assert_eq!(REFUSALS.map(Refusal::number), [1, 2, 3, 4, 5, 6, 7, 8, 9, 10, 11]);
+fn the_numbers_are_1_to_12() {
+    assert_eq!(REFUSALS.map(Refusal::number), [1, 2, 3, 4, 5, 6, 7, 8, 9, 10, 11, 12]);
+}
+
+#[test]
+fn the_header_has_the_same_highest_grey() {
+    let line = format!("#define RULMEDEI_HIGHEST {}", rulmedei::HIGHEST);
+    assert!(HEADER.lines().any(|of_header| of_header == line));
 }
 
 #[test]

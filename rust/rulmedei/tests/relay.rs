@@ -20,10 +20,11 @@ struct Sheet {
     order: Vec<u32>,
 }
 
-/// The sample of seed 1 with some holes, in the layout of today.
+/// The sample of seed 1, lowered, with some holes, in the layout of today.
 fn sheet(side: u32, knit: u32, dots: u32) -> Sheet {
     let mut greys = vec![0; cells(side)];
     sample(1, side, &mut greys).unwrap();
+    lower(&mut greys);
     let (mut pyramid, mut serials, mut order) =
         (vec![0; pyramid_length(side)], vec![0; cells(side)], vec![0; cells(side)]);
     let start = load(side, knit, &greys, &mut pyramid, &mut serials, &mut order).unwrap();

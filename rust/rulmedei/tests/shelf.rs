@@ -1,7 +1,7 @@
 //! Compare and Shelf: each answer, each refusal in its order, and finished maps on a shelf.
 
 use rulmedei::Compared::{self, After, Before, Same};
-use rulmedei::{advance, cells, codes, compare, load, pyramid_length, sample, shelf, Refusal, PLAIN};
+use rulmedei::{advance, cells, codes, compare, load, lower, pyramid_length, sample, shelf, Refusal, PLAIN};
 
 const HEADER: &str = include_str!("../../../include/rulmedei.h");
 
@@ -111,10 +111,11 @@ fn shelf_refuses_in_order() {
     assert_eq!(list, [9; 3]);
 }
 
-/// The serial sheet of a sample, finished; its first greys are 0, so many of them.
+/// The serial sheet of a sample, lowered and finished; its first greys are 0, so many of them.
 fn plate(side: u32, light: usize) -> Vec<u32> {
     let mut greys = vec![0; cells(side)];
     sample(1, side, &mut greys).unwrap();
+    lower(&mut greys);
     greys[..light].fill(0);
     let (mut pyramid, mut serials, mut order) =
         (vec![0; pyramid_length(side)], vec![0; cells(side)], vec![0; cells(side)]);

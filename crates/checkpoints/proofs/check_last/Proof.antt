@@ -12,4 +12,5 @@ check-last-spec =
     (tie.spec
     (λ c. rw (c .if1 .taken))
     (λ c. rw (c .before .if1 .left, c .if2 .taken))
-    (λ c. rw (c .before .if1 .left, c .if2 .left)))
+    (λ c. rw (c .before .before .if1 .left, c .before .if2 .left, c .if3 .taken))
+    (λ c. rw (c .before .before .if1 .left, c .before .if2 .left, c .if3 .left)))

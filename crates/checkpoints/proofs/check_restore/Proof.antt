@@ -1,4 +1,4 @@
--- `checkpoints::check_restore`: what Load's check says, told apart, then the last two rows.
+-- `checkpoints::check_restore`: what Load's check says, told apart, then the last three rows.
 use borrow.Author.Needs.{needs}
 use Rattle.checkpoints.specs.Calls.{first-failed, map-lent, sheet-lent, last-checked}
 use Rattle.checkpoints.proofs.check_restore.Statement.{statement}
@@ -12,6 +12,7 @@ check-restore-spec =
     (λ c. search needs)
     (λ c. search needs)
     (λ c κs. ((search needs, search (sheet-lent, needs)), search needs))
+    (λ c κs. search needs)
     (λ c κs. search (map-lent, needs))
     (λ c κs. search needs)
     (λ c κs. search needs)

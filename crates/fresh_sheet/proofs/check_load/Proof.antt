@@ -16,18 +16,36 @@ no-knit c =
     let knit = c .before .before .before .before .args .knit in
     simp (ne-eqb _ 0 (c .before .if1 .left), lt-ltb 1 knit (omega arith))
 
--- past the tests nothing is amiss
-all-enough : tie.Need-returns-7
+-- past the tests of lengths, the greys decide
+one-high : tie.Need-returns-7
+unfolding checked numberOf lowest loadRefusal
+one-high c =
+    let d = c .before in
+    simp (
+      ne-eqb _ 0 (d .before .before .before .before .before .if1 .left),
+      le-ltb 1 _ (d .before .before .before .before .if2 .left),
+      enough (d .before .before .before .before .before .before .before .cell-count .ensures)
+          (d .before .before .before .if3 .left),
+      enough (d .before .before .before .before .before .before .needed .ensures) (d .before .before .if4 .left),
+      enough (d .before .before .before .before .before .before .before .cell-count .ensures) (d .before .if5 .left),
+      enough (d .before .before .before .before .before .before .before .cell-count .ensures) (d .if6 .left),
+      c .if7 .taken,
+    )
+
+-- past all of them nothing is amiss
+all-enough : tie.Need-returns-8
 unfolding checked numberOf lowest loadRefusal
 all-enough c =
+    let d = c .before in
     simp (
-      ne-eqb _ 0 (c .before .before .before .before .before .if1 .left),
-      le-ltb 1 _ (c .before .before .before .before .if2 .left),
-      enough (c .before .before .before .before .before .before .before .cell-count .ensures)
-          (c .before .before .before .if3 .left),
-      enough (c .before .before .before .before .before .before .needed .ensures) (c .before .before .if4 .left),
-      enough (c .before .before .before .before .before .before .before .cell-count .ensures) (c .before .if5 .left),
-      enough (c .before .before .before .before .before .before .before .cell-count .ensures) (c .if6 .left),
+      ne-eqb _ 0 (d .before .before .before .before .before .if1 .left),
+      le-ltb 1 _ (d .before .before .before .before .if2 .left),
+      enough (d .before .before .before .before .before .before .before .cell-count .ensures)
+          (d .before .before .before .if3 .left),
+      enough (d .before .before .before .before .before .before .needed .ensures) (d .before .before .if4 .left),
+      enough (d .before .before .before .before .before .before .before .cell-count .ensures) (d .before .if5 .left),
+      enough (d .before .before .before .before .before .before .before .cell-count .ensures) (d .if6 .left),
+      c .if7 .left,
     )
 
 pub check-load-spec : {M : Type 1} → statement M
@@ -70,4 +88,5 @@ check-load-spec =
       enough (c .before .before .before .before .before .before .before .cell-count .ensures) (c .before .if5 .left),
       short (c .before .before .before .before .before .before .before .cell-count .ensures) (c .if6 .taken),
     ))
+    one-high
     all-enough)

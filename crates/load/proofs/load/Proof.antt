@@ -15,6 +15,7 @@ load-spec =
     (tie.spec
     (λ c κs. search needs)
     (λ c κs. search (power-small, needs))
+    (λ c κs. search (power-small, needs))
     (λ c. search needs)
     (λ c κs. search needs)
     (λ c. search needs)

@@ -7,10 +7,10 @@ use Rattle.map_text.proofs.read_greys.Statement.{statement}
 use Rattle.map_text.proofs.read_greys.Tie as tie
 
 abbrev Inv-loop : tie.InvT-loop
-Inv-loop text from side greys₀ size at₀ i₀ greys at i = GreysLeft text from side greys₀ at i greys
+Inv-loop text from side most greys₀ size at₀ i₀ greys at i = GreysLeft text from side most greys₀ at i greys
 
 abbrev μ-loop : tie.MeasureT-loop
-μ-loop text from side greys₀ size at₀ i₀ greys at i = side * side - i
+μ-loop text from side most greys₀ size at₀ i₀ greys at i = side * side - i
 
 -- past the last grey it tells whether anything is left
 nothing-left : tie.Need-returns-2 Inv-loop μ-loop
@@ -22,7 +22,7 @@ read-greys-spec =
     (tie.spec
     Inv-loop
     μ-loop
-    (λ c. omega (arith, size-small _ (c .before .before .pre .1)))
+    (λ c. omega (arith, size-small _ (c .before .before .pre .side-most)))
     (λ c. search (left-whole, needs))
     (λ c κs. omega arith)
     (λ c κs. search needs)
@@ -30,14 +30,17 @@ read-greys-spec =
     (λ c. search needs)
     (λ c. search needs)
     (λ c. search (left-broken, needs))
-    (λ c. omega (arith, grey-small _ _ _ (c .before .before .before .before .read-number .ensures) (c .before .before .grey .given .1)))
+    (λ c.
+    let read = c .before .before .before .before in
+    omega (arith, grey-small _ _ _ _ (omega arith) (read .read-number .ensures) (c .before .before .grey .given .1)))
     (λ c κs. search needs)
     (λ c. omega arith)
     (λ c. omega arith)
     (λ c.
     let read = c .before .before .before .before .before in
     let turn = read .before .before .before .before in
-    left-less (turn .before .before .before .before .pre .0) (turn .before .loop .inv) (turn .loop-test .taken) (read .before .before .before .end-at .ensures) _
+    left-less (turn .before .before .before .before .pre .some-side) (turn .before .loop .inv)
+    (turn .loop-test .taken) (read .before .before .before .end-at .ensures) _
     (read .before .before .read-number .ensures) (read .grey .given .1) (c .before .before .put-byte .ensures))
     (λ c. search needs)
     nothing-left)
