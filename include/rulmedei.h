@@ -1,5 +1,5 @@
 /*
- * Rulmedei: grey maps to ordered lists of holes. The fourteen calls for C, the renewal of sums by itself, and the
+ * Rulmedei: grey maps to ordered lists of holes. The fifteen calls for C, the renewal of sums by itself, and the
  * lowering of greys.
  *
  * `rt staticlib rulmedei` writes target/staticlib/librulmedei.a, for x86-64 Linux. It needs the C library and nothing
@@ -33,11 +33,12 @@ extern "C" {
 /*
  * What a call returns: RULMEDEI_DONE, for rulmedei_advance also RULMEDEI_MORE, or the number of a refusal; for
  * rulmedei_compare in place of RULMEDEI_DONE one of the five from RULMEDEI_BEFORE to RULMEDEI_AFTER. A refused call
- * leaves pyramid, serials, order, greys, out, list, kept and second as they were. Below, each call has its refusals in
- * the order in which it looks for them, and of several the first is told. That is by rising number, but for 11, which
- * comes directly after 1, and 12, which in rulmedei_restore comes before 10; rulmedei_map_text and rulmedei_lower_text
- * have an order of their own. rulmedei_renew and rulmedei_lower, which are none of the fourteen calls, have no refusal
- * numbers: the one returns RULMEDEI_DONE or RULMEDEI_NOT_RENEWED, the other nothing.
+ * leaves pyramid, serials, order, greys, lows, highs, caps, out, list, kept and second as they were. Below, each call
+ * has its refusals in the order in which it looks for them, and of several the first is told. That is by rising number,
+ * but for 11, which comes directly after 1, and 12, which in rulmedei_restore comes before 10; rulmedei_map_text,
+ * rulmedei_lower_text and rulmedei_sketch_quote have an order of their own. rulmedei_renew and rulmedei_lower, which
+ * are none of the fifteen calls, have no refusal numbers: the one returns RULMEDEI_DONE or RULMEDEI_NOT_RENEWED, the
+ * other nothing.
  */
 #define RULMEDEI_DONE 0
 #define RULMEDEI_MORE 100         /* rulmedei_advance: further holes are due */
@@ -48,20 +49,22 @@ extern "C" {
 #define RULMEDEI_AFTER_AT 105     /* rulmedei_compare: as many holes, right is unburnt at the cell (row, column) */
 #define RULMEDEI_AFTER 106        /* rulmedei_compare: right has fewer holes */
 #define RULMEDEI_SIDE_UNKNOWN 1   /* the side is no power of two from 2 to 256 */
-#define RULMEDEI_GREYS_SHORT 2    /* the greys buffer is shorter than N * N */
+#define RULMEDEI_GREYS_SHORT 2    /* a greys buffer is shorter than N * N */
 #define RULMEDEI_PYRAMID_SHORT 3  /* the pyramid is shorter than needed */
 #define RULMEDEI_SHEET_SHORT 4    /* a serial sheet or order list is shorter than N * N, or a shelf than n * N * N */
 #define RULMEDEI_SHEET_UNSOUND 5  /* the sheet is not sound: Load and Advance leave no such buffers with this record */
 #define RULMEDEI_BLOCK_UNKNOWN 6  /* the level is past the map's last, or the row or column not below 2^level */
-#define RULMEDEI_TEXT_MALFORMED 7 /* the text does not fit the grammar of map texts */
-#define RULMEDEI_OUTPUT_SHORT 8   /* the output is shorter than its text, or a shelf's list than n places */
+#define RULMEDEI_TEXT_MALFORMED 7 /* the text does not fit the grammar of map texts, or of sketches */
+#define RULMEDEI_OUTPUT_SHORT 8   /* the output is shorter than its text, a shelf's list than n, or caps than 4^level */
 #define RULMEDEI_INPUT_LONG 9     /* the input is longer than 4,099 bytes: the program plate only, none of the calls */
 #define RULMEDEI_NAME_UNKNOWN 10  /* the name is none of 1 to 8; for a return also: empty, or past the map's total */
 #define RULMEDEI_KNIT_UNKNOWN 11  /* the knit is neither 0 nor 1 */
-#define RULMEDEI_GREY_HIGH 12     /* a grey of the map is above 240 */
+#define RULMEDEI_GREY_HIGH 12     /* a grey of the map or the sketch is above 240 */
+#define RULMEDEI_PAIR_FALLS 13    /* a pair of the sketch has its low above its high */
 
 /*
- * The highest grey that a map may have. rulmedei_map_text, rulmedei_load and rulmedei_restore refuse a higher one.
+ * The highest grey that a map may have, or a sketch. rulmedei_map_text, rulmedei_load, rulmedei_restore and
+ * rulmedei_sketch_quote refuse a higher one.
  * rulmedei_lower_text turns a text that was stored before into one that passes, and rulmedei_lower lowers greys.
  */
 #define RULMEDEI_HIGHEST 240
@@ -81,9 +84,9 @@ extern "C" {
  */
 
 /*
- * The lengths that a map of side N needs, in elements: N * N for greys, serials and order, and (4 * N * N - 1) / 3 for
- * the pyramid. A shelf of n plates needs n * N * N. A longer buffer will do: its further elements play no part, and
- * stay.
+ * The lengths that a map of side N needs, in elements: N * N for greys, lows, highs, serials and order, and
+ * (4 * N * N - 1) / 3 for the pyramid. A shelf of n plates needs n * N * N, and the caps of a level 4^level. A longer
+ * buffer will do: its further elements play no part, and stay.
  *
  *     N               2    4    8    16    32    64    128    256
  *     cells           4   16   64   256  1024  4096  16384  65536
@@ -193,6 +196,32 @@ uint32_t rulmedei_lower_text(const uint8_t *text, size_t text_length,
                              uint8_t *greys, size_t greys_length,
                              uint8_t *out, size_t out_length,
                              size_t *length);
+
+/*
+ * Sketch Quote: what can be said of a map of which for each cell only a low and a high are known, the lowest grey and
+ * the highest one that it may have. Reads a sketch: a line with the side and then for each row a line of pairs, one for
+ * each cell, each a low, a comma and a high, and with commas between them too; otherwise it is as a map text.
+ *
+ * The lows and the highs are written by row, and to caps for each aligned square of the level, by row then column, its
+ * greatest cap, which is that of rulmedei_quote_page for the square's highs. Greys past N * N stay, and so do caps past
+ * 4^level. The side is written to side, and to least and greatest (2 * G + 255) / 510, rounded down, where G is the sum
+ * of the lows, or of the highs; 0, 0 and 0 where it refuses.
+ *
+ * Each map whose greys are between the lows and the highs, ends included, has at least `least` holes when it is
+ * finished and at most `greatest`; the lows themselves come to the one and the highs to the other. At no time has one
+ * of its squares more holes than its cap. All this is so on either knit.
+ *
+ * Refusals, in this order: 7 for the first line, 1, 2 (for either greys buffer), 7 for the rest, 12 (for a low or a
+ * high), 13, 6 (for the level), 8 (for caps with fewer than 4^level places).
+ */
+uint32_t rulmedei_sketch_quote(const uint8_t *text, size_t text_length,
+                               uint32_t level,
+                               uint8_t *lows, size_t lows_length,
+                               uint8_t *highs, size_t highs_length,
+                               uint32_t *caps, size_t caps_length,
+                               uint32_t *side,
+                               uint32_t *least,
+                               uint32_t *greatest);
 
 /*
  * Drill List: writes the number of holes and the side on a first line, and then the serial, row and column of each
@@ -321,7 +350,7 @@ uint32_t rulmedei_relay(uint32_t side,
                         int64_t *second, size_t second_length);
 
 /*
- * The renewal by itself. It is none of the fourteen calls: rulmedei_advance renews in this way after each hole, and
+ * The renewal by itself. It is none of the fifteen calls: rulmedei_advance renews in this way after each hole, and
  * here it can be had alone.
  */
 
@@ -340,7 +369,7 @@ uint32_t rulmedei_renew(uint32_t side,
                         int64_t *pyramid, size_t pyramid_length);
 
 /*
- * The lowering of greys, none of the fourteen calls either.
+ * The lowering of greys, none of the fifteen calls either.
  */
 
 /*

@@ -22,6 +22,8 @@ static uint32_t (*const levels)(uint32_t, const uint8_t *, size_t, const uint32_
 static uint32_t (*const map_text)(const uint8_t *, size_t, uint8_t *, size_t, uint32_t *) = rulmedei_map_text;
 static uint32_t (*const lower_text)(const uint8_t *, size_t, uint8_t *, size_t, uint8_t *, size_t,
                                     size_t *) = rulmedei_lower_text;
+static uint32_t (*const sketch_quote)(const uint8_t *, size_t, uint32_t, uint8_t *, size_t, uint8_t *, size_t,
+                                      uint32_t *, size_t, uint32_t *, uint32_t *, uint32_t *) = rulmedei_sketch_quote;
 static uint32_t (*const drill_list)(uint32_t, uint32_t, uint32_t, const int64_t *, size_t, const uint32_t *, size_t,
                                     const uint32_t *, size_t, uint8_t *, size_t, size_t *) = rulmedei_drill_list;
 static uint32_t (*const quote_page)(uint32_t, const uint8_t *, size_t, const uint32_t *, size_t, uint32_t, uint8_t *,
@@ -175,13 +177,18 @@ static int64_t debt_at(const struct map *m, size_t cell)
     return pyramid[place_of(m->power, cell / m->side, cell % m->side)];
 }
 
+static uint64_t sum_of(const struct part *greys)
+{
+    const uint8_t *places = greys->places;
+    uint64_t sum = 0;
+    for (size_t cell = 0; cell < greys->count; cell++)
+        sum += places[cell];
+    return sum;
+}
+
 static uint64_t grey_sum(const struct map *m)
 {
-    const uint8_t *greys = m->greys.places;
-    uint64_t sum = 0;
-    for (size_t cell = 0; cell < m->greys.count; cell++)
-        sum += greys[cell];
-    return sum;
+    return sum_of(&m->greys);
 }
 
 /* The calls on a map. */
@@ -285,6 +292,7 @@ static void test_numbers(void)
     CHECK(RULMEDEI_NAME_UNKNOWN == 10);
     CHECK(RULMEDEI_KNIT_UNKNOWN == 11);
     CHECK(RULMEDEI_GREY_HIGH == 12);
+    CHECK(RULMEDEI_PAIR_FALLS == 13);
     CHECK(RULMEDEI_HIGHEST == 240);
     CHECK(RULMEDEI_PLAIN == 0);
     CHECK(RULMEDEI_RIBBED == 1);
@@ -437,6 +445,165 @@ static void test_map_text(struct map *m)
     CHECK(memcmp(read.places, m->greys.places, m->greys.count) == 0);
     give_back(&text);
     give_back(&read);
+}
+
+/* A sketch around a map: the lows, at most 20 below its greys, and the highs, at most 20 above them; its text; and
+   where Sketch Quote puts what it reads, with the caps of a level. */
+struct sketch {
+    uint32_t side, power, level;
+    struct part lows, highs, text, read_lows, read_highs, caps;
+};
+
+/* The text of the lows and highs, in a part that ends with it. */
+static struct part sketch_text(const struct sketch *s)
+{
+    const uint8_t *lows = s->lows.places, *highs = s->highs.places;
+    char *text = memory_of(5 + 8 * s->lows.count);
+    size_t used = sprintf(text, "%u\n", (unsigned)s->side);
+    for (size_t cell = 0; cell < s->lows.count; cell++)
+        used += sprintf(text + used, "%u,%u%c", (unsigned)lows[cell], (unsigned)highs[cell],
+                        (cell + 1) % s->side == 0 ? '\n' : ',');
+    struct part part = part_of(used, 1);
+    memcpy(part.places, text, used);
+    free(text);
+    return part;
+}
+
+static struct sketch sketch_of(const struct map *m, uint32_t level)
+{
+    struct sketch s = {.side = m->side, .power = m->power, .level = level};
+    const uint8_t *greys = m->greys.places;
+    s.lows = part_of(m->greys.count, 1);
+    s.highs = part_of(m->greys.count, 1);
+    for (size_t cell = 0; cell < m->greys.count; cell++) {
+        ((uint8_t *)s.lows.places)[cell] = greys[cell] < 20 ? 0 : greys[cell] - 20;
+        ((uint8_t *)s.highs.places)[cell] = greys[cell] > 220 ? 240 : greys[cell] + 20;
+    }
+    s.text = sketch_text(&s);
+    s.read_lows = part_of(m->greys.count, 1);
+    s.read_highs = part_of(m->greys.count, 1);
+    s.caps = part_of((size_t)1 << 2 * level, sizeof(uint32_t));
+    return s;
+}
+
+static void give_back_sketch(struct sketch *s)
+{
+    give_back(&s->lows);
+    give_back(&s->highs);
+    give_back(&s->text);
+    give_back(&s->read_lows);
+    give_back(&s->read_highs);
+    give_back(&s->caps);
+}
+
+/* How many places fewer than there are of text, lows, highs and caps are lent. */
+struct less_of_sketch {
+    size_t text, lows, highs, caps;
+};
+
+static uint32_t quote_sketch(struct sketch *s, const struct part *text, uint32_t level, struct less_of_sketch less)
+{
+    first = second = third = 77;
+    return sketch_quote(text->places, text->count - less.text, level, s->read_lows.places,
+                        s->read_lows.count - less.lows, s->read_highs.places, s->read_highs.count - less.highs,
+                        s->caps.places, s->caps.count - less.caps, &first, &second, &third);
+}
+
+static void refused_sketch(struct sketch *s, struct part *text, uint32_t level, struct less_of_sketch less,
+                           uint32_t number)
+{
+    keep(text);
+    keep(&s->read_lows);
+    keep(&s->read_highs);
+    keep(&s->caps);
+    CHECK(quote_sketch(s, text, level, less) == number);
+    CHECK(first == 0 && second == 0 && third == 0 && as_kept(text));
+    CHECK(as_kept(&s->read_lows) && as_kept(&s->read_highs) && as_kept(&s->caps));
+}
+
+/* The first pair, or the last, made another: its number by itself, and what comes before it and behind it. */
+static void refused_pair(struct sketch *s, size_t cell, uint8_t low, uint8_t high, uint32_t number)
+{
+    const struct less_of_sketch all = {0, 0, 0, 0}, no_caps = {0, 0, 0, s->caps.count}, cut = {1, 0, 0, s->caps.count};
+    const struct less_of_sketch less_lows = {1, 1, 0, s->caps.count}, less_highs = {1, 0, 1, s->caps.count};
+    uint8_t *lows = s->lows.places, *highs = s->highs.places, old_low = lows[cell], old_high = highs[cell];
+    lows[cell] = low;
+    highs[cell] = high;
+    struct part text = sketch_text(s);
+    refused_sketch(s, &text, s->level, all, number);
+    refused_sketch(s, &text, s->power + 1, no_caps, number);
+    refused_sketch(s, &text, s->power + 1, cut, RULMEDEI_TEXT_MALFORMED);
+    refused_sketch(s, &text, s->power + 1, less_lows, RULMEDEI_GREYS_SHORT);
+    refused_sketch(s, &text, s->power + 1, less_highs, RULMEDEI_GREYS_SHORT);
+    lows[cell] = old_low;
+    highs[cell] = old_high;
+    give_back(&text);
+}
+
+static void test_pairs(const struct map *m)
+{
+    struct sketch s = sketch_of(m, m->power / 2);
+    const size_t cells[2] = {0, s.lows.count - 1};
+    for (int at = 0; at < 2; at++) {
+        refused_pair(&s, cells[at], 0, 241, RULMEDEI_GREY_HIGH);
+        refused_pair(&s, cells[at], 241, 0, RULMEDEI_GREY_HIGH);
+        refused_pair(&s, cells[at], 240, 239, RULMEDEI_PAIR_FALLS);
+    }
+    give_back_sketch(&s);
+}
+
+static void refused_sketches(struct sketch *s)
+{
+    const struct less_of_sketch all = {0, 0, 0, 0}, less_caps = {0, 0, 0, 1}, no_caps = {0, 0, 0, s->caps.count};
+    const struct less_of_sketch nothing = {s->text.count, s->lows.count, s->highs.count, s->caps.count};
+    refused_sketch(s, &s->text, s->power + 1, nothing, RULMEDEI_TEXT_MALFORMED);
+    refused_sketch(s, &s->text, s->power + 1, all, RULMEDEI_BLOCK_UNKNOWN);
+    refused_sketch(s, &s->text, s->power + 1, no_caps, RULMEDEI_BLOCK_UNKNOWN);
+    refused_sketch(s, &s->text, UINT32_MAX, all, RULMEDEI_BLOCK_UNKNOWN);
+    refused_sketch(s, &s->text, s->level, less_caps, RULMEDEI_OUTPUT_SHORT);
+    refused_sketch(s, &s->text, s->level, no_caps, RULMEDEI_OUTPUT_SHORT);
+}
+
+/* The cap of a square with s cells along its side and this grey sum. */
+static uint64_t cap_of(uint64_t s, uint64_t sum)
+{
+    uint64_t cap = (3 * sum + 764 + 1020 * s) / 765;
+    return cap > s * s ? s * s : cap;
+}
+
+/* Whether the caps are those of the highs, square by square. */
+static int caps_are_right(const struct sketch *s)
+{
+    const uint8_t *highs = s->highs.places;
+    const uint32_t *caps = s->caps.places;
+    size_t squares = (size_t)1 << s->level, wide = s->side >> s->level;
+    for (size_t square = 0; square < s->caps.count; square++) {
+        const uint8_t *corner = highs + square / squares * wide * s->side + square % squares * wide;
+        uint64_t sum = 0;
+        for (size_t cell = 0; cell < wide * wide; cell++)
+            sum += corner[cell / wide * s->side + cell % wide];
+        if (caps[square] != cap_of(wide, sum))
+            return 0;
+    }
+    return 1;
+}
+
+/* Sketch Quote of a sketch around the map: refused for each reason, then done; the map's own text is no sketch. */
+static void test_sketch(const struct map *m, uint32_t level)
+{
+    const struct less_of_sketch all = {0, 0, 0, 0};
+    struct sketch s = sketch_of(m, level);
+    struct part text = text_of(m);
+    refused_sketches(&s);
+    refused_sketch(&s, &text, level, all, RULMEDEI_TEXT_MALFORMED);
+    keep(&s.text);
+    CHECK(quote_sketch(&s, &s.text, level, all) == RULMEDEI_DONE && first == m->side && as_kept(&s.text));
+    CHECK(second == (2 * sum_of(&s.lows) + 255) / 510 && third == (2 * sum_of(&s.highs) + 255) / 510);
+    CHECK(memcmp(s.read_lows.places, s.lows.places, s.lows.count) == 0);
+    CHECK(memcmp(s.read_highs.places, s.highs.places, s.highs.count) == 0);
+    CHECK(caps_are_right(&s));
+    give_back_sketch(&s);
+    give_back(&text);
 }
 
 static void refused_load(struct map *m, uint32_t side, uint32_t knit, struct less less, uint32_t number)
@@ -697,11 +864,8 @@ static int first_line(const struct map *m, uint32_t level, char *line)
     const uint8_t *greys = m->greys.places;
     const uint32_t *serials = m->serials.places;
     uint64_t s = level == 0 ? m->side : 1, sum = level == 0 ? grey_sum(m) : greys[0];
-    uint64_t cap = (3 * sum + 764 + 1020 * s) / 765;
     unsigned dots = level == 0 ? m->dots : serials[0] != 0;
-    if (cap > s * s)
-        cap = s * s;
-    return sprintf(line, "  0   0 %8u %5u %5u\n", (unsigned)sum, dots, (unsigned)cap);
+    return sprintf(line, "  0   0 %8u %5u %5u\n", (unsigned)sum, dots, (unsigned)cap_of(s, sum));
 }
 
 static void test_page(struct map *m, uint32_t level)
@@ -1082,6 +1246,10 @@ static void test_side(uint32_t side, uint32_t dots)
     test_lower_text(&m);
     test_lower(&m);
     test_map_text(&m);
+    test_pairs(&m);
+    test_sketch(&m, 0);
+    test_sketch(&m, m.power / 2);
+    test_sketch(&m, m.power);
     test_load(&m);
     test_advance(&m, dots);
     test_tally(&m);
@@ -1241,6 +1409,41 @@ static void test_small_answers(void)
     give_back_map(&m);
 }
 
+/* A sketch of side 2 as a whole and one of side 4 by its quarters, with places to spare; and one with no such side. */
+
+static void test_small_sketches(void)
+{
+    static const struct {
+        const char *text;
+        uint32_t level, side, least, greatest;
+        uint8_t lows[16], highs[16];
+        uint32_t caps[4];
+    } asked[] = {
+        {"2\n10,20,0,240\n128,128,5,6\n", 0, 2, 1, 2, {10, 0, 128, 5}, {20, 240, 128, 6}, {4}},
+        {"4\n0,0,0,10,5,20,100,120\n0,0,0,75,60,90,10,240\n0,21,0,21,0,22,0,21\n0,22,0,22,0,21,0,21\n", 1, 4, 1, 3,
+         {0, 0, 5, 100, 0, 0, 60, 10}, {0, 10, 20, 120, 0, 75, 90, 240, 21, 21, 22, 21, 22, 22, 21, 21}, {3, 4, 4, 3}},
+    };
+    for (size_t at = 0; at < sizeof asked / sizeof asked[0]; at++) {
+        const uint8_t *text = (const uint8_t *)asked[at].text;
+        size_t cells = RULMEDEI_CELLS(asked[at].side), squares = (size_t)1 << 2 * asked[at].level;
+        struct part lows = part_of(cells + 1, 1), highs = part_of(cells + 1, 1);
+        struct part caps = part_of(squares + 1, sizeof(uint32_t));
+        CHECK(sketch_quote(text, strlen(asked[at].text), asked[at].level, lows.places, cells + 1, highs.places,
+                           cells + 1, caps.places, squares + 1, &first, &second, &third) == RULMEDEI_DONE);
+        CHECK(first == asked[at].side && second == asked[at].least && third == asked[at].greatest);
+        CHECK(memcmp(lows.places, asked[at].lows, cells) == 0 && memcmp(highs.places, asked[at].highs, cells) == 0);
+        CHECK(memcmp(caps.places, asked[at].caps, squares * sizeof(uint32_t)) == 0);
+        CHECK(((uint8_t *)lows.places)[cells] == NINE && ((uint8_t *)highs.places)[cells] == NINE);
+        CHECK(all_are((unsigned char *)caps.places + squares * sizeof(uint32_t), sizeof(uint32_t), NINE));
+        CHECK(sketch_quote((const uint8_t *)"3\n", 2, UINT32_MAX, lows.places, 0, highs.places, 0, caps.places, 0,
+                           &first, &second, &third) == RULMEDEI_SIDE_UNKNOWN);
+        CHECK(first == 0 && second == 0 && third == 0);
+        give_back(&lows);
+        give_back(&highs);
+        give_back(&caps);
+    }
+}
+
 /* Plates of side 2 compared, and five of them put in order, of which two are burnt alike. */
 
 static void test_small_plates(void)
@@ -1314,6 +1517,7 @@ int main(int count, char **words)
     test_lengths();
     test_p3();
     test_small_answers();
+    test_small_sketches();
     test_small_plates();
     test_small_stages();
     test_ribbed_p3();

@@ -26,7 +26,8 @@ pub enum Refusal {
     BadBlock,
     /// "text doesn't fit the grammar"
     BadText,
-    /// "output shorter than the list", or than the page of document 02, or its list of plates shorter than n
+    /// "output shorter than the list", or than the page of document 02, its list of plates shorter than n, or fewer
+    /// places for a sketch's caps than the level has blocks
     ShortOutput,
     /// "input longer than 4,099 bytes"
     LongInput,
@@ -34,8 +35,10 @@ pub enum Refusal {
     UnknownName,
     /// neither of document 02's two knits
     UnknownKnit,
-    /// a grey of the map above document 02's 240
+    /// a grey of the map above document 02's 240, or of a sketch
     HighGrey,
+    /// a pair of a sketch whose low is above its high
+    FallingPair,
 }
 
 impl Refusal {
@@ -54,6 +57,7 @@ impl Refusal {
             Refusal::UnknownName => 10,
             Refusal::UnknownKnit => 11,
             Refusal::HighGrey => 12,
+            Refusal::FallingPair => 13,
         }
     }
 }
@@ -97,6 +101,14 @@ impl Compared {
     pub fn is_before(self) -> bool {
         matches!(self, Compared::Before | Compared::BeforeAt(..))
     }
+}
+
+/// What Sketch Quote answers: the side, and the totals of the map of the lows and of that of the highs.
+#[derive(Debug, Clone, Copy, PartialEq, Eq)]
+pub struct SketchQuote {
+    pub side: u32,
+    pub least: u32,
+    pub greatest: u32,
 }
 
 /// The eight counts of dots that stand beside a sheet, place i for name i + 1: 0 while the name is empty, else one more

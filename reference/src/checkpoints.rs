@@ -78,7 +78,7 @@ fn check_restore(
 }
 
 /// The map's total, the dots of its finished plate: the grey sum over 255, to the nearest number.
-fn total(greys: &[u8]) -> u64 {
+pub(crate) fn total(greys: &[u8]) -> u64 {
     let grey_sum: u64 = greys.iter().map(|grey| u64::from(*grey)).sum();
     (2 * grey_sum + 255) / 510
 }

@@ -31,6 +31,8 @@ mod samples;
 mod shape;
 mod shelf;
 mod shelf_cases;
+mod sketch;
+mod sketch_quote;
 mod sound;
 mod stage_cases;
 mod survey_cases;
@@ -39,6 +41,7 @@ mod text_cases;
 pub mod maps;
 pub mod stored;
 
+pub use answers::SketchQuote;
 pub use answers::{AdvanceAnswer, CheckpointAnswer, Checkpoints, Compared, Ended, LoadAnswer, Progress, Refusal};
 pub use by_quarters::{advance, drill_list, load, relay, renew, restore, sound};
 pub use by_quarters::{quarter_entry, to_quarters, to_rows};
@@ -58,6 +61,8 @@ pub use sample::{sample, sample_text};
 pub use shape::{cell_count, entry, level_start, neighbours, neighbours_in_turn, power, pyramid_length};
 pub use shape::{Neighbour, DOT, HALF_DOT, SIDES};
 pub use shelf::{compare, in_order, shelf};
+pub use sketch::sketch;
+pub use sketch_quote::{sketch_quote, write_sketch};
 
 /// The calls as they were before document 02's request 10, on a pyramid that lies row after row.
 pub mod by_rows {

@@ -1,13 +1,14 @@
 //! The reference's program: `write` writes the stored files, `check` compares them, `plate` is document 01's
 //! program `plate`, `quote` the program that prints document 02's quote page, `sample` the one that prints its sample,
-//! `convert` the one that prints a stored map text with its greys lowered.
+//! `convert` the one that prints a stored map text with its greys lowered, `sketch` the one that prints the totals and
+//! caps of a sketch.
 
 use std::fs;
 use std::io::{self, Read, Write};
 use std::path::{Path, PathBuf};
 use std::process::ExitCode;
 
-use reference::{convert, plate, quote, sample_text, stored, LONGEST_INPUT};
+use reference::{convert, plate, quote, sample_text, sketch, stored, LONGEST_INPUT};
 
 fn main() -> ExitCode {
     let words: Vec<String> = std::env::args().skip(1).collect();
@@ -20,7 +21,8 @@ fn main() -> ExitCode {
         ["quote"] => print(io::stdin(), quote),
         ["sample"] => print(io::empty(), |_| sample_text()),
         ["convert"] => print(io::stdin(), convert),
-        _ => Err("use: reference write | check | plate | quote | sample | convert".to_string()),
+        ["sketch"] => print(io::stdin(), sketch),
+        _ => Err("use: reference write | check | plate | quote | sample | convert | sketch".to_string()),
     };
     match done {
         Ok(status) => status,

@@ -1,4 +1,5 @@
-//! Map Text: the reader, and the writer of the one text that the grammar has for a map.
+//! Map Text: the reader, and the writer of the one text of a map. Sketches are read and written here too, as texts of
+//! the same grammar with two numbers for each cell.
 
 use crate::answers::Refusal;
 use crate::lowering::check_greys;
@@ -12,26 +13,31 @@ pub fn map_text(text: &[u8], greys: &mut [u8]) -> Result<u32, Refusal> {
     Ok(side)
 }
 
-/// The side and the N² greys of a text that fits the grammar, for a greys buffer with so much room. In this order: 7
-/// for a first line that is no number of at most three digits, 1, 2, and 7 for what follows it.
+/// The side and the N² greys of a text that fits the grammar, for a greys buffer with so much room.
 pub(crate) fn read_map(text: &[u8], room: usize) -> Result<(u32, Vec<u8>), Refusal> {
+    read_greys(text, room, 1)
+}
+
+/// The side and all greys of a text with so many of them for each cell, for buffers with room for so many cells. In
+/// this order: 7 for a first line that is no number of at most three digits, 1, 2, and 7 for what follows it.
+pub(crate) fn read_greys(text: &[u8], room: usize, each: usize) -> Result<(u32, Vec<u8>), Refusal> {
     let (line, rest) = cut_line(text).ok_or(Refusal::BadText)?;
     let side = number(line).ok_or(Refusal::BadText)?;
     power(side)?;
     if room < cell_count(side) {
         return Err(Refusal::ShortGreys);
     }
-    let read = grey_lines(side as usize, rest).ok_or(Refusal::BadText)?;
+    let read = grey_lines(side as usize, each * side as usize, rest).ok_or(Refusal::BadText)?;
     Ok((side, read))
 }
 
-/// "N lines of N greys parted by commas. [...] nothing after the last line".
-fn grey_lines(side: usize, text: &[u8]) -> Option<Vec<u8>> {
+/// So many lines with so many greys in each, between them commas, and nothing behind the last of them.
+fn grey_lines(lines: usize, count: usize, text: &[u8]) -> Option<Vec<u8>> {
     let mut greys = Vec::new();
     let mut rest = text;
-    for _ in 0..side {
+    for _ in 0..lines {
         let (line, after) = cut_line(rest)?;
-        greys.extend(grey_line(side, line)?);
+        greys.extend(grey_line(count, line)?);
         rest = after;
     }
     if rest.is_empty() {
@@ -42,12 +48,12 @@ fn grey_lines(side: usize, text: &[u8]) -> Option<Vec<u8>> {
 }
 
 /// "N greys parted by commas"; "a grey above 255 breaks the grammar."
-fn grey_line(side: usize, line: &[u8]) -> Option<Vec<u8>> {
+fn grey_line(count: usize, line: &[u8]) -> Option<Vec<u8>> {
     let mut greys = Vec::new();
     for part in line.split(|byte| *byte == b',') {
         greys.push(u8::try_from(number(part)?).ok()?);
     }
-    if greys.len() == side {
+    if greys.len() == count {
         Some(greys)
     } else {
         None
@@ -79,9 +85,14 @@ fn number(digits: &[u8]) -> Option<u32> {
 
 /// "Map Text: a line with the side, then N lines of N greys parted by commas." Written for N² greys by row.
 pub fn write_map_text(side: u32, greys: &[u8]) -> Vec<u8> {
+    write_greys(side, greys, 1)
+}
+
+/// The side on a line by itself, then for each row a line of greys, so many for each cell.
+pub(crate) fn write_greys(side: u32, greys: &[u8], each: usize) -> Vec<u8> {
     let mut text = format!("{side}\n");
     // the 1 only keeps the side 0, which has no rows, from being refused by `chunks`
-    let rows = greys.chunks(side.max(1) as usize).take(side as usize);
+    let rows = greys.chunks(each * side.max(1) as usize).take(side as usize);
     for row in rows {
         let numbers: Vec<String> = row.iter().map(|grey| grey.to_string()).collect();
         text.push_str(&numbers.join(","));

@@ -33,7 +33,7 @@ fn page_of(input: &[u8]) -> Result<Vec<u8>, Refusal> {
 }
 
 /// A 32-bit number just as it is written in decimal: no sign, no leading zero.
-fn level(digits: &[u8]) -> Option<u32> {
+pub(crate) fn level(digits: &[u8]) -> Option<u32> {
     let text = std::str::from_utf8(digits).ok()?;
     let number: u32 = text.parse().ok()?;
     if number.to_string() == text {

@@ -47,6 +47,6 @@ fn line(row: usize, column: usize, grey_sum: u32, dots: usize, cap: u32) -> Stri
 }
 
 /// "The cap is the smaller of s² and floor((3 × grey sum + 764 + 1,020 × s) / 765)." For a block `wide` cells wide.
-fn cap(wide: u32, grey_sum: u32) -> u32 {
+pub(crate) fn cap(wide: u32, grey_sum: u32) -> u32 {
     (wide * wide).min((3 * grey_sum + 764 + 1_020 * wide) / 765)
 }

@@ -44,6 +44,13 @@ pub fn samples() -> [(&'static str, Vec<u8>); 3] {
     ]
 }
 
+/// A sketch of a sample, as it is told before anything is measured: the lows and the highs, so far below each grey and
+/// so far above it, as far as a sample may go.
+pub fn sketched(greys: &[u8], about: u8) -> (Vec<u8>, Vec<u8>) {
+    let high = |grey: u8| i64::from(grey.saturating_add(about)).min(DARKEST) as u8;
+    greys.iter().map(|grey| (grey.saturating_sub(about), high(*grey))).unzip()
+}
+
 /// A ground with patches on it.
 fn drawn(ground: i64, patches: &[Patch]) -> Vec<u8> {
     by_cell(|row, column| ground + patches.iter().map(|patch| shade(patch, row, column)).sum::<i64>())

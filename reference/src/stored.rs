@@ -15,9 +15,11 @@ use crate::quote::quote;
 use crate::run::{run, Buffers, Run};
 use crate::run_cases;
 use crate::sample::sample_text;
-use crate::samples::{samples, SIDE};
+use crate::samples::{samples, sketched, SIDE};
 use crate::shape::SIDES;
 use crate::shelf_cases;
+use crate::sketch::sketch;
+use crate::sketch_quote::write_sketch;
 use crate::stage_cases;
 use crate::survey_cases;
 use crate::text_cases;
@@ -54,8 +56,8 @@ fn program_files(name: &str, (input, output): InputAndOutput) -> [(String, Vec<u
     [(format!("crates/{name}/stdin"), input), (format!("crates/{name}/stdout"), output)]
 }
 
-/// The sample maps; the first of them is also what the program crate `plate` is run on, and the last one what the
-/// program crate `quote` is run on, for the page of level 3.
+/// The sample maps, and a sketch of the first. The first of them is also what the program crate `plate` is run on, the
+/// last one what `quote` is run on, for the page of level 3, and the sketch what `sketch` is run on, for level 2.
 fn sample_files() -> Vec<(String, Vec<u8>)> {
     let texts = samples().map(|(name, greys)| (name, write_map_text(SIDE, &greys)));
     let [(_, map), _, (_, quoted)] = &texts;
@@ -63,7 +65,18 @@ fn sample_files() -> Vec<(String, Vec<u8>)> {
     let mut files = program_files("plate", (map.clone(), plate(map))).to_vec();
     files.extend(program_files("quote", (asked.clone(), quote(&asked))));
     files.extend(texts.map(|(name, text)| (format!("samples/{name}.map"), text)));
+    let (path, sketched) = sample_sketch();
+    let asked = [b"2\n", &sketched[..]].concat();
+    files.extend(program_files("sketch", (asked.clone(), sketch(&asked))));
+    files.push((path, sketched));
     files
+}
+
+/// The first sample map as a sketch, each grey known to about 12.
+fn sample_sketch() -> (String, Vec<u8>) {
+    let [(name, greys), ..] = samples();
+    let (lows, highs) = sketched(&greys, 12);
+    (format!("samples/{name}.sketch"), write_sketch(SIDE, &lows, &highs))
 }
 
 /// What the program crate `convert` is run on: the sample that the program `sample` printed before its greys were

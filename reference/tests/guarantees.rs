@@ -1,6 +1,6 @@
 //! What document 01 promises of every run, tried on small pseudo-random maps of both knits; and what document 02
-//! promises of lists of calls with names and of finished maps, tried on these, and of every page, tried on these and on
-//! the named maps.
+//! promises of lists of calls with names and of finished maps, tried on these, of every page, tried on these and on the
+//! named maps, and of every sketch, tried on maps between its lows and its highs.
 
 use std::cmp::Ordering;
 
@@ -475,4 +475,109 @@ fn pages_of_random_maps() {
             check_pages(side, greys, &buffers.serials);
         }
     });
+}
+
+/// A sketch around a map: its lows and its highs. Each grey is known exactly, to a few, or not at all; of a sketch of
+/// the last kind now one and now the other.
+fn sketch_around(dice: &mut Dice, greys: &[u8]) -> (Vec<u8>, Vec<u8>) {
+    let kind = dice.below(4);
+    let mut pair = |grey: u8| {
+        let about = match kind {
+            0 => 0,
+            1 => dice.below(12) as u8,
+            2 => 240,
+            _ => [0, 5, 240][dice.below(3) as usize],
+        };
+        (grey.saturating_sub(about), grey.saturating_add(about).min(240))
+    };
+    greys.iter().map(|grey| pair(*grey)).unzip()
+}
+
+/// A map between lows and highs.
+fn between(dice: &mut Dice, lows: &[u8], highs: &[u8]) -> Vec<u8> {
+    let mut grey = |(low, high): (&u8, &u8)| match dice.below(4) {
+        0 => *low,
+        1 => *high,
+        _ => low + dice.below(u32::from(high - low) + 1) as u8,
+    };
+    lows.iter().zip(highs).map(&mut grey).collect()
+}
+
+/// What Sketch Quote says of a sketch: both totals, and the caps of each level.
+fn quoted(side: u32, lows: &[u8], highs: &[u8]) -> (u32, u32, Vec<Vec<u32>>) {
+    let text = write_sketch(side, lows, highs);
+    let (mut read_lows, mut read_highs) = (vec![99; lows.len()], vec![99; lows.len()]);
+    let mut totals = (0, 0);
+    let mut by_level = Vec::new();
+    for level in 0..=power(side).unwrap() {
+        let mut caps = vec![77; 4usize.pow(level)];
+        let quote = sketch_quote(&text, level, &mut read_lows, &mut read_highs, &mut caps).unwrap();
+        assert_eq!((quote.side, &read_lows[..], &read_highs[..]), (side, lows, highs));
+        totals = (quote.least, quote.greatest);
+        by_level.push(caps);
+    }
+    (totals.0, totals.1, by_level)
+}
+
+/// No block of any level has more dots than the cap that the sketch has for it.
+fn check_caps(side: u32, serials: &[u32], caps: &[Vec<u32>]) {
+    for (level, caps) in caps.iter().enumerate() {
+        let blocks = 2u32.pow(level as u32);
+        for (block, cap) in caps.iter().enumerate() {
+            let (row, column) = (block as u32 / blocks, block as u32 % blocks);
+            assert!(tally(side, serials, level as u32, row, column).unwrap() <= *cap);
+        }
+    }
+}
+
+/// A map burnt to its end in up to four calls, with the caps checked after each. Gives its total.
+fn burnt_under(dice: &mut Dice, side: u32, knit: u32, greys: &[u8], caps: &[Vec<u32>]) -> u32 {
+    let (mut buffers, mut progress) = fresh(side, knit, greys);
+    for _ in 0..dice.below(4) {
+        progress = buffers.advance(progress, dice.budget(side * side)).progress;
+        check_caps(side, &buffers.serials, caps);
+    }
+    let last = buffers.advance(progress, u32::MAX);
+    assert_eq!(last.status, Ok(Ended::Finished));
+    check_caps(side, &buffers.serials, caps);
+    last.progress.dots
+}
+
+/// Every map between the lows and the highs comes to a total from the least to the greatest, the map of the lows to the
+/// least and that of the highs to the greatest; and at no time has a block more dots than its cap. On either knit.
+fn check_sketch(dice: &mut Dice, side: u32, lows: &[u8], highs: &[u8]) -> (u32, u32) {
+    let (least, greatest, caps) = quoted(side, lows, highs);
+    for knit in [PLAIN, RIBBED] {
+        assert_eq!(burnt_under(dice, side, knit, lows, &caps), least);
+        assert_eq!(burnt_under(dice, side, knit, highs, &caps), greatest);
+        for _ in 0..2 {
+            let map = between(dice, lows, highs);
+            assert!((least..=greatest).contains(&burnt_under(dice, side, knit, &map, &caps)));
+        }
+    }
+    (least, greatest)
+}
+
+#[test]
+fn maps_between_lows_and_highs() {
+    let (mut equal, mut apart) = (0, 0);
+    for_every_map(8, |dice, side, _, greys| {
+        let (lows, highs) = sketch_around(dice, greys);
+        let (least, greatest) = check_sketch(dice, side, &lows, &highs);
+        equal += u32::from(least == greatest);
+        apart += u32::from(least < greatest);
+    });
+    assert!(equal > 500 && apart > 500, "{equal} sketches with one total, {apart} with two");
+}
+
+#[test]
+fn larger_maps_between_lows_and_highs() {
+    let mut dice = Dice(9);
+    for (side, sketches) in [(32, 20), (64, 4)] {
+        for _ in 0..sketches {
+            let greys = lowered(&dice.greys(side));
+            let (lows, highs) = sketch_around(&mut dice, &greys);
+            check_sketch(&mut dice, side, &lows, &highs);
+        }
+    }
 }

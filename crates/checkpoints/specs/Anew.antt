@@ -1,44 +1,24 @@
 -- A sheet made anew: the fresh sheet of the greys, then a run of as many dots as are asked.
 use mathlib.Core.Path.{_≡_, refl, sym, ap, ap₂, _∙_}
 use mathlib.Core.List.{List, _++_}
-use Prim.Native.Nat.{ℕ, _+_, _-_, _^_, _≤_, min}
-use native.Mathlib.Omega.{arith}
+use Prim.Native.Nat.{ℕ, _+_, _^_, _≤_, min}
 use lib.Pow.{pow-mono}
 use lib.ListN.{length, take, drop}
 use lib.Seq.{take-at, drop-at}
 use lib.IntN.{ℤ}
 use Rattle.definition.specs.Pyramid.{needed, cellCount}
-use Rattle.definition.specs.Blocks.{greySum, greyTotal, totalOf}
 use Rattle.definition.specs.Diffusion.{kernelOf}
 use Rattle.definition.specs.Model.{Halftone, topOf, modelStart, steps}
 use Rattle.definition.specs.Quarters.{rowsFrom, quartersFrom}
 use Rattle.definition.specs.Advance.{dotsDue}
 use Rattle.pyramid.specs.Asked.{freshPyramid}
-use Rattle.blocks.specs.Blocks.{BlockAsked}
 use Rattle.layouts.specs.Relaid.{length-rows, length-quarters, rows-back, quarters-back}
 use Rattle.shares.specs.Kernels.{knit-fit}
 use Rattle.dots.specs.Steps.{Sheet, steps-min}
 use Rattle.guarantee.specs.Start.{each-of, start-sheet}
 use Rattle.fresh_sheet.specs.Filling.{Filled}
 use Rattle.dot_run.specs.Running.{RunAsked, Ran}
-use Rattle.checkpoints.specs.Asked.{MapLent, AnewAsked, Restored}
-
--- ---- the total: the whole map is the block of level 0
-pub whole-map : {r lent : ℕ} → MapLent r lent → BlockAsked lent r 0 0 0
-whole-map h =
-    record {
-      power = h .power;
-      powers = h .powers;
-      level = omega arith;
-      above = omega arith;
-      before = omega arith;
-      room = h .room;
-    }
-
-pub total-is : (r : ℕ) (greys : List ℕ) {sum n : ℕ} → sum ≡ greySum r greys 0 0 0 → n ≡ totalOf sum
-    → n ≡ totalOf (greyTotal r greys)
-unfolding greyTotal
-total-is r greys e q = q ∙ ap totalOf e
+use Rattle.checkpoints.specs.Asked.{AnewAsked, Restored}
 
 -- ---- filled, then run; n and c are what the code has worked out for the needed length and the number of cells
 module _ {r : ℕ} {g : List ℕ} (p : List ℤ) (s o : List ℕ) (h : AnewAsked r g (length p) (length s) (length o))

@@ -2,7 +2,7 @@
 use mathlib.Core.Path.{_≡_}
 use mathlib.Core.Bool.{true}
 use mathlib.Core.List.{List, _++_}
-use Prim.Native.Nat.{ℕ, _*_, _-_, _^_, _≤_}
+use Prim.Native.Nat.{ℕ, _^_, _≤_}
 use lib.ListN.{length, getD, drop}
 use lib.IntN.{ℤ}
 use Rattle.definition.specs.Pyramid.{needed, cellCount}
@@ -12,12 +12,6 @@ use Rattle.definition.specs.Quarters.{quartersFrom}
 use Rattle.definition.specs.Checkpoints.{isName, keptAt}
 use Rattle.definition.specs.declared.Checkpoints.{Checkpoints}
 use Rattle.fresh_sheet.specs.Filling.{FillLent}
-
--- one of the eight sides, and greys for all its cells
-pub record MapLent (r lent : ℕ) : Type 0 where
-  pub power : 1 ≤ r
-  pub powers : r ≤ 8
-  pub room : 2 ^ r * 2 ^ r ≤ lent
 
 -- a name that is not empty, with a count of 32 bits
 pub record CountAsked (checkpoints : Checkpoints) (name : ℕ) : Type 0 where

@@ -36,7 +36,8 @@ use Rattle.checks.specs.declared.Check.the-variants.{Passed, Failed}
 use Rattle.guarantee.specs.Quote.{figures-fit}
 use Rattle.sheet.specs.Sheets.{SheetLent, shownRows}
 use Rattle.fresh_sheet.specs.Filling.{fill-lent}
-use Rattle.checkpoints.specs.Asked.{MapLent, CountAsked, AnewAsked, Restored}
+use Rattle.quote_figures.specs.Asked.{MapLent}
+use Rattle.checkpoints.specs.Asked.{CountAsked, AnewAsked, Restored}
 use Rattle.names.specs.Names.{kept-within}
 use Rattle.checkpoints.specs.Rows.{lent-first, then-last, restore-none}
 

@@ -21,7 +21,7 @@ ghost use Rattle.definition.specs.Quarters.{asRows};
 ghost use Rattle.definition.specs.ByQuarters.{restoreByQuarters};
 ghost use Rattle.places.specs.Table.{places};
 ghost use Rattle.checks.specs.Checks.{checked};
-ghost use Rattle.checkpoints.specs.Asked.{MapLent, CountAsked, AnewAsked, Restored};
+ghost use Rattle.checkpoints.specs.Asked.{CountAsked, AnewAsked, Restored};
 
 fn done(progress: Progress, checkpoints: Checkpoints) -> CheckpointAnswer
     ensures { λ a. ⌜
@@ -78,15 +78,6 @@ pub fn keep(progress: Progress, checkpoints: Checkpoints, name: u32) -> Checkpoi
     }
 }
 
-// The dots that a map comes to.
-fn total_dots(r: usize, greys: &[u8]) -> u64
-    requires { ⌜ MapLent r (length (now greys)) ⌝ }
-    ensures { λ n. ⌜ n ≡ totalOf (greyTotal r (now (greys .entry))) ⌝ }
-{
-    let sum = blocks::block_greys(greys, r, 0, 0, 0) as u64;
-    (2 * sum + 255) / 510
-}
-
 // Restore's last refusals: 5, then 12, then 10.
 fn check_last(sound: bool, low: bool, known: bool) -> Check
     ensures { λ c. ⌜ checked c ≡ lowest (sheetUnsound sound ∷ greyHigh low ∷ nameUnknown known ∷ []) ⌝ }
@@ -141,7 +132,8 @@ fn check_restore(
         Check::Passed => {
             let sound = sheet::sound_lent(r, dots, false, table, pyramid, serials, order);
             let low = fresh_sheet::low_map(r, greys);
-            let known = names::can_restore(checkpoints, name, total_dots(r, greys));
+            let total = quote_figures::total_dots(r, greys);
+            let known = names::can_restore(checkpoints, name, total);
             check_last(sound, low, known)
         }
     }

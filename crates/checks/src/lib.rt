@@ -28,6 +28,7 @@ pub fn number_of(why: Refusal) -> u32
         Refusal::NameUnknown => 10,
         Refusal::KnitUnknown => 11,
         Refusal::GreyHigh => 12,
+        Refusal::PairFalls => 13,
     }
 }
 

@@ -16,6 +16,7 @@ use Rattle.definition.specs.declared.Refusal.the-variants.{
   NameUnknown,
   KnitUnknown,
   GreyHigh,
+  PairFalls,
 }
 use Rattle.definition.specs.declared.LoadStatus.{LoadStatus}
 use Rattle.definition.specs.declared.LoadStatus.the-variants as Load
@@ -39,6 +40,8 @@ use Rattle.definition.specs.declared.CheckpointStatus.{CheckpointStatus}
 use Rattle.definition.specs.declared.CheckpointStatus.the-variants as Checkpoint
 use Rattle.definition.specs.declared.RelayAnswer.{RelayAnswer}
 use Rattle.definition.specs.declared.RelayAnswer.the-variants as Relay
+use Rattle.definition.specs.declared.SketchAnswer.{SketchAnswer}
+use Rattle.definition.specs.declared.SketchAnswer.the-variants as Sketch
 
 -- How the left of two plates stands to the right one (document 02, request 6): before it, the same, or after it; where
 -- a cell decides, with its row and column.
@@ -77,6 +80,7 @@ numberOf InputLong = 9
 numberOf NameUnknown = 10
 numberOf KnitUnknown = 11
 numberOf GreyHigh = 12
+numberOf PairFalls = 13
 
 -- Load returns its record and, beside it, nothing or a number
 unfoldable pub loadSays : LoadStatus → Said
@@ -136,3 +140,8 @@ checkpointSays (Checkpoint.Refused why) = refused (numberOf why)
 unfoldable pub relaySays : RelayAnswer → Said
 relaySays Relay.Relaid = returned []
 relaySays (Relay.Refused why) = refused (numberOf why)
+
+-- Sketch Quote of document 02: the side, and the least and the greatest total
+unfoldable pub sketchSays : SketchAnswer → Said
+sketchSays (Sketch.Quoted side least greatest) = returned (side ∷ least ∷ greatest ∷ [])
+sketchSays (Sketch.Refused why) = refused (numberOf why)

@@ -17,11 +17,13 @@ pub mod MapText
 pub mod LowerText
 pub mod DrillList
 pub mod QuotePage
+pub mod SketchQuote
 pub mod Renewal
 pub mod Sample
 pub mod Plate
 pub mod Quote
 pub mod Convert
+pub mod Sketch
 pub mod Shelf
 pub mod Calls
 pub mod Checkpoints
@@ -34,4 +36,5 @@ pub mod KnitPlates
 pub mod SpreadPlates
 pub mod LayoutPlates
 pub mod LowPlates
+pub mod SketchPlates
 pub mod Plates

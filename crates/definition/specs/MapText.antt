@@ -29,25 +29,34 @@ valuesOf most (end ∷ ends) text =
       | field v rest ↦ elim (valuesOf most ends rest) [ none ↦ none | some values ↦ some (v ∷ values) ]
     ]
 
--- What a text is read as: a side and its greys, or the number of a refusal, 7 where the "text doesn't fit the grammar".
+-- What a text is read as: a side and its numbers; or the number of a refusal, 7 where it does not fit the grammar.
 pub data Reading : Type 0 where
   accepted : ℕ → List ℕ → Reading
   rejected : ℕ → Reading
 
--- N lines of N greys: "a grey above 255 breaks the grammar"
-unfoldable pub readGreys : ℕ → List ℕ → Reading
-readGreys side text = elim (valuesOf 255 (repeated side (lineEnds side)) text) [ none ↦ rejected 7 | some greys ↦ accepted side greys ]
+-- the bytes behind the greys of a map: N lines of N
+abbrev pub mapEnds : ℕ → List ℕ
+mapEnds side = repeated side (lineEnds side)
 
--- "The lowest number that applies is returned, except in Map Text: a first line that isn't one to three digits, no leading zero, and
--- byte 10 is 7; then 1; then 2; then 7 for the rest." The greys buffer has `room` places.
-unfoldable pub readMap : List ℕ → ℕ → Reading
-readMap text room =
+-- the numbers behind a first line, with these ends: one above 255 is none (document 01, Map Text)
+unfoldable pub readNumbers : ℕ → List ℕ → List ℕ → Reading
+readNumbers side ends text = elim (valuesOf 255 ends text) [ none ↦ rejected 7 | some values ↦ accepted side values ]
+
+-- The reader of texts that begin with a line of the side: 7 if that isn't a number of one to three digits and byte 10,
+-- then 1, then 2 for a greys buffer of `room` places, then 7 for the rest (document 01, When a call says no). `endsOf`
+-- has the bytes behind the numbers that a side asks for.
+unfoldable pub readText : (ℕ → List ℕ) → List ℕ → ℕ → Reading
+readText endsOf text room =
     elim (fieldOf 999 newline text) [
       | malformed ↦ rejected 7
       | field side rest ↦
           let r = powerOf side in
-          elim (greysRefusal r room) [ zero ↦ readGreys side rest | suc n ↦ rejected (suc n) ]
+          elim (greysRefusal r room) [ zero ↦ readNumbers side (endsOf side) rest | suc n ↦ rejected (suc n) ]
     ]
+
+-- a map's text by the grammar
+abbrev pub readMap : List ℕ → ℕ → Reading
+readMap text room = readText mapEnds text room
 
 -- Map Text's own reader: by the grammar, as `readMap` does, and then no grey may be above 240 (document 02, request 11)
 unfoldable pub readLow : List ℕ → ℕ → Reading

@@ -1,6 +1,6 @@
 -- Document 01's plates: P1 to P12 as one table; further plates, whose figures the reference wrote, as another; as a
--- third a row for each sentence that these leave open; and those of `StagePlates`, `KnitPlates`, `SpreadPlates` and
--- `LayoutPlates`.
+-- third a row for each sentence that these leave open; and those of `StagePlates`, `KnitPlates`, `SpreadPlates`,
+-- `LayoutPlates`, `LowPlates` and `SketchPlates`.
 -- One proof computes all of it on the definitions. Rows that make holes ask the calls and the model.
 use mathlib.Core.Path.{_≡_, refl}
 use mathlib.Core.Bool.{Bool, true, false, cond, not, _&&_}
@@ -44,15 +44,28 @@ use Rattle.definition.specs.Load.{lowMap, loadRefusal, loaded, loadOf}
 use Rattle.definition.specs.Advance.{Reply, dotsDue, saidAt, sheetIn, advanceRefusal, advanced, advanceOf}
 use Rattle.definition.specs.Survey.{tallyRefusal, tallyOf, errorAt, squared, levelSum, levelsRefusal, levelsOf}
 use Rattle.definition.specs.Text.{digitsUpTo, decimal, rightAligned, line, lineEnds, isDigit, digitsThen, fieldOf, TextOutcome, textInto}
-use Rattle.definition.specs.MapText.{rowsText, mapText, valuesOf, readGreys, readMap, readLow, mapTextOf}
+use Rattle.definition.specs.MapText.{rowsText, mapText, valuesOf, readNumbers, readText, readLow, mapTextOf}
 use Rattle.definition.specs.LowerText.{textKept, textLowered, lowerTextOf}
 use Rattle.definition.specs.DrillList.{dotLines, drillText, drillListRefusal, drillListOf}
 use Rattle.definition.specs.QuotePage.{quoteCap, figures, alignedLine, quoteText, quotePageRefusal, quotePageOf}
+use Rattle.definition.specs.SketchQuote.{
+  paired,
+  sketchText,
+  lowsOf,
+  highsOf,
+  pairsRise,
+  capsOf,
+  sketchKept,
+  sketchQuoted,
+  sketchRefusal,
+  sketchQuoteOf,
+}
 use Rattle.definition.specs.Renewal.{isNear, overThese, renewed, isSmall, entriesSmall, renewable, renewalOf}
 use Rattle.definition.specs.Sample.{nextState, greyOf, sampleGreys, stateAfter, sampleOf, sampleText}
 use Rattle.definition.specs.Plate.{refusedText, finishedOf, plateOf}
-use Rattle.definition.specs.Quote.{quoteOfMap, quoteOfText, quoteOf}
+use Rattle.definition.specs.Quote.{quoteOfMap, quoteOfText, behindLevel, quoteOf}
 use Rattle.definition.specs.Convert.{convertOf}
+use Rattle.definition.specs.Sketch.{capLine, sketchPage, sketchOfText}
 use Rattle.definition.specs.Shelf.{
   pattern,
   firstDifference,
@@ -194,6 +207,18 @@ use Rattle.definition.specs.LowPlates.{
   refusedHigh,
   refusedText7,
   lowPlates,
+}
+use Rattle.definition.specs.SketchPlates.{
+  sketchesNothing,
+  sketches,
+  textTwo,
+  firstPair,
+  lastPair,
+  pageTwo,
+  pageFour,
+  refusedFall,
+  sketchRefuses,
+  sketchPlates,
 }
 use Rattle.definition.specs.declared.Progress.{Progress}
 use Rattle.definition.specs.declared.Refusal.the-variants as Refusal
@@ -419,7 +444,7 @@ numbers =
     map numberOf
     (Refusal.SideUnknown ∷ Refusal.GreysShort ∷ Refusal.PyramidShort ∷ Refusal.SheetShort ∷ Refusal.SheetUnsound
     ∷ Refusal.BlockUnknown ∷ Refusal.TextMalformed ∷ Refusal.OutputShort ∷ Refusal.InputLong
-    ∷ Refusal.NameUnknown ∷ Refusal.KnitUnknown ∷ Refusal.GreyHigh ∷ [])
+    ∷ Refusal.NameUnknown ∷ Refusal.KnitUnknown ∷ Refusal.GreyHigh ∷ Refusal.PairFalls ∷ [])
 
 -- Load of a side and a knit, lent buffers of these lengths: greys, pyramid, serials, order
 unfoldable pub loads : ℕ → ℕ → ℕ → ℕ → ℕ → ℕ → Said
@@ -549,7 +574,7 @@ shelfRefuses side n plates lent number =
 unfoldable pub singlePlates : List Row
 singlePlates =
     -- the numbers of the table; the powers of 1, 2, 4 .. 512 as sides, and of other numbers; some needed lengths
-    (50, same numbers (1 ∷ 2 ∷ 3 ∷ 4 ∷ 5 ∷ 6 ∷ 7 ∷ 8 ∷ 9 ∷ 10 ∷ 11 ∷ 12 ∷ []))
+    (50, same numbers (1 ∷ 2 ∷ 3 ∷ 4 ∷ 5 ∷ 6 ∷ 7 ∷ 8 ∷ 9 ∷ 10 ∷ 11 ∷ 12 ∷ 13 ∷ []))
     ∷ (51, same (tabulateFrom 0 10 (λ r. powerOf (2 ^ r))) (tabulateFrom 0 9 (λ r. r) ++ 0 ∷ []))
     ∷ (51, same (map powerOf (0 ∷ 3 ∷ 5 ∷ 31 ∷ 33 ∷ 255 ∷ 257 ∷ [])) (replicate 7 0))
     ∷ (52, eqb (needed 1) 5 && eqb (cellCount 1) 4 && eqb (needed 8) 87381 && eqb (cellCount 8) 65536)
@@ -651,11 +676,11 @@ firstFailing (row ∷ rows) = elim (row .1) [ true ↦ firstFailing rows | false
 abbrev pub allPlates : List Row
 allPlates =
     plates ++ furtherPlates ++ singlePlates ++ stagePlates ++ knitPlates ++ spreadPlates ++ layoutPlates
-    ++ lowPlates
+    ++ lowPlates ++ sketchPlates
 
 -- no row is lost
-pub plates-there : length allPlates ≡ 222
-unfolding plates furtherPlates singlePlates stagePlates knitPlates spreadPlates layoutPlates lowPlates
+pub plates-there : length allPlates ≡ 244
+unfolding plates furtherPlates singlePlates stagePlates knitPlates spreadPlates layoutPlates lowPlates sketchPlates
 plates-there = refl
 
 pub plates-hold : firstFailing allPlates ≡ 0
@@ -667,11 +692,11 @@ unfolding sumTo sumZTo allTo tabulateFrom joined repeated eqZ numberOf start pla
     noneHigh lowered lowMap loadRefusal loaded loadOf dotsDue saidAt sheetIn advanceRefusal advanced advanceOf
     tallyRefusal tallyOf errorAt
     squared levelSum levelsRefusal levelsOf digitsUpTo decimal rightAligned line lineEnds isDigit digitsThen
-    fieldOf textInto rowsText mapText valuesOf readGreys readMap readLow mapTextOf textKept
+    fieldOf textInto rowsText mapText valuesOf readNumbers readText readLow mapTextOf textKept
     textLowered lowerTextOf dotLines drillText drillListRefusal
     drillListOf quoteCap figures alignedLine quoteText quotePageRefusal quotePageOf isNear overThese renewed
     isSmall entriesSmall renewable renewalOf nextState greyOf sampleGreys stateAfter sampleOf sampleText
-    refusedText finishedOf plateOf quoteOfMap quoteOfText quoteOf convertOf pattern firstDifference compared
+    refusedText finishedOf plateOf quoteOfMap quoteOfText behindLevel convertOf pattern firstDifference compared
     compareRefusal compareOf plateAt isBefore insert inOrder shelfRefusal shelfOf heldAfterLoad callOf
     heldAfter outcomesOf heldAfterCalls repliesOf modelRefusal modelCall modelReply modelAfterCalls
     modelReplies greys4 order4
@@ -693,6 +718,8 @@ unfolding sumTo sumZTo allTo tabulateFrom joined repeated eqZ numberOf start pla
     restores4
     apart
     renewsQuarters8 relays4 relayRefused layoutPlates loadsHigh loadsNothing restoresHigh readsNothing
-    lowersNothing lowers highText lowText overText refusedHigh refusedText7 lowPlates plates furtherPlates
-    singlePlates firstFailing
+    lowersNothing lowers highText lowText overText refusedHigh refusedText7 lowPlates paired sketchText lowsOf
+    highsOf pairsRise capsOf sketchKept sketchQuoted sketchRefusal sketchQuoteOf capLine sketchPage sketchOfText
+    sketchesNothing sketches textTwo firstPair lastPair pageTwo pageFour refusedFall sketchRefuses sketchPlates
+    plates furtherPlates singlePlates firstFailing
 plates-hold = refl

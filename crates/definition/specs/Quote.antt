@@ -24,10 +24,14 @@ unfoldable pub quoteOfText : ℕ → List ℕ → List ℕ
 quoteOfText level text =
     elim (readLow text 1024) [ accepted side greys ↦ quoteOfMap level side greys | rejected n ↦ refusedText n ]
 
--- a level is any number of 32 bits; where the input doesn't begin with one on its line, that is 7
-unfoldable pub quoteOf : List ℕ → List ℕ
-quoteOf input =
+-- What is printed of a level and the text behind its line. A level is any number of 32 bits; where the input doesn't
+-- begin with one on its line, that is 7.
+unfoldable pub behindLevel : (ℕ → List ℕ → List ℕ) → List ℕ → List ℕ
+behindLevel printed input =
     elim (fieldOf 4294967295 newline input) [
       | malformed ↦ refusedText 7
-      | field level text ↦ quoteOfText level text
+      | field level text ↦ printed level text
     ]
+
+abbrev pub quoteOf : List ℕ → List ℕ
+quoteOf input = behindLevel quoteOfText input

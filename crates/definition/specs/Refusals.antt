@@ -46,6 +46,10 @@ sheetUnsound sound = (5, not sound)
 abbrev pub greyHigh : Bool → Row
 greyHigh low = (12, not low)
 
+-- a pair of a sketch with low above high (document 02, request 12), where `rise` tells that there is none
+abbrev pub pairFalls : Bool → Row
+pairFalls rise = (13, not rise)
+
 -- "k above r, or a or b not below 2^k"
 abbrev pub blockUnknown : ℕ → ℕ → ℕ → ℕ → Row
 blockUnknown r k a b = (6, ltb r k || leb (2 ^ k) a || leb (2 ^ k) b)
@@ -54,12 +58,12 @@ blockUnknown r k a b = (6, ltb r k || leb (2 ^ k) a || leb (2 ^ k) b)
 abbrev pub levelUnknown : ℕ → ℕ → Row
 levelUnknown r k = (6, ltb r k)
 
--- "output shorter than the list", or than the page
+-- "output shorter than the list", or than the page, or with fewer places than there are caps
 abbrev pub outputShort : ℕ → ℕ → Row
 outputShort list lent = (8, ltb lent list)
 
 -- The first row of the call's list that applies; 0 if none does. In document 01 the rows go by rising number, so that
--- this is the lowest that applies; document 02 puts 11 directly after 1, and 12 before 10.
+-- this is the lowest that applies; document 02 puts 11 directly after 1, 12 before 10, and 12 and 13 before 6.
 unfoldable pub lowest : List Row → ℕ
 lowest [] = 0
 lowest (row ∷ rows) = cond (row .1) (row .0) (lowest rows)

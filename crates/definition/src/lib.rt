@@ -23,6 +23,7 @@ pub enum Refusal {
     NameUnknown,
     KnitUnknown,
     GreyHigh,
+    PairFalls,
 }
 
 // Whether Load filled the buffers.
@@ -125,5 +126,11 @@ pub struct CheckpointAnswer {
 // Whether Relay wrote the second pyramid.
 pub enum RelayAnswer {
     Relaid,
+    Refused(Refusal),
+}
+
+// Sketch Quote: the side that was read, the least total and the greatest.
+pub enum SketchAnswer {
+    Quoted(u32, u32, u32),
     Refused(Refusal),
 }

@@ -4,3 +4,4 @@ pub mod Lines
 pub mod Grammar
 pub mod MapText
 pub mod LowerText
+pub mod Sketch

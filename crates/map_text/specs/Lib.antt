@@ -1,4 +1,3 @@
-pub mod Greys
 pub mod Written
 pub mod Calls
 pub mod Accepted

@@ -8,11 +8,12 @@ use lib.ListN.{length, getD, take, length-append}
 use lib.Seq.{take-suc, take-all, length-take-le, append-snoc}
 use Rattle.definition.specs.Lowering.{lowered}
 use Rattle.definition.specs.Text.{newline, decimal}
-use Rattle.definition.specs.MapText.{mapText}
+use Rattle.definition.specs.MapText.{mapEnds, mapText}
 use Rattle.grammar.specs.Lines.{AtMost, fieldsText, fieldsText-append, length-repeated-lineEnds}
 use Rattle.grammar.specs.Grammar.{mapText-fields}
 use Rattle.decimals.specs.Writing.{Wrote, wrote-none, wrote-append, fieldText, length-decimal}
-use Rattle.map_text.specs.Greys.{mapEnds, endAt, rows-ends-at, size-small}
+use Rattle.text_cells.specs.Ends.{endAt, rows-ends-at}
+use Rattle.text_cells.specs.Cells.{size-small}
 
 -- a side from 1 to 256, and N² greys
 pub record MapLent (side count : ℕ) : Type 0 where

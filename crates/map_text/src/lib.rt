@@ -1,94 +1,32 @@
 // Map texts: Map Text, which reads one (document 01); the writer; and Lower Text (document 02, request 11), which
 // lowers the greys of a text to 240 and writes the one text of them.
-use checks::Check;
-use decimals::Number;
 use definition::MapTextAnswer;
 use definition::Refusal;
 use definition::TextAnswer;
+use text_cells::Cells;
+use text_cells::FirstLine;
 ghost use mathlib.Core.Path.{_≡_};
-ghost use Prim.Native.Nat.{_^_, _≤_, _<_};
+ghost use Prim.Native.Nat.{_^_, _≤_};
 ghost use lib.ListN.{length};
-ghost use Rattle.definition.specs.Answers.{mapTextSays, textSays, numberOf};
+ghost use Rattle.definition.specs.Answers.{mapTextSays, textSays};
 ghost use Rattle.definition.specs.MapText.{mapText, mapTextOf};
 ghost use Rattle.definition.specs.LowerText.{lowerTextOf};
 ghost use Rattle.decimals.specs.Writing.{Wrote};
-ghost use Rattle.map_text.specs.Greys.{endAt, GreysAsked, GreysRead, greysThere};
-ghost use Rattle.map_text.specs.Calls.{GoodSide, LineSays, whyNot};
+ghost use Rattle.text_cells.specs.Cells.{CellsAsked};
+ghost use Rattle.text_cells.specs.FirstLine.{GoodSide};
+ghost use Rattle.map_text.specs.Calls.{GreysStored};
 ghost use Rattle.map_text.specs.Written.{MapLent, greysText, LoweredPut};
 
-// What the first line of a text says: a side, with the place behind the line; or why the text is refused.
-enum FirstLine {
-    Side(u32, usize),
-    Refused(Refusal),
-}
-
-// The byte that ends grey i of a map: a comma, or byte 10 at the end of a row.
-fn end_at(side: usize, i: usize) -> u8
-    requires { ⌜ (0 < side) × (i < 65536) ⌝ }
-    ensures { λ b. ⌜ b ≡ endAt side i ⌝ }
-{
-    if (i + 1) % side == 0 {
-        return 10;
-    }
-    44
-}
-
-// Reads the greys of a map, none above `most`, from a place of the text on, and stores those for which the part lent
-// has a place: none in an empty one. Tells whether they are all there, with nothing behind them.
-fn read_greys(text: &[u8], from: usize, side: usize, most: u32, greys: &mut [u8]) -> bool
-    requires { ⌜ GreysAsked side most ⌝ }
-    ensures { λ all. ⌜
-        GreysRead (now (text .entry)) from side most (now (greys .entry)) all (now (greys .exit))
+// Reads the greys of a map, none above `most`, and stores them: of each cell's low and high, which are the same, the
+// low.
+fn store_greys(text: &[u8], from: usize, side: usize, most: u32, greys: &mut [u8]) -> Cells
+    requires { ⌜ CellsAsked side most ⌝ }
+    ensures { λ c. ⌜
+        GreysStored (now (text .entry)) from side most (now (greys .entry)) c (now (greys .exit))
         ⌝ }
 {
-    let size = side * side;
-    let mut at = from;
-    let mut i = 0;
-    while i < size {
-        let Number::Read(grey, next) = decimals::read_number(text, at, most, end_at(side, i)) else {
-            return false;
-        };
-        decimals::put_byte(greys, i, grey as u8);
-        at = next;
-        i += 1;
-    }
-    text.len() <= at
-}
-
-// Whether they are all there, with nothing behind them, without storing any.
-fn are_greys(text: &[u8], from: usize, side: usize, most: u32) -> bool
-    requires { ⌜ GreysAsked side most ⌝ }
-    ensures { λ there. ⌜ there ≡ greysThere (now (text .entry)) from side most ⌝ }
-{
-    let mut none = [0; 0];
-    read_greys(text, from, side, most, &mut none)
-}
-
-// The first line of a map's text, for a greys buffer of `room` places: refusals 7, 1 and 2, in this order.
-fn first_line(text: &[u8], room: usize) -> FirstLine
-    ensures { λ line. ⌜ LineSays (now (text .entry)) room line ⌝ }
-{
-    match decimals::read_number(text, 0, 999, 10) {
-        Number::Malformed => FirstLine::Refused(Refusal::TextMalformed),
-        Number::Read(side, at) => {
-            let r = sizes::power_of(side);
-            match checks::check_greys(r, room) {
-                Check::Failed(why) => FirstLine::Refused(why),
-                Check::Passed => FirstLine::Side(side, at),
-            }
-        }
-    }
-}
-
-// Why greys are refused that aren't all there with none above 240: 7 if they break the grammar, and else 12.
-fn why_not(text: &[u8], from: usize, side: usize) -> Refusal
-    requires { ⌜ GreysAsked side 255 ⌝ }
-    ensures { λ why. ⌜ numberOf why ≡ whyNot (now (text .entry)) from side ⌝ }
-{
-    if !are_greys(text, from, side, 255) {
-        return Refusal::TextMalformed;
-    }
-    Refusal::GreyHigh
+    let mut no_highs = [0; 0];
+    text_cells::read_cells(text, from, side, false, most, greys, &mut no_highs)
 }
 
 // The greys behind a first line that says a good side: tested, then stored.
@@ -100,10 +38,11 @@ fn read_map(text: &[u8], from: usize, side: u32, greys: &mut [u8]) -> MapTextAns
         ⌝ }
 {
     let n = side as usize;
-    if !are_greys(text, from, n, 240) {
-        return MapTextAnswer::Refused(why_not(text, from, n));
+    let found = text_cells::find_cells(text, from, n, false, 240);
+    if !found.all {
+        return MapTextAnswer::Refused(text_cells::why_not(text, from, n, false));
     }
-    read_greys(text, from, n, 240, greys);
+    store_greys(text, from, n, 240, greys);
     MapTextAnswer::Side(side)
 }
 
@@ -113,7 +52,7 @@ pub fn map_text(text: &[u8], greys: &mut [u8]) -> MapTextAnswer
         ≡ mapTextOf (now (text .entry)) (now (greys .entry))
         ⌝ }
 {
-    match first_line(text, greys.len()) {
+    match text_cells::first_line(text, greys.len()) {
         FirstLine::Refused(why) => MapTextAnswer::Refused(why),
         FirstLine::Side(side, at) => read_map(text, at, side, greys),
     }
@@ -130,7 +69,7 @@ fn put_greys(out: &mut [u8], from: usize, side: usize, greys: &[u8]) -> usize
     let mut at = from;
     let mut i = 0;
     while i < greys.len() {
-        at = decimals::put_field(out, at, greys[i] as u64, end_at(side, i));
+        at = decimals::put_field(out, at, greys[i] as u64, text_cells::end_at(side, i));
         i += 1;
     }
     at
@@ -171,15 +110,15 @@ fn lower_map(
         ⌝ }
 {
     let cells = side * side;
-    let there = are_greys(text, from, side, 255);
-    if !there {
+    let there = text_cells::find_cells(text, from, side, false, 255);
+    if !there.all {
         return TextAnswer::Refused(Refusal::TextMalformed);
     }
     // the text that is written is as long as the one that was read: 241 to 255 have three digits, as 240 has
     if output.len() < text.len() {
         return TextAnswer::Refused(Refusal::OutputShort);
     }
-    read_greys(text, from, side, 255, greys);
+    store_greys(text, from, side, 255, greys);
     let length = put_lowered(output, side, &mut greys[..cells]);
     TextAnswer::Length(length)
 }
@@ -190,7 +129,7 @@ pub fn lower_text(text: &[u8], greys: &mut [u8], output: &mut [u8]) -> TextAnswe
         ≡ lowerTextOf (now (text .entry)) (now (greys .entry)) (now (output .entry))
         ⌝ }
 {
-    match first_line(text, greys.len()) {
+    match text_cells::first_line(text, greys.len()) {
         FirstLine::Refused(why) => TextAnswer::Refused(why),
         FirstLine::Side(side, at) => lower_map(text, at, side as usize, greys, output),
     }

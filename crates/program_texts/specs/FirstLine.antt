@@ -1,4 +1,4 @@
--- The first line of `quote`: a level is read, or none.
+-- The first line of `quote` and of `sketch`: a level is read, or none; `printed` has what is printed behind it.
 use mathlib.Core.Path.{_≡_, sym, ap, _∙_}
 use mathlib.Core.List.{List}
 use Prim.Native.Nat.{ℕ, _-_, _≤_, _<_, min}
@@ -8,7 +8,7 @@ use lib.ListN.{length, take, drop, drop-of-length-le, length-drop}
 use lib.Seq.{take-all}
 use Rattle.definition.specs.Text.{newline, field, malformed, fieldOf}
 use Rattle.definition.specs.Plate.{refusedText}
-use Rattle.definition.specs.Quote.{quoteOfText, quoteOf}
+use Rattle.definition.specs.Quote.{behindLevel}
 use Rattle.decimals.specs.Reading.{fieldIn}
 use Rattle.decimals.specs.Printed.{Printed}
 use Rattle.decimals.specs.declared.Number.{Number}
@@ -27,19 +27,19 @@ rest-is input at {from} ef =
         drop-of-length-le input {i = from} (omega arith) ∙ sym (drop-of-length-le input {i = at} (omega arith))
 
 -- `number` is what the code has read
-module _ (input : List ℕ) (number : Number) (f : fieldIn input number ≡ fieldOf 4294967295 newline input)
-    {before after : List ℕ} {n : ℕ} where
+module _ (printed : ℕ → List ℕ → List ℕ) (input : List ℕ) (number : Number)
+    (f : fieldIn input number ≡ fieldOf 4294967295 newline input) {before after : List ℕ} {n : ℕ} where
   pub no-level : number ≡ Malformed
-      → Printed (refusedText 7) before n after → Printed (quoteOf input) before n after
-  unfolding quoteOf fieldIn
+      → Printed (refusedText 7) before n after → Printed (behindLevel printed input) before n after
+  unfolding behindLevel fieldIn
   no-level e w =
       let m : fieldOf 4294967295 newline input ≡ malformed = sym f ∙ ap (fieldIn input) e in
-      rw (m, quoteOf) w
+      rw (m, behindLevel) w
 
   module _ {level at from : ℕ} (e : number ≡ Read level at) (ef : from ≡ min at (length input)) where
-    pub level-read : Printed (quoteOfText level (take (length input - from) (drop from input))) before n after
-        → Printed (quoteOf input) before n after
-    unfolding quoteOf fieldIn
+    pub level-read : Printed (printed level (take (length input - from) (drop from input))) before n after
+        → Printed (behindLevel printed input) before n after
+    unfolding behindLevel fieldIn
     level-read w =
         let m : fieldOf 4294967295 newline input ≡ field level (drop at input) = sym f ∙ ap (fieldIn input) e in
-        rw (m, quoteOf) (rw (rest-is input at ef) at w)
+        rw (m, behindLevel) (rw (rest-is input at ef) at w)

@@ -10,3 +10,4 @@ pub mod FirstLine
 pub mod Sampled
 pub mod Written
 pub mod Converting
+pub mod Sketching

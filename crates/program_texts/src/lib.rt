@@ -1,11 +1,13 @@
 // What the programs print, as functions from bytes to bytes: `plate` (document 01), `quote` (docs/DECISIONS.md 61),
-// `sample` (document 02, requests 4 and 11) and `convert` (request 11, docs/DECISIONS.md 130).
+// `sample` (document 02, requests 4 and 11), `convert` (request 11, docs/DECISIONS.md 130) and `sketch` (request 12).
 use decimals::Number;
 use definition::MapTextAnswer;
 use definition::Progress;
+use definition::SketchAnswer;
 use definition::TextAnswer;
 ghost use mathlib.Core.Path.{_≡_};
-ghost use Prim.Native.Nat.{_≤_, min};
+ghost use mathlib.Core.List.{[], _∷_};
+ghost use Prim.Native.Nat.{_+_, _^_, _<_, _≤_};
 ghost use lib.ListN.{length, take};
 ghost use Rattle.definition.specs.Diffusion.{plain};
 ghost use Rattle.definition.specs.Refusals.{powerOf};
@@ -14,8 +16,12 @@ ghost use Rattle.definition.specs.Sample.{sampleText};
 ghost use Rattle.definition.specs.Plate.{finishedOf, plateOf};
 ghost use Rattle.definition.specs.Quote.{quoteOfMap, quoteOfText, quoteOf};
 ghost use Rattle.definition.specs.Convert.{convertOf};
+ghost use Rattle.definition.specs.QuotePage.{alignedLine};
+ghost use Rattle.definition.specs.Sketch.{sketchPage, sketchOfText, sketchOf};
+ghost use Rattle.decimals.specs.Writing.{Wrote};
 ghost use Rattle.decimals.specs.Printed.{Printed};
 ghost use Rattle.program_texts.specs.Finished.{finishedIn, MapAsked};
+ghost use Rattle.program_texts.specs.Sketching.{capColumns, CapsWritten, SquaresLent};
 
 // A text of at most 11,300 bytes. The longest list of side 32 has 1,024 lines of at most 11 bytes, and a first line
 // of at most 8.
@@ -39,6 +45,13 @@ pub struct SampleText {
 // A text of at most 262,148 bytes, the longest of a map of side 256.
 pub struct ConvertText {
     pub bytes: [u8; 262148],
+    pub length: usize,
+}
+
+// A text of at most 75,828 bytes. A sketch's page has a line with the totals, of two columns, and 1,024 lines of three;
+// a column takes at most 21 bytes beside its width.
+pub struct SketchText {
+    pub bytes: [u8; 75828],
     pub length: usize,
 }
 
@@ -129,16 +142,6 @@ fn put_quote_of_text(level: u32, text: &[u8], out: &mut [u8]) -> usize
     }
 }
 
-// The smaller of two lengths.
-fn least(a: usize, b: usize) -> usize
-    ensures { λ n. ⌜ n ≡ min a b ⌝ }
-{
-    if a < b {
-        return a;
-    }
-    b
-}
-
 // What `quote` prints.
 fn put_quote(input: &[u8], out: &mut [u8]) -> usize
     requires { ⌜ 29696 ≤ length (now out) ⌝ }
@@ -147,7 +150,7 @@ fn put_quote(input: &[u8], out: &mut [u8]) -> usize
     match decimals::read_number(input, 0, 4294967295, 10) {
         Number::Malformed => refusal_line::put_refused(out, 7),
         Number::Read(level, at) => {
-            let from = least(at, input.len());
+            let from = sizes::shorter(at, input.len());
             put_quote_of_text(level, &input[from..], out)
         }
     }
@@ -175,6 +178,88 @@ fn put_converted(input: &[u8], out: &mut [u8]) -> usize
         TextAnswer::Length(n) => n,
         TextAnswer::Refused(why) => refusal_line::put_refused(out, checks::number_of(why)),
     }
+}
+
+// The line with the totals of a sketch.
+fn put_totals(out: &mut [u8], least: u64, greatest: u64) -> usize
+    ensures { λ next. ⌜
+        Wrote (now (out .entry)) 0 (alignedLine ((5, least) ∷ (5, greatest) ∷ [])) next (now (out .exit))
+        × (next ≤ 52)
+        ⌝ }
+{
+    let second = decimals::put_column(out, 0, 5, least, 32);
+    decimals::put_column(out, second, 5, greatest, 10)
+}
+
+// The line of square i of a level that has `count` squares in a row.
+fn put_cap(out: &mut [u8], at: usize, count: usize, i: usize, cap: u64) -> usize
+    requires { ⌜ (at ≤ 2 ^ 61) × (0 < count) ⌝ }
+    ensures { λ next. ⌜
+        Wrote (now (out .entry)) at (alignedLine (capColumns count i cap)) next (now (out .exit))
+        × (next ≤ at + 74)
+        ⌝ }
+{
+    let second = decimals::put_column(out, at, 3, (i / count) as u64, 32);
+    let third = decimals::put_column(out, second, 3, (i % count) as u64, 32);
+    decimals::put_column(out, third, 5, cap, 10)
+}
+
+// The lines of all squares of level k.
+fn put_caps(out: &mut [u8], from: usize, k: usize, caps: &[u32]) -> usize
+    requires { ⌜ (from ≤ 2 ^ 60) × SquaresLent k (length (now caps)) ⌝ }
+    ensures { λ next. ⌜
+        CapsWritten (now (out .entry)) from k (now (caps .entry)) (length (now (caps .entry))) next (now (out .exit))
+        ⌝ }
+{
+    let count = sizes::pow2(k);
+    let mut at = from;
+    let mut i = 0;
+    while i < caps.len() {
+        at = put_cap(out, at, count, i, caps[i] as u64);
+        i += 1;
+    }
+    at
+}
+
+// The page of a sketch's totals and caps.
+fn put_sketch_page(out: &mut [u8], k: usize, least: u32, greatest: u32, caps: &[u32]) -> usize
+    requires { ⌜ (75828 ≤ length (now out)) × SquaresLent k (length (now caps)) ⌝ }
+    ensures { λ n. ⌜
+        Printed (sketchPage k least greatest (now (caps .entry))) (now (out .entry)) n (now (out .exit))
+        ⌝ }
+{
+    let at = put_totals(out, least as u64, greatest as u64);
+    put_caps(out, at, k, caps)
+}
+
+// What `sketch` prints for a sketch behind the level's line.
+fn put_sketch_of_text(level: u32, text: &[u8], out: &mut [u8]) -> usize
+    requires { ⌜ 75828 ≤ length (now out) ⌝ }
+    ensures { λ n. ⌜ Printed (sketchOfText level (now (text .entry))) (now (out .entry)) n (now (out .exit)) ⌝ }
+{
+    let mut lows = [0u8; 1024];
+    let mut highs = [0u8; 1024];
+    let mut caps = [0u32; 1024];
+    match sketch_quote::sketch_quote(text, level, &mut lows, &mut highs, &mut caps) {
+        SketchAnswer::Refused(why) => refusal_line::put_refused(out, checks::number_of(why)),
+        SketchAnswer::Quoted(_, least, greatest) => {
+            let k = level as usize;
+            let squares = sizes::cell_count(k);
+            put_sketch_page(out, k, least, greatest, &caps[..squares])
+        }
+    }
+}
+
+// What `sketch` prints.
+fn put_sketch(input: &[u8], out: &mut [u8]) -> usize
+    requires { ⌜ 75828 ≤ length (now out) ⌝ }
+    ensures { λ n. ⌜ Printed (sketchOf (now (input .entry))) (now (out .entry)) n (now (out .exit)) ⌝ }
+{
+    let Number::Read(level, at) = decimals::read_number(input, 0, 4294967295, 10) else {
+        return refusal_line::put_refused(out, 7);
+    };
+    let from = sizes::shorter(at, input.len());
+    put_sketch_of_text(level, &input[from..], out)
 }
 
 pub fn plate_text(input: &[u8]) -> PlateText
@@ -211,4 +296,13 @@ pub fn convert_text(input: &[u8]) -> ConvertText
     let mut bytes = [0u8; 262148];
     let length = put_converted(input, &mut bytes);
     ConvertText { bytes, length }
+}
+
+pub fn sketch_text(input: &[u8]) -> SketchText
+    ensures { λ s. ⌜ take (s .length) (s .bytes) ≡ sketchOf (now (input .entry)) ⌝ }
+    ensures { λ s. ⌜ s .length ≤ 75828 ⌝ }
+{
+    let mut bytes = [0u8; 75828];
+    let length = put_sketch(input, &mut bytes);
+    SketchText { bytes, length }
 }

@@ -15,11 +15,13 @@ first-column : (width n : ℕ) (next : Figure) (rest : List Figure) → alignedL
 unfolding alignedLine columnText
 first-column width n next rest = sym (append-snoc (rightAligned width n) space (alignedLine (next ∷ rest)))
 
-then-column : {l l₁ l₂ : List ℕ} {at a b : ℕ} (width n : ℕ) (next : Figure) (rest : List Figure) → Wrote l at (columnText width n space) a l₁ → Wrote l₁ a (alignedLine (next ∷ rest)) b l₂
+pub then-column : {l l₁ l₂ : List ℕ} {at a b : ℕ} (width n : ℕ) (next : Figure) (rest : List Figure)
+    → Wrote l at (columnText width n space) a l₁ → Wrote l₁ a (alignedLine (next ∷ rest)) b l₂
     → Wrote l at (alignedLine ((width, n) ∷ next ∷ rest)) b l₂
 then-column width n next rest x y = rw (first-column width n next rest) (wrote-append x y)
 
-last-column : {l l₁ : List ℕ} {at a : ℕ} (width n : ℕ) → Wrote l at (columnText width n newline) a l₁ → Wrote l at (alignedLine ((width, n) ∷ [])) a l₁
+pub last-column : {l l₁ : List ℕ} {at a : ℕ} (width n : ℕ) → Wrote l at (columnText width n newline) a l₁
+    → Wrote l at (alignedLine ((width, n) ∷ [])) a l₁
 unfolding alignedLine columnText
 last-column width n x = x
 

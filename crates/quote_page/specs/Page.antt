@@ -51,9 +51,6 @@ module _ (greys serials : List ℕ) {r k : ℕ} (powers : r ≤ 8) (level : k �
 
 -- ---- what the inner functions get from what is asked
 module _ {greys serials : List ℕ} {r k : ℕ} (h : PageAsked greys serials r k) where
-  pub small-side : {side : ℕ} → side ≡ 2 ^ (r - k) → side ≤ 256
-  small-side es = omega (arith, pow-mono {i = r - k} {j = 8} (omega (arith, h .powers)))
-
   -- what the code has worked out for a block's line
   module _ {side grey dots cap : ℕ} (a b : ℕ) (es : side ≡ 2 ^ (r - k)) (eg : grey ≡ greySum r greys k a b) (ed : dots ≡ dotsIn r serials k a b) (ec : cap ≡ quoteCap side grey) where
     pub block-wrote : {l l₁ : List ℕ} {at next : ℕ} → Wrote l at (alignedLine (columns a b grey dots cap)) next l₁ → Wrote l at (quoteLine r greys serials k a b) next l₁

@@ -7,23 +7,10 @@ ghost use mathlib.Core.Path.{_≡_};
 ghost use Prim.Native.Nat.{_^_, _<_, _≤_};
 ghost use Rattle.definition.specs.Lists.{joined};
 ghost use Rattle.definition.specs.Answers.{textSays};
-ghost use Rattle.definition.specs.QuotePage.{quoteCap, columns, alignedLine, quoteLine, quoteText, quotePageRefusal, quotePageOf};
+ghost use Rattle.definition.specs.QuotePage.{columns, alignedLine, quoteLine, quoteText, quotePageRefusal, quotePageOf};
 ghost use Rattle.decimals.specs.Writing.{Wrote};
 ghost use Rattle.checks.specs.Checks.{checked};
 ghost use Rattle.quote_page.specs.Page.{PageAsked, pageLength};
-
-// The cap of a block of side s with a grey sum.
-fn quote_cap(s: u64, grey: u64) -> u64
-    requires { ⌜ (s ≤ 256) × (grey < 2 ^ 32) ⌝ }
-    ensures { λ n. ⌜ n ≡ quoteCap s grey ⌝ }
-{
-    let square = s * s;
-    let quotient = (3 * grey + 764 + 1020 * s) / 765;
-    if quotient < square {
-        return quotient;
-    }
-    square
-}
 
 // A line of five figures.
 fn put_line(
@@ -62,7 +49,7 @@ fn put_block(
     let s = sizes::pow2(r - k) as u64;
     let grey = blocks::block_greys(greys, r, k, row, column) as u64;
     let dots = blocks::block_dots(serials, r, k, row, column) as u64;
-    let cap = quote_cap(s, grey);
+    let cap = quote_figures::quote_cap(s, grey);
     put_line(out, at, row as u64, column as u64, grey, dots, cap)
 }
 

@@ -16,6 +16,7 @@ use Rattle.definition.specs.declared.Refusal.the-variants.{
   NameUnknown,
   KnitUnknown,
   GreyHigh,
+  PairFalls,
 }
 
 pub number-positive : (why : Refusal) → numberOf why ≡ suc (numberOf why - 1)
@@ -32,3 +33,4 @@ number-positive InputLong = refl
 number-positive NameUnknown = refl
 number-positive KnitUnknown = refl
 number-positive GreyHigh = refl
+number-positive PairFalls = refl

@@ -5,7 +5,7 @@ use definition::Refusal;
 use definition::RelayAnswer;
 ghost use mathlib.Core.Path.{_≡_};
 ghost use mathlib.Core.List.{_++_};
-ghost use Prim.Native.Nat.{_≤_, min};
+ghost use Prim.Native.Nat.{_≤_};
 ghost use lib.ListN.{length, drop};
 ghost use Rattle.definition.specs.Answers.{relaySays};
 ghost use Rattle.definition.specs.Pyramid.{needed, cellCount, inLevel};
@@ -16,16 +16,6 @@ ghost use Rattle.definition.specs.ByQuarters.{relayRefusal, relayOf};
 ghost use Rattle.checks.specs.Checks.{checked};
 ghost use Rattle.places.specs.Table.{places};
 ghost use Rattle.relay.specs.Laying.{LevelAsked, LevelsAsked};
-
-// The shorter of two lengths.
-fn shorter(left: usize, right: usize) -> usize
-    ensures { λ n. ⌜ n ≡ min left right ⌝ }
-{
-    if right < left {
-        return right;
-    }
-    left
-}
 
 // Refusals 1, 11, 3, 4, 5. Refusal 3 is for either pyramid, so the shorter one counts; the sheet is to be sound row
 // after row.
@@ -48,7 +38,7 @@ fn check_relay(
         (isSound r (sheetIn r dots (now (pyramid .entry)) (now (serials .entry)) (now (order .entry))))
         ⌝ }
 {
-    let lent = shorter(pyramid.len(), second);
+    let lent = sizes::shorter(pyramid.len(), second);
     match sheet::check_lengths(r, knit, lent, serials.len(), order.len()) {
         Check::Failed(why) => Check::Failed(why),
         Check::Passed => {

@@ -4,6 +4,7 @@ use mathlib.Core.Bool.{Bool, cond}
 use mathlib.Core.List.{List}
 use Prim.Native.Nat.{ℕ}
 use lib.IntN.{ℤ}
+use lib.ListN.{getD}
 use lib.Seq.{sets}
 use Rattle.definition.specs.Answers.{
   Said,
@@ -15,6 +16,7 @@ use Rattle.definition.specs.Answers.{
   levelsSays,
   textSays,
   compareSays,
+  sketchSays,
   shelfSays,
   relaySays,
 }
@@ -23,6 +25,7 @@ use Rattle.definition.specs.ByQuarters.{loadByQuarters, advanceByQuarters, rest
 use Rattle.definition.specs.Survey.{tallyOf, levelsOf}
 use Rattle.definition.specs.Text.{TextOutcome}
 use Rattle.definition.specs.LowerText.{LowerTextOutcome}
+use Rattle.definition.specs.SketchQuote.{SketchOutcome}
 use Rattle.definition.specs.Shelf.{ShelfOutcome}
 use Rattle.definition.specs.declared.LoadAnswer.{LoadAnswer}
 use Rattle.definition.specs.declared.LoadStatus.{LoadStatus}
@@ -34,12 +37,14 @@ use Rattle.definition.specs.declared.TallyAnswer.{TallyAnswer}
 use Rattle.definition.specs.declared.LevelsAnswer.{LevelsAnswer}
 use Rattle.definition.specs.declared.LevelsStatus.{LevelsStatus}
 use Rattle.definition.specs.declared.TextAnswer.{TextAnswer}
+use Rattle.definition.specs.declared.SketchAnswer.{SketchAnswer}
 use Rattle.definition.specs.declared.CompareAnswer.{CompareAnswer}
 use Rattle.definition.specs.declared.ShelfAnswer.{ShelfAnswer}
 use Rattle.definition.specs.declared.RelayAnswer.{RelayAnswer}
 use Rattle.rulmedei.specs.Codes.{
   codeOf,
   valueOf,
+  valuesIn,
   cellOf,
   loadCode,
   advanceCode,
@@ -50,6 +55,7 @@ use Rattle.rulmedei.specs.Codes.{
   greysCode,
   textCode,
   lowerTextCode,
+  sketchCode,
   compareCode,
   shelfCode,
   relayCode,
@@ -161,6 +167,15 @@ pub lower-text-coded : {o : LowerTextOutcome} {low after : List ℕ} (a : TextAn
     → record { code = n; length = v; greys = low; output = after } ≡ lowerTextCode o
 unfolding lowerTextCode
 lower-text-coded a h n v = rw (← h, n, v)
+
+pub sketch-coded : {o : SketchOutcome} {low high cap : List ℕ} (a : SketchAnswer)
+    → record { said = sketchSays a; lows = low; highs = high; caps = cap } ≡ o
+    → {t : SketchAnswer} → a ≡ t → {n v l g : ℕ} → n ≡ codeOf (sketchSays t)
+    → v ≡ getD (valuesIn (sketchSays t)) 0 0 → l ≡ getD (valuesIn (sketchSays t)) 1 0
+    → g ≡ getD (valuesIn (sketchSays t)) 2 0
+    → record { code = n; side = v; least = l; greatest = g; lows = low; highs = high; caps = cap } ≡ sketchCode o
+unfolding sketchCode
+sketch-coded a h is n v l g = rw (← h, is, n, v, l, g)
 
 -- ---- the comparison and the shelf
 pub compare-coded : {o : Said} (a : CompareAnswer) → compareSays a ≡ o → {t : CompareAnswer} → a ≡ t

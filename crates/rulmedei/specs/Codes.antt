@@ -3,6 +3,7 @@ use mathlib.Core.Bool.{Bool, cond}
 use mathlib.Core.List.{List, [], _∷_}
 use Prim.Native.Nat.{ℕ}
 use lib.IntN.{ℤ}
+use lib.ListN.{getD}
 use lib.Seq.{sets}
 use Rattle.definition.specs.Answers.{
   Said,
@@ -24,6 +25,7 @@ use Rattle.definition.specs.ByQuarters.{loadByQuarters, advanceByQuarters, rest
 use Rattle.definition.specs.Survey.{tallyOf, levelsOf}
 use Rattle.definition.specs.Text.{TextOutcome}
 use Rattle.definition.specs.LowerText.{LowerTextOutcome}
+use Rattle.definition.specs.SketchQuote.{SketchOutcome}
 use Rattle.definition.specs.Shelf.{ShelfOutcome}
 
 -- 102 to 106 for what a comparison says
@@ -167,6 +169,37 @@ pub record LowerTextCode : Type 0 where
 unfoldable pub lowerTextCode : LowerTextOutcome → LowerTextCode
 lowerTextCode o =
     record { code = codeOf (o .said); length = valueOf (o .said); greys = o .greys; output = o .output }
+
+-- all values returned; none where there are none
+unfoldable pub valuesIn : Said → List ℕ
+valuesIn (returned values) = values
+valuesIn finished = []
+valuesIn more = []
+valuesIn (comparison c) = []
+valuesIn (refused n) = []
+
+-- Sketch Quote: the side, the least total and the greatest, each 0 where it refuses
+pub record SketchCode : Type 0 where
+  pub code : ℕ
+  pub side : ℕ
+  pub least : ℕ
+  pub greatest : ℕ
+  pub lows : List ℕ
+  pub highs : List ℕ
+  pub caps : List ℕ
+
+unfoldable pub sketchCode : SketchOutcome → SketchCode
+sketchCode o =
+    let values = valuesIn (o .said) in
+    record {
+      code = codeOf (o .said);
+      side = getD values 0 0;
+      least = getD values 1 0;
+      greatest = getD values 2 0;
+      lows = o .lows;
+      highs = o .highs;
+      caps = o .caps;
+    }
 
 -- the row and the column of the cell that a comparison names; 0 and 0 where it names none
 unfoldable pub cellOf : Said → ℕ × ℕ

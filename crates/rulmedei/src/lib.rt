@@ -13,6 +13,7 @@ use definition::Progress;
 use definition::RelayAnswer;
 use definition::SampleAnswer;
 use definition::ShelfAnswer;
+use definition::SketchAnswer;
 use definition::TallyAnswer;
 use definition::TextAnswer;
 ghost use mathlib.Core.Path.{_≡_};
@@ -23,12 +24,13 @@ ghost use Rattle.definition.specs.Lowering.{lowered};
 ghost use Rattle.definition.specs.MapText.{mapTextOf};
 ghost use Rattle.definition.specs.LowerText.{lowerTextOf};
 ghost use Rattle.definition.specs.QuotePage.{quotePageOf};
+ghost use Rattle.definition.specs.SketchQuote.{sketchQuoteOf};
 ghost use Rattle.definition.specs.ByQuarters.{drillListByQuarters, renewalByQuarters, relayOf};
 ghost use Rattle.definition.specs.Sample.{sampleOf};
 ghost use Rattle.definition.specs.Shelf.{compareOf, shelfOf};
 ghost use Rattle.rulmedei.specs.Codes.{codeOf, valueOf, loadCode, advanceCode, tallyCode, levelsCode};
 ghost use Rattle.rulmedei.specs.Codes.{keepCode, restoreCode};
-ghost use Rattle.rulmedei.specs.Codes.{lowerTextCode};
+ghost use Rattle.rulmedei.specs.Codes.{lowerTextCode, sketchCode};
 ghost use Rattle.rulmedei.specs.Codes.{greysCode, textCode, compareCode, shelfCode, relayCode, renewCode};
 
 // Load. The record is written to `progress_side`, `progress_dots` and `progress_knit`.
@@ -337,6 +339,47 @@ pub extern "C" fn rulmedei_quote_page(
 {
     let answer = quote_page::quote_page(side, greys, serials, level, out);
     text_code(answer, length)
+}
+
+// Sketch Quote. The side, the least and the greatest total are written to `side_read`, `least` and `greatest`, 0 where
+// it refuses.
+#[no_mangle]
+pub extern "C" fn rulmedei_sketch_quote(
+    text: &[u8],
+    level: u32,
+    lows: &mut [u8],
+    highs: &mut [u8],
+    caps: &mut [u32],
+    side_read: &mut u32,
+    least: &mut u32,
+    greatest: &mut u32,
+) -> u32
+    ensures { λ n. ⌜
+        record {
+          code = n;
+          side = now («side_read» .exit);
+          least = now (least .exit);
+          greatest = now (greatest .exit);
+          lows = now (lows .exit);
+          highs = now (highs .exit);
+          caps = now (caps .exit);
+        }
+        ≡ sketchCode
+        (sketchQuoteOf (now (text .entry)) level (now (lows .entry)) (now (highs .entry)) (now (caps .entry)))
+        ⌝ }
+{
+    *side_read = 0;
+    *least = 0;
+    *greatest = 0;
+    match sketch_quote::sketch_quote(text, level, lows, highs, caps) {
+        SketchAnswer::Quoted(n, low, high) => {
+            *side_read = n;
+            *least = low;
+            *greatest = high;
+            0
+        }
+        SketchAnswer::Refused(why) => checks::number_of(why),
+    }
 }
 
 // The sample. The state reached is written to `state`, 0 where it refuses.

@@ -1,6 +1,6 @@
-// Sides, powers of two and level starts: the numbers that every call works with.
+// Sides, powers of two, level starts and lengths: the numbers that every call works with.
 ghost use mathlib.Core.Path.{_≡_};
-ghost use Prim.Native.Nat.{_^_, _≤_};
+ghost use Prim.Native.Nat.{_^_, _≤_, min};
 ghost use Rattle.definition.specs.Pyramid.{cellCount, needed, start};
 ghost use Rattle.definition.specs.Refusals.{powerOf};
 
@@ -52,4 +52,14 @@ pub fn needed(r: usize) -> usize
     ensures { λ n. ⌜ n ≡ needed r ⌝ }
 {
     level_start(r + 1)
+}
+
+// The shorter of two lengths.
+pub fn shorter(a: usize, b: usize) -> usize
+    ensures { λ n. ⌜ n ≡ min a b ⌝ }
+{
+    if a < b {
+        return a;
+    }
+    b
 }

@@ -1,7 +1,7 @@
 //! The cases, by kind: every call answered, and every call refused, both on either knit; loads; runs of calls with lent
 //! parts and damage between them; runs with names; sheets that no Load made; noise; the renewal by itself on wrong
 //! pyramids; samples one after another, and lowered; plates compared, and shelves of plates; older sheets; texts, and
-//! texts of two sides, read and lowered.
+//! texts of two sides, read and lowered; sketches, and texts that are nearly such.
 
 use reference::SIDES;
 
@@ -12,6 +12,7 @@ use crate::runs::{load_case, made_up_case, noise_case, run_case};
 use crate::samples::sample_case;
 use crate::shelves::{compare_case, shelf_case};
 use crate::side_by_side::{Differs, SideBySide};
+use crate::sketches::{mixed_sketch_case, sketch_case};
 use crate::stages::stage_case;
 use crate::texts::{mixed_text_case, text_case};
 use crate::tours::{refusals_case, ribbed_refusals_case, ribbed_tour_case, tour_case};
@@ -20,7 +21,7 @@ use crate::tours::{refusals_case, ribbed_refusals_case, ribbed_tour_case, tour_c
 type Case = fn(&mut Random, &mut SideBySide, u32) -> Result<(), Differs>;
 
 /// The kinds of case, each made at every side by the sweep.
-const KINDS: [Case; 16] = [
+const KINDS: [Case; 18] = [
     tour_case,
     ribbed_tour_case,
     refusals_case,
@@ -37,6 +38,8 @@ const KINDS: [Case; 16] = [
     older_case,
     text_case,
     mixed_text_case,
+    sketch_case,
+    mixed_sketch_case,
 ];
 
 /// How often the sweep goes over all kinds and sides.
@@ -57,7 +60,7 @@ fn random_case(random: &mut Random, calls: &mut SideBySide) -> Result<(), Differ
     let (any, good) = (random.side(), random.good_side());
     let large = random.pick(&[32, 64, 128, 256]);
     let (quick, quick_good) = if random.once_in(200) { (large, large) } else { (any, good) };
-    match random.below(33) {
+    match random.below(37) {
         0..=3 => load_case(random, calls, any),
         4..=9 => run_case(random, calls, good),
         10 | 11 => made_up_case(random, calls, good),
@@ -69,6 +72,8 @@ fn random_case(random: &mut Random, calls: &mut SideBySide) -> Result<(), Differ
         26 | 27 => shelf_case(random, calls, any),
         28 | 29 => stage_case(random, calls, good),
         30 | 31 => older_case(random, calls, any),
+        32..=34 => sketch_case(random, calls, quick_good),
+        35 => mixed_sketch_case(random, calls, quick_good),
         _ => mixed_text_case(random, calls, quick_good),
     }
 }

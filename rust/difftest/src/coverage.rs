@@ -1,5 +1,5 @@
 //! Which codes the calls returned at which of the eight sides, which of them on ribbed cloth, and what kinds of
-//! comparison, shelf, Keep, Restore, knit and greys there were.
+//! comparison, shelf, Keep, Restore, knit, greys and sketch there were.
 
 use std::collections::BTreeSet;
 
@@ -8,17 +8,19 @@ use reference::SIDES;
 use crate::grey_kinds;
 use crate::knit_kinds;
 use crate::plate_kinds::{self, Kind};
+use crate::sketch_kinds;
 use crate::stage_kinds;
 
 /// The codes that each call can return at every side: those of its answers, then those of its refusals. Lower has none,
 /// and is noted with 0.
-const CODES: [(&str, &[u32]); 16] = [
+const CODES: [(&str, &[u32]); 17] = [
     ("load", &[0, 11, 2, 3, 4, 12]),
     ("advance", &[0, 100, 11, 3, 4, 5]),
     ("tally", &[0, 4, 6]),
     ("levels", &[0, 2, 4]),
     ("map_text", &[0, 2, 7, 12]),
     ("lower_text", &[0, 2, 7, 8]),
+    ("sketch_quote", &[0, 2, 7, 12, 13, 6, 8]),
     ("drill_list", &[0, 11, 3, 4, 5, 8]),
     ("quote_page", &[0, 2, 4, 6, 8]),
     ("sample", &[0, 2]),
@@ -79,7 +81,7 @@ impl Coverage {
         self.kinds.len() < all_kinds().count()
     }
 
-    /// The kinds of comparison, shelf, Keep, Restore, knit and greys that have not been seen.
+    /// The kinds of comparison, shelf, Keep, Restore, knit, greys and sketch that have not been seen.
     pub fn missing_kinds(&self) -> Vec<Kind> {
         all_kinds().filter(|wanted| !self.kinds.contains(wanted)).collect()
     }
@@ -88,7 +90,7 @@ impl Coverage {
 /// The kinds that have to be met.
 fn all_kinds() -> impl Iterator<Item = Kind> {
     let of_sheets = plate_kinds::KINDS.into_iter().chain(stage_kinds::KINDS);
-    of_sheets.chain(knit_kinds::KINDS).chain(grey_kinds::KINDS)
+    of_sheets.chain(knit_kinds::KINDS).chain(grey_kinds::KINDS).chain(sketch_kinds::KINDS)
 }
 
 /// What a table has, at every side, and was not seen.

@@ -65,6 +65,12 @@ pub fn lower_text(text: &[u8], greys: &mut [u8], out: &mut [u8]) -> Outcome {
     Outcome { code: code_of(answer), values: vec![answer.unwrap_or(0) as u64] }
 }
 
+pub fn sketch_quote(text: &[u8], level: u32, lows: &mut [u8], highs: &mut [u8], caps: &mut [u32]) -> Outcome {
+    let answer = reference::sketch_quote(text, level, lows, highs, caps);
+    let values = answer.map_or([0; 3], |quote| [quote.side, quote.least, quote.greatest].map(u64::from));
+    Outcome { code: code_of(answer), values: values.to_vec() }
+}
+
 pub fn drill_list(progress: Progress, pyramid: &[i64], serials: &[u32], order: &[u32], out: &mut [u8]) -> Outcome {
     let answer = reference::drill_list(progress, pyramid, serials, order, out);
     Outcome { code: code_of(answer), values: vec![answer.unwrap_or(0) as u64] }

@@ -91,13 +91,13 @@ pub fn of_restore(progress: Progress, checkpoints: Checkpoints, name: u32, greys
 }
 
 /// The numbers of a text behind its first line, as far as they are numbers.
-fn numbers(text: &[u8]) -> Vec<u32> {
+pub fn numbers(text: &[u8]) -> Vec<u32> {
     let parts = text.split(|byte| [b',', 10].contains(byte)).skip(1);
     parts.filter_map(|part| std::str::from_utf8(part).ok()?.parse().ok()).collect()
 }
 
 /// Whether a text has a number that is a grey above 240.
-fn is_high_text(text: &[u8]) -> bool {
+pub fn is_high_text(text: &[u8]) -> bool {
     numbers(text).iter().any(|number| (241..=255).contains(number))
 }
 

@@ -62,6 +62,12 @@ pub fn lower_text(text: &[u8], greys: &mut [u8], out: &mut [u8]) -> Outcome {
     Outcome { code, values: vec![length as u64] }
 }
 
+/// The side, the least total and the greatest.
+pub fn sketch_quote(text: &[u8], level: u32, lows: &mut [u8], highs: &mut [u8], caps: &mut [u32]) -> Outcome {
+    let (code, quote) = codes::sketch_quote(text, level, lows, highs, caps);
+    Outcome { code, values: [quote.side, quote.least, quote.greatest].map(u64::from).to_vec() }
+}
+
 pub fn drill_list(progress: Progress, pyramid: &[i64], serials: &[u32], order: &[u32], out: &mut [u8]) -> Outcome {
     let (code, length) = codes::drill_list(ours(progress), pyramid, serials, order, out);
     Outcome { code, values: vec![length as u64] }

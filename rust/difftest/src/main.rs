@@ -16,6 +16,8 @@ mod runs;
 mod samples;
 mod shelves;
 mod side_by_side;
+mod sketch_kinds;
+mod sketches;
 mod stage_kinds;
 mod stages;
 mod texts;
@@ -29,7 +31,7 @@ use random::Random;
 use side_by_side::SideBySide;
 
 /// Within so many cases every call has returned each of its codes at every side, those that look at the knit on ribbed
-/// cloth too, and there was every kind of comparison, shelf, Keep, Restore, knit and greys.
+/// cloth too, and there was every kind of comparison, shelf, Keep, Restore, knit, greys and sketch.
 const COVERED: u64 = 1000;
 
 fn main() -> ExitCode {
@@ -86,11 +88,11 @@ fn compare_cases(cases: u64, seed: u64) -> Result<String, String> {
         println!("{call},{code},{count}");
     }
     let [codes, kinds] = [codes, kinds].map(|covered| covered.unwrap_or(cases));
-    println!("each of the fourteen calls, the renewal by itself and the lowering of greys was answered, and gave each");
+    println!("each of the fifteen calls, the renewal by itself and the lowering of greys was answered, and gave each");
     println!(
         "refusal, at all eight sides within {codes} cases, those that look at the knit on plain cloth and on ribbed"
     );
-    println!("every kind of comparison, shelf, Keep, Restore, knit and greys was met within {kinds} cases");
+    println!("every kind of comparison, shelf, Keep, Restore, knit, greys and sketch was met within {kinds} cases");
     Ok(format!("{} calls compared in {cases} cases of seed {seed}, no difference", calls.total()))
 }
 

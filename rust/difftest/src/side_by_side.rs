@@ -12,6 +12,7 @@ use crate::grey_kinds;
 use crate::knit_kinds;
 use crate::library::{self, Outcome};
 use crate::plate_kinds;
+use crate::sketch_kinds;
 use crate::stage_kinds;
 
 /// The three buffers of a sheet, whole.
@@ -28,6 +29,14 @@ pub struct Lent {
     pub pyramid: usize,
     pub serials: usize,
     pub order: usize,
+}
+
+/// The three buffers of Sketch Quote, whole.
+#[derive(Debug, Clone, PartialEq, Eq)]
+pub struct Quoted {
+    pub lows: Vec<u8>,
+    pub highs: Vec<u8>,
+    pub caps: Vec<u32>,
 }
 
 /// The calls compared so far, by name and code; and which codes they returned at which sides.
@@ -136,6 +145,7 @@ impl SideBySide {
         self.agreed("map_text", &(text, &before), (&ours, &*greys), (&theirs, &other[..]))?;
         if self.coverage.wants_kinds() {
             self.coverage.note_kinds(grey_kinds::of_map_text(text, ours.code));
+            self.coverage.note_kinds(sketch_kinds::of_map_text(text, ours.code));
         }
         let side = if ours.code == 0 { ours.values[0] as u32 } else { side };
         self.counted("map_text", side, ours)
@@ -153,6 +163,41 @@ impl SideBySide {
             self.coverage.note_kinds(grey_kinds::of_lower_text(text, greys, out, &ours));
         }
         self.counted("lower_text", side, ours)
+    }
+
+    /// Sketch Quote, with so many places lent of the lows, the highs and the caps. The side is as with Map Text.
+    pub fn sketch_quote(
+        &mut self,
+        side: u32,
+        text: &[u8],
+        level: u32,
+        quoted: &mut Quoted,
+        lent: [usize; 3],
+    ) -> Result<Outcome, Differs> {
+        let before = quoted.clone();
+        let mut other = quoted.clone();
+        let [lows, highs, caps] = lent;
+        let ours = library::sketch_quote(
+            text,
+            level,
+            &mut quoted.lows[..lows],
+            &mut quoted.highs[..highs],
+            &mut quoted.caps[..caps],
+        );
+        let theirs = expected::sketch_quote(
+            text,
+            level,
+            &mut other.lows[..lows],
+            &mut other.highs[..highs],
+            &mut other.caps[..caps],
+        );
+        let inputs = (text, level, &before, lent);
+        self.agreed("sketch_quote", &inputs, (&ours, &*quoted), (&theirs, &other))?;
+        if self.coverage.wants_kinds() {
+            self.coverage.note_kinds(sketch_kinds::of_sketch_quote(text, level, quoted, lent, &ours));
+        }
+        let side = if ours.code == 0 { ours.values[0] as u32 } else { side };
+        self.counted("sketch_quote", side, ours)
     }
 
     pub fn drill_list(

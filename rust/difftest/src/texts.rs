@@ -17,15 +17,9 @@ pub fn text_case(random: &mut Random, calls: &mut SideBySide, side: u32) -> Resu
 
 /// A text whose first line says one side and whose other lines are those of another, mostly the next larger or smaller.
 pub fn mixed_text_case(random: &mut Random, calls: &mut SideBySide, side: u32) -> Result<(), Differs> {
-    let next = match side {
-        2 => 4,
-        256 => 128,
-        _ => random.pick(&[side / 2, 2 * side]),
-    };
-    let other = if random.once_in(4) { random.good_side() } else { next };
+    let other = other_side(random, side);
     let mut text = written(random, other);
-    let line = other.to_string().len();
-    text.splice(..line, side.to_string().into_bytes());
+    rename(&mut text, other, side);
     if random.once_in(4) {
         change(random, &mut text);
     }
@@ -49,8 +43,27 @@ fn read(random: &mut Random, calls: &mut SideBySide, side: u32, text: &[u8]) -> 
     Ok(())
 }
 
+/// A side's neighbour, the next larger or the next smaller one, or now and then any.
+pub fn other_side(random: &mut Random, side: u32) -> u32 {
+    let next = match side {
+        2 => 4,
+        256 => 128,
+        _ => random.pick(&[side / 2, 2 * side]),
+    };
+    if random.once_in(4) {
+        random.good_side()
+    } else {
+        next
+    }
+}
+
+/// Makes the first line of a text of one side that of another.
+pub fn rename(text: &mut Vec<u8>, from: u32, to: u32) {
+    text.splice(..from.to_string().len(), to.to_string().into_bytes());
+}
+
 /// One change: a byte set, taken out, put in or doubled, the rest cut off, or something behind.
-fn change(random: &mut Random, text: &mut Vec<u8>) {
+pub fn change(random: &mut Random, text: &mut Vec<u8>) {
     let word = random.next() as u8;
     let byte = random.pick(&[b'0', b'1', b'2', b'5', b'6', b'9', b',', b'\n', b'\r', b' ', b'+', b'-', 0, 255, word]);
     if text.is_empty() {

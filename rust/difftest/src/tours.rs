@@ -10,6 +10,7 @@ use crate::parts::{blank, last_level, needed, other_knit, square, whole};
 use crate::random::Random;
 use crate::shelves::{plates_tour, refused_plates};
 use crate::side_by_side::{Differs, Lent, Sheet, SideBySide};
+use crate::sketches::{refused_sketches, sketch_tour};
 use crate::stages::{refused_stages, stages_tour};
 
 pub fn tour_case(random: &mut Random, calls: &mut SideBySide, side: u32) -> Result<(), Differs> {
@@ -23,12 +24,13 @@ pub fn ribbed_tour_case(random: &mut Random, calls: &mut SideBySide, side: u32) 
 /// A sample of at least two holes, which is lowered, its text read, the map loaded and run to its end in three calls,
 /// with Levels and Drill List after each. Then Tally and Quote Page at every level, Compare and Shelf on the plate and
 /// others, Keep and Restore, Relay, and the renewal of sums of which the top is wrong. After the text was read, another
-/// one, with greys that are too high, is lowered.
+/// one, with greys that are too high, is lowered, and a sketch around the map is read at every level.
 fn tour(random: &mut Random, calls: &mut SideBySide, side: u32, knit: u32) -> Result<(), Differs> {
     let greys = sampled(random, calls, side)?;
     let mut read = vec![9; greys.len()];
     calls.map_text(side, &write_map_text(side, &greys), &mut read)?;
     lower_tour(random, calls, side, &greys)?;
+    sketch_tour(random, calls, side, &greys)?;
     let mut sheet = blank(side, 0);
     let all = whole(&sheet);
     let mut progress = calls.load(side, knit, &greys, &mut sheet, all)?.progress();
@@ -126,6 +128,7 @@ fn refusals(random: &mut Random, calls: &mut SideBySide, side: u32, knit: u32) -
     refused_for_damage(random, calls, progress, &sheet)?;
     refused_older(random, calls, progress, &sheet)?;
     refused_texts(random, calls, side, &greys)?;
+    refused_sketches(random, calls, side, &greys)?;
     on_other_knit(calls, progress, &greys, &mut sheet)
 }
 

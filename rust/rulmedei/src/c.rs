@@ -71,6 +71,21 @@ extern "C" {
         length: *mut usize,
     ) -> u32;
 
+    pub fn rulmedei_sketch_quote(
+        text: *const u8,
+        text_length: usize,
+        level: u32,
+        lows: *mut u8,
+        lows_length: usize,
+        highs: *mut u8,
+        highs_length: usize,
+        caps: *mut u32,
+        caps_length: usize,
+        side: *mut u32,
+        least: *mut u32,
+        greatest: *mut u32,
+    ) -> u32;
+
     pub fn rulmedei_drill_list(
         side: u32,
         dots: u32,

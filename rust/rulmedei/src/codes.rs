@@ -3,7 +3,7 @@
 //! number is 0 or 101, and the lowering of greys, which has none.
 
 use crate::c;
-use crate::{Checkpoints, Progress};
+use crate::{Checkpoints, Progress, SketchQuote};
 
 /// What a place for a number holds before a call has written it.
 const UNWRITTEN: u32 = u32::MAX;
@@ -124,6 +124,35 @@ pub fn lower_text(text: &[u8], greys: &mut [u8], out: &mut [u8]) -> (u32, usize)
         )
     };
     (code, length)
+}
+
+/// The code, and the side with both totals.
+pub fn sketch_quote(
+    text: &[u8],
+    level: u32,
+    lows: &mut [u8],
+    highs: &mut [u8],
+    caps: &mut [u32],
+) -> (u32, SketchQuote) {
+    let mut quote = SketchQuote { side: UNWRITTEN, least: UNWRITTEN, greatest: UNWRITTEN };
+    // SAFETY: each pointer and length is that of a slice, or a reference to a field of a local.
+    let code = unsafe {
+        c::rulmedei_sketch_quote(
+            text.as_ptr(),
+            text.len(),
+            level,
+            lows.as_mut_ptr(),
+            lows.len(),
+            highs.as_mut_ptr(),
+            highs.len(),
+            caps.as_mut_ptr(),
+            caps.len(),
+            &mut quote.side,
+            &mut quote.least,
+            &mut quote.greatest,
+        )
+    };
+    (code, quote)
 }
 
 /// The code, and the list's length.

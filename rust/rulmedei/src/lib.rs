@@ -1,8 +1,8 @@
-//! Grey maps to ordered lists of holes: the fourteen calls of the proved library, on slices that the caller lends. No
+//! Grey maps to ordered lists of holes: the fifteen calls of the proved library, on slices that the caller lends. No
 //! call asks anything of its arguments; what doesn't fit is refused, and a refused call leaves every buffer as it was.
 //! Each call below has the numbers of its refusals in the order in which it looks for them, and of several the first is
 //! told. That is by rising number, but for 11, which comes directly after 1, and 12, which in Restore comes before 10;
-//! Map Text and Lower Text have an order of their own.
+//! Map Text, Lower Text and Sketch Quote have an order of their own.
 //!
 //! Map Text reads a map, Load fills the buffers, Advance makes holes until it is finished, and Drill List writes them
 //! down (`examples/list.rs`). Tally, Levels and Quote Page look at what was made. Sample makes a map from a seed.
@@ -12,10 +12,13 @@
 //! No map may have a grey above [`HIGHEST`]: Map Text, Load and Restore refuse it. Lower Text makes of a text that was
 //! stored before one that they take.
 //!
+//! Where only a lowest and a highest grey are known of each cell, Sketch Quote says from such a sketch how many holes
+//! there may be, and at most how many in each square. A sketch may have no grey above [`HIGHEST`] either.
+//!
 //! The pyramid lies by quarters: [`place`] says where. One that an earlier version left row after row is written anew
 //! by Relay.
 //!
-//! Besides the fourteen there are `renew`, the renewal of sums that Advance does after each hole, by itself, and
+//! Besides the fifteen there are `renew`, the renewal of sums that Advance does after each hole, by itself, and
 //! `lower`, which lowers greys.
 
 #[cfg(not(all(target_arch = "x86_64", target_os = "linux")))]
@@ -71,6 +74,15 @@ pub enum Compared {
     AfterAt { row: u32, column: u32 },
     /// The right plate has fewer holes.
     After,
+}
+
+/// What Sketch Quote answers: the side of the sketch, and the holes of the map that has all its lows, and of the one
+/// with all its highs, each when finished.
+#[derive(Clone, Copy, Debug, PartialEq, Eq)]
+pub struct SketchQuote {
+    pub side: u32,
+    pub least: u32,
+    pub greatest: u32,
 }
 
 /// The counts of holes under the names 1 to 8, beside a sheet. All names are empty at first: `Checkpoints::default()`.
@@ -209,6 +221,42 @@ pub fn lower_text(text: &[u8], greys: &mut [u8], output: &mut [u8]) -> Result<us
     let (code, length) = codes::lower_text(text, greys, output);
     did(code)?;
     Ok(length)
+}
+
+/// Sketch Quote: reads a sketch, a line with the side and then for each row a line of pairs `low,high`, one for each
+/// cell, with commas between them too; otherwise it is as a map text. Writes the lows and the highs by row, and for
+/// each aligned square of a level, by row then column, the greatest cap: that of `quote_page`, of the square's highs.
+/// Places past the N² greys stay, and so do those past the 4^level caps. Returns the side, the least total and the
+/// greatest one, (2 × the sum of the lows, or of the highs, + 255) / 510 rounded down.
+///
+/// Each map whose greys are between the lows and the highs has, when finished, at least `least` holes and at most
+/// `greatest`; the lows themselves come to the one and the highs to the other. At no time has one of its squares more
+/// holes than its cap. That is so on either knit.
+///
+/// Refusals: 7 for the first line, then 1, 2 (for either greys buffer), then 7 for the rest, 12 (for a low or a high),
+/// 13, 6 (for the level), 8 (for caps with fewer than 4^level places).
+///
+/// ```
+/// use rulmedei::{sketch_quote, Refusal, SketchQuote};
+///
+/// let (mut lows, mut highs, mut caps) = ([0; 4], [0; 4], [0]);
+/// let quote = sketch_quote(b"2\n10,20,0,240\n128,128,5,6\n", 0, &mut lows, &mut highs, &mut caps)?;
+/// assert_eq!(quote, SketchQuote { side: 2, least: 1, greatest: 2 });
+/// assert_eq!((lows, highs, caps), ([10, 0, 128, 5], [20, 240, 128, 6], [4]));
+/// let falls = sketch_quote(b"2\n20,10,0,240\n128,128,5,6\n", 0, &mut lows, &mut highs, &mut caps);
+/// assert_eq!(falls, Err(Refusal::PairFalls));
+/// # Ok::<(), rulmedei::Refusal>(())
+/// ```
+pub fn sketch_quote(
+    text: &[u8],
+    level: u32,
+    lows: &mut [u8],
+    highs: &mut [u8],
+    caps: &mut [u32],
+) -> Result<SketchQuote, Refusal> {
+    let (code, quote) = codes::sketch_quote(text, level, lows, highs, caps);
+    did(code)?;
+    Ok(quote)
 }
 
 /// Drill List: writes the number of holes and the side on a first line, and then the serial, row and column of each
@@ -371,7 +419,7 @@ pub fn relay(
     did(codes::relay(progress, pyramid, serials, order, second))
 }
 
-/// The renewal by itself, none of the fourteen calls: makes each coarser entry over the cell (row, column), or over one
+/// The renewal by itself, none of the fifteen calls: makes each coarser entry over the cell (row, column), or over one
 /// of its up to eight neighbours on the map, the sum of its four entries on the level below, level by level up to the
 /// top. All other entries stay as they are, right or wrong.
 ///
@@ -381,7 +429,7 @@ pub fn renew(side: u32, row: u32, column: u32, pyramid: &mut [i64]) -> bool {
     codes::renew(side, row, column, pyramid) == 0
 }
 
-/// Lowers greys, none of the fourteen calls: each grey above 240 becomes 240, whatever the length. Sample gives greys
+/// Lowers greys, none of the fifteen calls: each grey above 240 becomes 240, whatever the length. Sample gives greys
 /// up to 255, and Load refuses those above 240.
 pub fn lower(greys: &mut [u8]) {
     codes::lower(greys);

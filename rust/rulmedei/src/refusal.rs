@@ -37,17 +37,18 @@ macro_rules! refusals {
 
 refusals! {
     SideUnknown = 1: "the side is no power of two from 2 to 256",
-    GreysShort = 2: "the greys buffer is shorter than N * N",
+    GreysShort = 2: "a greys buffer is shorter than N * N",
     PyramidShort = 3: "the pyramid is shorter than needed",
     SheetShort = 4: "a serial sheet or order list is shorter than N * N, or a shelf than n * N * N",
     SheetUnsound = 5: "the sheet is not sound: Load and Advance leave no such buffers with this record",
     BlockUnknown = 6: "the level is past the map's last, or the row or column not below 2^level",
-    TextMalformed = 7: "the text does not fit the grammar of map texts",
-    OutputShort = 8: "the output is shorter than its text, or a shelf's list than n places",
+    TextMalformed = 7: "the text does not fit the grammar of map texts, or of sketches",
+    OutputShort = 8: "the output is shorter than its text, a shelf's list than n, or caps than 4^level",
     InputLong = 9: "the input is longer than 4,099 bytes: the program plate only, none of the calls",
     NameUnknown = 10: "the name is none of 1 to 8; for a return also: empty, or past the map's total",
     KnitUnknown = 11: "the knit is neither 0 nor 1",
-    GreyHigh = 12: "a grey of the map is above 240",
+    GreyHigh = 12: "a grey of the map or the sketch is above 240",
+    PairFalls = 13: "a pair of the sketch has its low above its high",
 }
 
 impl Refusal {
@@ -66,7 +67,7 @@ impl fmt::Display for Refusal {
 impl Error for Refusal {}
 
 /// What a code says: 0 that the call did its work, any other the refusal of that number. (Further codes of the
-/// fourteen calls are 100 of Advance and 102 to 106 of Compare, and no others.)
+/// fifteen calls are 100 of Advance and 102 to 106 of Compare, and no others.)
 pub(crate) fn did(code: u32) -> Result<(), Refusal> {
     if code == 0 {
         return Ok(());

@@ -5,7 +5,7 @@ use rulmedei::Refusal;
 const HEADER: &str = include_str!("../../../include/rulmedei.h");
 const EXAMPLE: &str = include_str!("../../../include/example.c");
 
-const REFUSALS: [Refusal; 12] = [
+const REFUSALS: [Refusal; 13] = [
     Refusal::SideUnknown,
     Refusal::GreysShort,
     Refusal::PyramidShort,
@@ -18,6 +18,7 @@ const REFUSALS: [Refusal; 12] = [
     Refusal::NameUnknown,
     Refusal::KnitUnknown,
     Refusal::GreyHigh,
+    Refusal::PairFalls,
 ];
 
 /// The name, number and words of a line `#define RULMEDEI_NAME number /* words */`, where the number is a refusal's.
@@ -49,8 +50,8 @@ fn the_header_has_the_same_refusals() {
 }
 
 #[test]
-fn the_numbers_are_1_to_12() {
-    assert_eq!(REFUSALS.map(Refusal::number), [1, 2, 3, 4, 5, 6, 7, 8, 9, 10, 11, 12]);
+fn the_numbers_are_1_to_13() {
+    assert_eq!(REFUSALS.map(Refusal::number), [1, 2, 3, 4, 5, 6, 7, 8, 9, 10, 11, 12, 13]);
 }
 
 #[test]
@@ -70,5 +71,5 @@ fn the_example_in_c_has_the_words_of_the_calls_refusals() {
 #[test]
 fn a_refusal_is_printed_with_its_number_and_words() {
     let printed = Refusal::TextMalformed.to_string();
-    assert_eq!(printed, "refused, 7: the text does not fit the grammar of map texts");
+    assert_eq!(printed, "refused, 7: the text does not fit the grammar of map texts, or of sketches");
 }

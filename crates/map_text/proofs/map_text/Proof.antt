@@ -1,6 +1,7 @@
 -- `map_text::map_text`: what the first line says, told apart.
 use borrow.Author.Needs.{needs}
-use Rattle.map_text.specs.Calls.{line-good, map-line-refused}
+use Rattle.text_cells.specs.FirstLine.{line-good}
+use Rattle.map_text.specs.Calls.{map-line-refused}
 use Rattle.map_text.proofs.map_text.Statement.{statement}
 use Rattle.map_text.proofs.map_text.Tie as tie
 

@@ -1,12 +1,12 @@
 -- `map_text::read_map`: a run that stores nothing, then the one that does.
 use borrow.Author.Needs.{needs}
-use Rattle.map_text.specs.Calls.{greys-refused, greys-stored}
+use Rattle.map_text.specs.Calls.{map-refused, map-read}
 use Rattle.map_text.proofs.read_map.Statement.{statement}
 use Rattle.map_text.proofs.read_map.Tie as tie
 
 -- where the greys are refused, nothing has changed
 left-alone : tie.Need-returns
-left-alone c = search (greys-refused, needs)
+left-alone c = search (map-refused, needs)
 
 pub read-map-spec : {M : Type 1} → statement M
 read-map-spec =
@@ -17,4 +17,4 @@ read-map-spec =
     left-alone
     (λ c κs. search needs)
     (λ c. search needs)
-    (λ c. search (greys-stored, needs)))
+    (λ c. search (map-read, needs)))

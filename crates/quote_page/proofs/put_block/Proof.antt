@@ -1,6 +1,7 @@
 -- `quote_page::put_block`: the block's five figures.
 use borrow.Author.Needs.{needs}
-use Rattle.quote_page.specs.Page.{small-side, block-wrote}
+use Rattle.quote_figures.specs.Caps.{small-side}
+use Rattle.quote_page.specs.Page.{block-wrote}
 use Rattle.quote_page.proofs.put_block.Statement.{statement}
 use Rattle.quote_page.proofs.put_block.Tie as tie
 

@@ -1,0 +1,4 @@
+pub mod Promise
+pub mod Range
+pub mod Holds
+pub mod Clauses
