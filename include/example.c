@@ -33,6 +33,7 @@ static const char *const words[] = {
     [RULMEDEI_KNIT_UNKNOWN] = "the knit is neither 0 nor 1",
     [RULMEDEI_GREY_HIGH] = "a grey of the map or the sketch is above 240",
     [RULMEDEI_PAIR_FALLS] = "a pair of the sketch has its low above its high",
+    [RULMEDEI_SIDE_SMALL] = "the side is below 16",
 };
 
 /* one byte more than the longest text, so that a longer one is seen to be none */

@@ -1,5 +1,5 @@
 /*
- * Rulmedei: grey maps to ordered lists of holes. The fifteen calls for C, the renewal of sums by itself, and the
+ * Rulmedei: grey maps to ordered lists of holes. The sixteen calls for C, the renewal of sums by itself, and the
  * lowering of greys.
  *
  * `rt staticlib rulmedei` writes target/staticlib/librulmedei.a, for x86-64 Linux. It needs the C library and nothing
@@ -35,10 +35,10 @@ extern "C" {
  * rulmedei_compare in place of RULMEDEI_DONE one of the five from RULMEDEI_BEFORE to RULMEDEI_AFTER. A refused call
  * leaves pyramid, serials, order, greys, lows, highs, caps, out, list, kept and second as they were. Below, each call
  * has its refusals in the order in which it looks for them, and of several the first is told. That is by rising number,
- * but for 11, which comes directly after 1, and 12, which in rulmedei_restore comes before 10; rulmedei_map_text,
- * rulmedei_lower_text and rulmedei_sketch_quote have an order of their own. rulmedei_renew and rulmedei_lower, which
- * are none of the fifteen calls, have no refusal numbers: the one returns RULMEDEI_DONE or RULMEDEI_NOT_RENEWED, the
- * other nothing.
+ * but for 11, which comes directly after 1, 14, which comes between these two, and 12, which in rulmedei_restore comes
+ * before 10; rulmedei_map_text, rulmedei_lower_text and rulmedei_sketch_quote have an order of their own.
+ * rulmedei_renew and rulmedei_lower, which are none of the sixteen calls, have no refusal numbers: the one returns
+ * RULMEDEI_DONE or RULMEDEI_NOT_RENEWED, the other nothing.
  */
 #define RULMEDEI_DONE 0
 #define RULMEDEI_MORE 100         /* rulmedei_advance: further holes are due */
@@ -56,15 +56,16 @@ extern "C" {
 #define RULMEDEI_BLOCK_UNKNOWN 6  /* the level is past the map's last, or the row or column not below 2^level */
 #define RULMEDEI_TEXT_MALFORMED 7 /* the text does not fit the grammar of map texts, or of sketches */
 #define RULMEDEI_OUTPUT_SHORT 8   /* the output is shorter than its text, a shelf's list than n, or caps than 4^level */
-#define RULMEDEI_INPUT_LONG 9     /* the input is longer than 4,099 bytes: the program plate only, none of the calls */
+#define RULMEDEI_INPUT_LONG 9     /* the input is longer than 4,099 bytes: plate and two_heads, none of the calls */
 #define RULMEDEI_NAME_UNKNOWN 10  /* the name is none of 1 to 8; for a return also: empty, or past the map's total */
 #define RULMEDEI_KNIT_UNKNOWN 11  /* the knit is neither 0 nor 1 */
 #define RULMEDEI_GREY_HIGH 12     /* a grey of the map or the sketch is above 240 */
 #define RULMEDEI_PAIR_FALLS 13    /* a pair of the sketch has its low above its high */
+#define RULMEDEI_SIDE_SMALL 14    /* the side is below 16 */
 
 /*
- * The highest grey that a map may have, or a sketch. rulmedei_map_text, rulmedei_load, rulmedei_restore and
- * rulmedei_sketch_quote refuse a higher one.
+ * The highest grey that a map may have, or a sketch. rulmedei_map_text, rulmedei_load, rulmedei_two_heads,
+ * rulmedei_restore and rulmedei_sketch_quote refuse a higher one.
  * rulmedei_lower_text turns a text that was stored before into one that passes, and rulmedei_lower lowers greys.
  */
 #define RULMEDEI_HIGHEST 240
@@ -79,8 +80,8 @@ extern "C" {
 #define RULMEDEI_RIBBED 1
 
 /*
- * The record of a sheet is three numbers, always in this order: its side, its holes (dots) and its knit. Load makes it,
- * and it goes on from call to call.
+ * The record of a sheet is three numbers, always in this order: its side, its holes (dots) and its knit. Load or Two
+ * Heads makes it, and it goes on from call to call.
  */
 
 /*
@@ -154,6 +155,35 @@ uint32_t rulmedei_advance(uint32_t side,
                           uint32_t *order, size_t order_length,
                           uint32_t *after,
                           uint32_t *made);
+
+/*
+ * Two Heads: fills the buffers as Load does and makes all holes at once, for a laser that burns with two heads. It cuts
+ * the map into macroblocks of 8 by 8 cells, in rounds: the first macroblock begins at (0, 0), in the next round at
+ * (0, 4), then at (4, 0), then at (4, 4), by row and column, and so on in turn; those that would leave the map are left
+ * out. In its round a macroblock that asks for half a hole or more, 32,640, goes to that one of its four blocks of 4 by
+ * 4 cells that asks for most, and from there down to a cell, of equals always to the first by row then column. This
+ * cell is burnt, and the rest spread, as by Advance; unless it lies on a side of the macroblock's rim that is not an
+ * edge of the map, when the macroblock burns nothing in this round. Once four rounds on end have burnt nothing all is
+ * done. The holes of a round have their serials by macroblock, by row then column. Their cells, and the pyramid, are
+ * the same in whatever order its macroblocks are worked.
+ *
+ * The record, with the side, all holes and the knit, is written to progress_side, progress_dots and progress_knit; the
+ * holes are written to holes too, and what the map still asks for, the first entry of the pyramid, to debt. It may end
+ * above 0 or below it: 65,280 * holes + debt is 256 * G, where G is the sum of the map's greys. What is said of the
+ * number of holes, of caps and of floors is said of Load and Advance, and does not hold here. Five zeros where it
+ * refuses. Refusals: 1, 14, 11, 2, 3, 4, 12 (as by Load, for the N * N greys of the map).
+ */
+uint32_t rulmedei_two_heads(uint32_t side,
+                            uint32_t knit,
+                            const uint8_t *greys, size_t greys_length,
+                            int64_t *pyramid, size_t pyramid_length,
+                            uint32_t *serials, size_t serials_length,
+                            uint32_t *order, size_t order_length,
+                            uint32_t *progress_side,
+                            uint32_t *progress_dots,
+                            uint32_t *progress_knit,
+                            uint32_t *holes,
+                            int64_t *debt);
 
 /*
  * Tally: writes to dots how many holes the aligned square (row, column) of a level has; level 0 is the whole map, and
@@ -350,7 +380,7 @@ uint32_t rulmedei_relay(uint32_t side,
                         int64_t *second, size_t second_length);
 
 /*
- * The renewal by itself. It is none of the fifteen calls: rulmedei_advance renews in this way after each hole, and
+ * The renewal by itself. It is none of the sixteen calls: rulmedei_advance renews in this way after each hole, and
  * here it can be had alone.
  */
 
@@ -369,7 +399,7 @@ uint32_t rulmedei_renew(uint32_t side,
                         int64_t *pyramid, size_t pyramid_length);
 
 /*
- * The lowering of greys, none of the fifteen calls either.
+ * The lowering of greys, none of the sixteen calls either.
  */
 
 /*

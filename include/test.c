@@ -15,6 +15,9 @@ static uint32_t (*const load)(uint32_t, uint32_t, const uint8_t *, size_t, int64
                               uint32_t *, size_t, uint32_t *, uint32_t *, uint32_t *) = rulmedei_load;
 static uint32_t (*const advance)(uint32_t, uint32_t, uint32_t, uint32_t, int64_t *, size_t, uint32_t *, size_t,
                                  uint32_t *, size_t, uint32_t *, uint32_t *) = rulmedei_advance;
+static uint32_t (*const two_heads)(uint32_t, uint32_t, const uint8_t *, size_t, int64_t *, size_t, uint32_t *, size_t,
+                                   uint32_t *, size_t, uint32_t *, uint32_t *, uint32_t *, uint32_t *,
+                                   int64_t *) = rulmedei_two_heads;
 static uint32_t (*const tally)(uint32_t, const uint32_t *, size_t, uint32_t, uint32_t, uint32_t,
                                uint32_t *) = rulmedei_tally;
 static uint32_t (*const levels)(uint32_t, const uint8_t *, size_t, const uint32_t *, size_t, uint64_t *,
@@ -203,7 +206,8 @@ static const struct less less_greys = {1, 0, 0, 0}, less_pyramid = {0, 1, 0, 0};
 static const struct less less_serials = {0, 0, 1, 0}, less_order = {0, 0, 0, 1};
 
 /* What the last call wrote beside its parts. */
-static uint32_t first, second, third;
+static uint32_t first, second, third, fourth;
+static int64_t fifth;
 static size_t length;
 
 static uint32_t load_map(struct map *m, uint32_t side, uint32_t knit, struct less less)
@@ -212,6 +216,15 @@ static uint32_t load_map(struct map *m, uint32_t side, uint32_t knit, struct les
     return load(side, knit, m->greys.places, m->greys.count - less.greys, m->pyramid.places,
                 m->pyramid.count - less.pyramid, m->serials.places, m->serials.count - less.serials, m->order.places,
                 m->order.count - less.order, &first, &second, &third);
+}
+
+static uint32_t heads_map(struct map *m, uint32_t side, uint32_t knit, struct less less)
+{
+    first = second = third = fourth = 77;
+    fifth = 77;
+    return two_heads(side, knit, m->greys.places, m->greys.count - less.greys, m->pyramid.places,
+                     m->pyramid.count - less.pyramid, m->serials.places, m->serials.count - less.serials,
+                     m->order.places, m->order.count - less.order, &first, &second, &third, &fourth, &fifth);
 }
 
 /* The record that a call is given. */
@@ -293,6 +306,7 @@ static void test_numbers(void)
     CHECK(RULMEDEI_KNIT_UNKNOWN == 11);
     CHECK(RULMEDEI_GREY_HIGH == 12);
     CHECK(RULMEDEI_PAIR_FALLS == 13);
+    CHECK(RULMEDEI_SIDE_SMALL == 14);
     CHECK(RULMEDEI_HIGHEST == 240);
     CHECK(RULMEDEI_PLAIN == 0);
     CHECK(RULMEDEI_RIBBED == 1);
@@ -1239,6 +1253,60 @@ static void test_white(struct map *m)
     test_list(m);
 }
 
+/* Two Heads refused, for reasons that come one before the other; a side below 16 comes behind an unknown one only. */
+static void refused_heads(struct map *m)
+{
+    const uint32_t small = m->side < 16 ? RULMEDEI_SIDE_SMALL : 0;
+    const struct {
+        uint32_t side, knit;
+        struct less less;
+        uint32_t number;
+    } asked[] = {
+        {m->side + 1, 2, less_greys, RULMEDEI_SIDE_UNKNOWN},
+        {m->side, 2, less_greys, small ? small : RULMEDEI_KNIT_UNKNOWN},
+        {m->side, UINT32_MAX, whole, small ? small : RULMEDEI_KNIT_UNKNOWN},
+        {m->side, m->knit, less_greys, small ? small : RULMEDEI_GREYS_SHORT},
+        {m->side, m->knit, less_pyramid, small ? small : RULMEDEI_PYRAMID_SHORT},
+        {m->side, m->knit, less_serials, small ? small : RULMEDEI_SHEET_SHORT},
+        {m->side, m->knit, less_order, small ? small : RULMEDEI_SHEET_SHORT},
+        {m->side, m->knit, whole, small ? small : RULMEDEI_GREY_HIGH},
+    };
+    keep_map(m);
+    for (size_t at = 0; at < sizeof asked / sizeof asked[0]; at++) {
+        CHECK(heads_map(m, asked[at].side, asked[at].knit, asked[at].less) == asked[at].number);
+        CHECK(first == 0 && second == 0 && third == 0 && fourth == 0 && fifth == 0 && map_as_kept(m));
+    }
+}
+
+/* Two Heads, with the map's last grey made 255, and then as it is, the sample of seed 1, lowered: the holes of
+   vectors/two-heads.csv, serials and order, and the list. */
+static void test_heads(const struct map *m)
+{
+    static const uint32_t dots[2][SIDES] = {{0, 0, 0, 127, 521, 2036, 8180, 32762},
+                                            {0, 0, 0, 129, 521, 2039, 8184, 32730}};
+    struct map heads = high_map(m);
+    const int64_t *pyramid = heads.pyramid.places;
+    const uint32_t *serials = heads.serials.places, *order = heads.order.places;
+    int same = 1;
+    refused_heads(&heads);
+    memcpy(heads.greys.places, m->greys.places, m->greys.count);
+    keep_map(&heads);
+    if (m->side < 16) {
+        CHECK(heads_map(&heads, m->side, m->knit, whole) == RULMEDEI_SIDE_SMALL && map_as_kept(&heads));
+    } else {
+        CHECK(heads_map(&heads, m->side, m->knit, whole) == RULMEDEI_DONE && as_kept(&heads.greys));
+        CHECK(first == m->side && second == fourth && third == m->knit && fifth == pyramid[0]);
+        CHECK(fourth == dots[m->knit][m->power - 1]);
+        CHECK(65280 * (int64_t)fourth + fifth == 256 * (int64_t)grey_sum(m));
+        heads.dots = fourth;
+        for (uint32_t at = 0; at < heads.order.count; at++)
+            same = same && (at < heads.dots ? serials[order[at]] == at + 1 : order[at] == 0);
+        CHECK(same);
+        test_list(&heads);
+    }
+    give_back_map(&heads);
+}
+
 static void test_side(uint32_t side, uint32_t dots)
 {
     struct map m = map_of(side, RULMEDEI_PLAIN);
@@ -1250,6 +1318,7 @@ static void test_side(uint32_t side, uint32_t dots)
     test_sketch(&m, 0);
     test_sketch(&m, m.power / 2);
     test_sketch(&m, m.power);
+    test_heads(&m);
     test_load(&m);
     test_advance(&m, dots);
     test_tally(&m);
@@ -1273,6 +1342,7 @@ static void test_ribbed(uint32_t side, uint32_t dots)
     struct map m = map_of(side, RULMEDEI_RIBBED);
     CHECK(sample(1, side, m.greys.places, m.greys.count, &first) == RULMEDEI_DONE);
     lower(m.greys.places, m.greys.count);
+    test_heads(&m);
     test_load(&m);
     test_advance(&m, dots);
     test_list(&m);
@@ -1444,6 +1514,42 @@ static void test_small_sketches(void)
     }
 }
 
+/* Maps of side 16 with a few dark cells, for two heads: the cells in the order of their holes, and the debt. */
+
+static void test_small_heads(void)
+{
+    static const struct {
+        struct {
+            uint32_t cell;
+            uint8_t grey;
+        } dark[5];
+        uint32_t holes, order[3];
+        int64_t debt;
+    } asked[] = {
+        /* cells that are inside a macroblock of one offset alone; three rounds go by without a hole */
+        {{{39, 238}, {114, 239}, {119, 240}}, 3, {119, 39, 114}, -12288},
+        /* one at the edge of the map, equal blocks, equal cells of a block, macroblocks by row */
+        {{{3, 128}, {25, 64}, {29, 64}, {145, 64}, {146, 64}}, 3, {3, 25, 145}, -97536},
+        /* one on two sides of the rim, of which one is the edge: it keeps its macroblock from burning */
+        {{{7, 127}, {34, 100}, {248, 240}}, 1, {248}, 54272},
+        /* a macroblock that comes to just half a hole, and one that comes to one less */
+        {{{51, 237}, {102, 129}}, 2, {51, 102}, -36864},
+        {{{60, 239}, {105, 131}, {195, 229}}, 2, {60, 195}, 22784},
+    };
+    struct map m = map_of(16, RULMEDEI_PLAIN);
+    uint8_t *greys = m.greys.places;
+    for (size_t at = 0; at < sizeof asked / sizeof asked[0]; at++) {
+        memset(greys, 0, m.greys.count);
+        for (size_t dark = 0; dark < 5; dark++)
+            if (asked[at].dark[dark].grey > 0)
+                greys[asked[at].dark[dark].cell] = asked[at].dark[dark].grey;
+        CHECK(heads_map(&m, 16, RULMEDEI_PLAIN, whole) == RULMEDEI_DONE);
+        CHECK(first == 16 && second == asked[at].holes && third == RULMEDEI_PLAIN && fourth == asked[at].holes);
+        CHECK(fifth == asked[at].debt && memcmp(m.order.places, asked[at].order, sizeof asked[at].order) == 0);
+    }
+    give_back_map(&m);
+}
+
 /* Plates of side 2 compared, and five of them put in order, of which two are burnt alike. */
 
 static void test_small_plates(void)
@@ -1518,6 +1624,7 @@ int main(int count, char **words)
     test_p3();
     test_small_answers();
     test_small_sketches();
+    test_small_heads();
     test_small_plates();
     test_small_stages();
     test_ribbed_p3();

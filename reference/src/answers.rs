@@ -39,6 +39,8 @@ pub enum Refusal {
     HighGrey,
     /// a pair of a sketch whose low is above its high
     FallingPair,
+    /// a side below 16, which document 02's two heads have no room on
+    SmallSide,
 }
 
 impl Refusal {
@@ -58,6 +60,7 @@ impl Refusal {
             Refusal::UnknownKnit => 11,
             Refusal::HighGrey => 12,
             Refusal::FallingPair => 13,
+            Refusal::SmallSide => 14,
         }
     }
 }
@@ -109,6 +112,16 @@ pub struct SketchQuote {
     pub side: u32,
     pub least: u32,
     pub greatest: u32,
+}
+
+/// What the call for two heads answers: the record, the dots, and the debt, which is the top and may end on either side
+/// of 0; all are 0 where it says no, with the refusal.
+#[derive(Debug, Clone, Copy, PartialEq, Eq)]
+pub struct TwoHeadsAnswer {
+    pub progress: Progress,
+    pub holes: u32,
+    pub debt: i64,
+    pub status: Result<(), Refusal>,
 }
 
 /// The eight counts of dots that stand beside a sheet, place i for name i + 1: 0 while the name is empty, else one more

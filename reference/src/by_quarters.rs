@@ -3,7 +3,7 @@
 //! the call is made as before, and what it leaves is written by quarters. And Relay, which writes an older sheet's
 //! pyramid by quarters.
 
-use crate::answers::{AdvanceAnswer, CheckpointAnswer, Checkpoints, LoadAnswer, Progress, Refusal};
+use crate::answers::{AdvanceAnswer, CheckpointAnswer, Checkpoints, LoadAnswer, Progress, Refusal, TwoHeadsAnswer};
 use crate::by_rows;
 use crate::calls::check_relay;
 use crate::shape::{entry, level_start, power, pyramid_length};
@@ -85,6 +85,18 @@ pub fn advance(
     order: &mut [u32],
 ) -> AdvanceAnswer {
     renamed(progress.side, pyramid, |rows| by_rows::advance(progress, budget, rows, serials, order))
+}
+
+/// The call for two heads.
+pub fn two_heads(
+    side: u32,
+    knit: u32,
+    greys: &[u8],
+    pyramid: &mut [i64],
+    serials: &mut [u32],
+    order: &mut [u32],
+) -> TwoHeadsAnswer {
+    renamed(side, pyramid, |rows| by_rows::two_heads(side, knit, greys, rows, serials, order))
 }
 
 /// Restore.

@@ -45,7 +45,7 @@ pub fn load(
 }
 
 /// The refusals of Load: 1, 11, 2, 3, 4, then 12 for the map's own greys.
-fn check_load(
+pub(crate) fn check_load(
     side: u32,
     knit: u32,
     greys: &[u8],

@@ -5,28 +5,40 @@ use crate::knit::{weights_of, Weights};
 use crate::pyramid::renew_over;
 use crate::shape::{entry, neighbours_in_turn, DOT, HALF_DOT};
 
-/// The cell that the dot with this serial goes to, as row and column: from the top, level by level, to a largest of
-/// the four entries below. Among equal ones an odd serial takes the first by row, an even one the last.
+/// The cell that the dot with this serial goes to, as row and column: from the top down. Among equal entries an odd
+/// serial takes the first by row, an even one the last.
 pub fn descend(power: u32, serial: u32, pyramid: &[i64]) -> (usize, usize) {
-    let (mut row, mut column) = (0, 0);
-    for level in 1..=power {
-        let four = [
-            (2 * row, 2 * column),
-            (2 * row, 2 * column + 1),
-            (2 * row + 1, 2 * column),
-            (2 * row + 1, 2 * column + 1),
-        ];
-        let sum = |(a, b): (usize, usize)| pyramid[entry(level, a, b)];
-        let mut largest = four[0];
-        for candidate in four {
-            let equal_and_even = sum(candidate) == sum(largest) && serial % 2 == 0;
-            if sum(candidate) > sum(largest) || equal_and_even {
-                largest = candidate;
-            }
-        }
-        (row, column) = largest;
+    descend_from(0, (0, 0), power, serial % 2 == 0, pyramid)
+}
+
+/// The cell that a walk from an entry of a level comes to, which goes level by level to a largest of the four entries
+/// below; among equal ones to the first by row, or to the last.
+pub(crate) fn descend_from(
+    level: u32,
+    from: (usize, usize),
+    power: u32,
+    last: bool,
+    pyramid: &[i64],
+) -> (usize, usize) {
+    let (mut row, mut column) = from;
+    for below in level + 1..=power {
+        (row, column) = largest_of(below, (2 * row, 2 * column), last, pyramid);
     }
     (row, column)
+}
+
+/// A largest of four entries of a level, of which the first is named and the others lie beside it and below; among
+/// equal ones the first by row, or the last.
+pub(crate) fn largest_of(level: u32, (row, column): (usize, usize), last: bool, pyramid: &[i64]) -> (usize, usize) {
+    let four = [(row, column), (row, column + 1), (row + 1, column), (row + 1, column + 1)];
+    let sum = |(a, b): (usize, usize)| pyramid[entry(level, a, b)];
+    let mut largest = four[0];
+    for candidate in four {
+        if sum(candidate) > sum(largest) || (last && sum(candidate) == sum(largest)) {
+            largest = candidate;
+        }
+    }
+    largest
 }
 
 /// "With c the sum of weights up to and including this neighbour and c' the sum before it, the debt falls by its
@@ -58,7 +70,11 @@ pub fn place(
     let cell = row * side as usize + column;
     serials[cell] = dots + 1;
     order[dots as usize] = cell as u32;
+    burn(side, power, weights, (row, column), pyramid);
+}
 
+/// What a dot at a cell does to the pyramid.
+pub(crate) fn burn(side: u32, power: u32, weights: &Weights, (row, column): (usize, usize), pyramid: &mut [i64]) {
     let at = entry(power, row, column);
     let error = DOT - pyramid[at];
     pyramid[at] = 0;

@@ -21,6 +21,7 @@ mod map_text;
 mod measures;
 mod plate;
 mod pyramid;
+mod quality;
 mod quote;
 mod quote_page;
 mod renewal;
@@ -37,13 +38,14 @@ mod sound;
 mod stage_cases;
 mod survey_cases;
 mod text_cases;
+mod two_heads;
 
 pub mod maps;
 pub mod stored;
 
-pub use answers::SketchQuote;
 pub use answers::{AdvanceAnswer, CheckpointAnswer, Checkpoints, Compared, Ended, LoadAnswer, Progress, Refusal};
-pub use by_quarters::{advance, drill_list, load, relay, renew, restore, sound};
+pub use answers::{SketchQuote, TwoHeadsAnswer};
+pub use by_quarters::{advance, drill_list, load, relay, renew, restore, sound, two_heads};
 pub use by_quarters::{quarter_entry, to_quarters, to_rows};
 pub use checkpoints::keep;
 pub use convert::convert;
@@ -52,7 +54,7 @@ pub use knit::{weights, weights_of, Weights, PLAIN, RIBBED};
 pub use lowering::{lower, lower_text, lowered, HIGHEST};
 pub use map_text::{map_text, write_map_text};
 pub use measures::{levels, tally};
-pub use plate::{plate, GREYS_ROOM, LONGEST_INPUT};
+pub use plate::{plate, two_heads_text, GREYS_ROOM, LONGEST_INPUT};
 pub use pyramid::{renew_all, renew_over};
 pub use quote::quote;
 pub use quote_page::quote_page;
@@ -64,11 +66,12 @@ pub use shelf::{compare, in_order, shelf};
 pub use sketch::sketch;
 pub use sketch_quote::{sketch_quote, write_sketch};
 
-/// The calls as they were before document 02's request 10, on a pyramid that lies row after row.
+/// The calls on a pyramid that lies row after row, as all were before document 02's request 10.
 pub mod by_rows {
     pub use crate::calls::{advance, load};
     pub use crate::checkpoints::restore;
     pub use crate::drill_list::drill_list;
     pub use crate::renewal::renew;
     pub use crate::sound::sound;
+    pub use crate::two_heads::{two_heads, two_heads_in, Macroblock};
 }

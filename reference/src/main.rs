@@ -1,14 +1,17 @@
 //! The reference's program: `write` writes the stored files, `check` compares them, `plate` is document 01's
 //! program `plate`, `quote` the program that prints document 02's quote page, `sample` the one that prints its sample,
 //! `convert` the one that prints a stored map text with its greys lowered, `sketch` the one that prints the totals and
-//! caps of a sketch.
+//! caps of a sketch, `two_heads` the one that prints the drill list of a laser with two heads.
 
 use std::fs;
 use std::io::{self, Read, Write};
 use std::path::{Path, PathBuf};
 use std::process::ExitCode;
 
-use reference::{convert, plate, quote, sample_text, sketch, stored, LONGEST_INPUT};
+use reference::{convert, plate, quote, sample_text, sketch, stored, two_heads_text, LONGEST_INPUT};
+
+/// What can be asked for.
+const USES: &str = "write | check | plate | quote | sample | convert | sketch | two_heads";
 
 fn main() -> ExitCode {
     let words: Vec<String> = std::env::args().skip(1).collect();
@@ -18,11 +21,12 @@ fn main() -> ExitCode {
         ["check"] => check(),
         // one byte more than the longest input is enough to tell that it's longer
         ["plate"] => print(io::stdin().take(LONGEST_INPUT as u64 + 1), plate),
+        ["two_heads"] => print(io::stdin().take(LONGEST_INPUT as u64 + 1), two_heads_text),
         ["quote"] => print(io::stdin(), quote),
         ["sample"] => print(io::empty(), |_| sample_text()),
         ["convert"] => print(io::stdin(), convert),
         ["sketch"] => print(io::stdin(), sketch),
-        _ => Err("use: reference write | check | plate | quote | sample | convert | sketch".to_string()),
+        _ => Err(format!("use: reference {USES}")),
     };
     match done {
         Ok(status) => status,

@@ -1,9 +1,9 @@
-//! The program `plate`, as a function from its input to what it prints.
+//! The programs `plate` and `two_heads`, each as a function from its input to what it prints.
 
 use crate::answers::Refusal;
 use crate::knit::PLAIN;
 use crate::map_text::map_text;
-use crate::run::run;
+use crate::run::{run, run_two_heads, Run};
 
 /// "input longer than 4,099 bytes | program only, before all else"
 pub const LONGEST_INPUT: usize = 4_099;
@@ -14,14 +14,21 @@ pub const GREYS_ROOM: usize = 1_024;
 /// "The program `plate` reads a map text on standard input, runs to finished and prints the drill list, or the line
 /// 'refused,n' with n the refusal." The cloth is plain.
 pub fn plate(input: &[u8]) -> Vec<u8> {
-    match list_of(input) {
-        Ok(list) => list,
-        Err(refusal) => format!("refused,{}\n", refusal.number()).into_bytes(),
-    }
+    printed(list_of(input, run))
 }
 
-/// The same, with the refusal kept apart.
-fn list_of(input: &[u8]) -> Result<Vec<u8>, Refusal> {
+/// The program `two_heads`: the same with two heads (document 02, request 13).
+pub fn two_heads_text(input: &[u8]) -> Vec<u8> {
+    printed(list_of(input, run_two_heads))
+}
+
+/// A list, or the line of a refusal.
+fn printed(list: Result<Vec<u8>, Refusal>) -> Vec<u8> {
+    list.unwrap_or_else(|refusal| format!("refused,{}\n", refusal.number()).into_bytes())
+}
+
+/// The list of what a map text is run to, with the refusal kept apart.
+fn list_of(input: &[u8], run: fn(u32, u32, &[u8]) -> Result<Run, Refusal>) -> Result<Vec<u8>, Refusal> {
     if input.len() > LONGEST_INPUT {
         return Err(Refusal::LongInput);
     }

@@ -1,7 +1,7 @@
 //! Buffers of the needed lengths, and a map run to its end on them.
 
-use crate::answers::{AdvanceAnswer, CheckpointAnswer, Checkpoints, LoadAnswer, Progress, Refusal};
-use crate::by_quarters::{advance, drill_list, load, restore, sound, to_quarters};
+use crate::answers::{AdvanceAnswer, CheckpointAnswer, Checkpoints, LoadAnswer, Progress, Refusal, TwoHeadsAnswer};
+use crate::by_quarters::{advance, drill_list, load, restore, sound, to_quarters, two_heads};
 use crate::calls::start;
 use crate::drill_list::list_room;
 use crate::shape::{cell_count, power, pyramid_length};
@@ -43,6 +43,11 @@ impl Buffers {
         advance(progress, budget, &mut self.pyramid, &mut self.serials, &mut self.order)
     }
 
+    /// The call for two heads on these buffers.
+    pub fn two_heads(&mut self, side: u32, knit: u32, greys: &[u8]) -> TwoHeadsAnswer {
+        two_heads(side, knit, greys, &mut self.pyramid, &mut self.serials, &mut self.order)
+    }
+
     /// Restore on these buffers.
     pub fn restore(
         &mut self,
@@ -79,8 +84,21 @@ pub(crate) fn run(side: u32, knit: u32, greys: &[u8]) -> Result<Run, Refusal> {
     loaded.status?;
     let advanced = buffers.advance(loaded.progress, u32::MAX);
     advanced.status?;
-    let mut list = vec![0; list_room(side)];
-    let length = buffers.drill_list(advanced.progress, &mut list)?;
+    listed(advanced.progress, buffers)
+}
+
+/// The same with two heads.
+pub(crate) fn run_two_heads(side: u32, knit: u32, greys: &[u8]) -> Result<Run, Refusal> {
+    let mut buffers = Buffers::new(side)?;
+    let answer = buffers.two_heads(side, knit, greys);
+    answer.status?;
+    listed(answer.progress, buffers)
+}
+
+/// A run with its drill list.
+fn listed(progress: Progress, buffers: Buffers) -> Result<Run, Refusal> {
+    let mut list = vec![0; list_room(progress.side)];
+    let length = buffers.drill_list(progress, &mut list)?;
     list.truncate(length);
-    Ok(Run { progress: advanced.progress, buffers, list })
+    Ok(Run { progress, buffers, list })
 }

@@ -10,9 +10,10 @@ use crate::knit::{PLAIN, RIBBED};
 use crate::map_text::write_map_text;
 use crate::maps::{generated, named, sampled, NAMES};
 use crate::measures::levels;
-use crate::plate::plate;
+use crate::plate::{plate, two_heads_text};
+use crate::quality::quality_csv;
 use crate::quote::quote;
-use crate::run::{run, Buffers, Run};
+use crate::run::{run, run_two_heads, Buffers, Run};
 use crate::run_cases;
 use crate::sample::sample_text;
 use crate::samples::{samples, sketched, SIDE};
@@ -27,12 +28,18 @@ use crate::text_cases;
 /// The maps whose runs on ribbed cloth are stored.
 pub const RIBBED_NAMES: [&str; 4] = ["flat-128", "gradient-diagonal", "hot-rim", "random"];
 
+/// The sides and the maps whose runs with two heads are stored, on either cloth.
+pub const TWO_HEADS_SIDES: [u32; 5] = [16, 32, 64, 128, 256];
+pub const TWO_HEADS_NAMES: [&str; 5] = ["flat-1", "flat-128", "flat-240", "hot-rim", "random"];
+
 /// "Larger maps are run against a reference in another language and the outputs matched." All stored files, each
 /// with its path from the top of the repository.
 pub fn files() -> Result<Vec<(String, Vec<u8>)>, Refusal> {
     let mut files = vec![
         ("vectors/runs.csv".to_string(), runs_csv(PLAIN, &NAMES)?.into_bytes()),
         ("vectors/ribbed.csv".to_string(), runs_csv(RIBBED, &RIBBED_NAMES)?.into_bytes()),
+        ("vectors/two-heads.csv".to_string(), two_heads_csv()?.into_bytes()),
+        ("vectors/quality.csv".to_string(), quality_csv()?.into_bytes()),
     ];
     for side in [2, 4, 8] {
         files.push((format!("vectors/side-{side}.txt"), texts_and_lists(side)?));
@@ -57,12 +64,14 @@ fn program_files(name: &str, (input, output): InputAndOutput) -> [(String, Vec<u
 }
 
 /// The sample maps, and a sketch of the first. The first of them is also what the program crate `plate` is run on, the
-/// last one what `quote` is run on, for the page of level 3, and the sketch what `sketch` is run on, for level 2.
+/// second what `two_heads` is run on, the last one what `quote` is run on, for the page of level 3, and the sketch what
+/// `sketch` is run on, for level 2.
 fn sample_files() -> Vec<(String, Vec<u8>)> {
     let texts = samples().map(|(name, greys)| (name, write_map_text(SIDE, &greys)));
-    let [(_, map), _, (_, quoted)] = &texts;
+    let [(_, map), (_, shared), (_, quoted)] = &texts;
     let asked = [b"3\n", &quoted[..]].concat();
     let mut files = program_files("plate", (map.clone(), plate(map))).to_vec();
+    files.extend(program_files("two_heads", (shared.clone(), two_heads_text(shared))));
     files.extend(program_files("quote", (asked.clone(), quote(&asked))));
     files.extend(texts.map(|(name, text)| (format!("samples/{name}.map"), text)));
     let (path, sketched) = sample_sketch();
@@ -89,19 +98,39 @@ fn stored_text() -> InputAndOutput {
 /// One line for each side and map on cloth of one knit: its figures, and checksums of what the run leaves, the pyramid
 /// once row after row (`pyramid`) and once as it lies (`quarters`).
 fn runs_csv(knit: u32, names: &[&str]) -> Result<String, Refusal> {
-    let mut text = "side,map,grey_sum,dots,top,level0,level1,level2,level3,level4,level5,level6,level7,level8,\
-                    pyramid,serials,order,list_length,list,quarters\n"
-        .to_string();
+    let mut text = format!("{RUN_COLUMNS}\n");
     for side in SIDES {
         for name in names {
             let greys = named(name, side);
-            let run = run(side, knit, &greys)?;
-            let levels = levels(side, &greys, &run.buffers.serials)?;
-            text.push_str(&run_line(name, &greys, &run, &levels));
-            text.push('\n');
+            text.push_str(&measured_line(name, &greys, &run(side, knit, &greys)?)?);
         }
     }
     Ok(text)
+}
+
+/// The same of runs with two heads, on either cloth, with the knit before each line; the top is the debt.
+fn two_heads_csv() -> Result<String, Refusal> {
+    let mut text = format!("knit,{RUN_COLUMNS}\n");
+    for knit in [PLAIN, RIBBED] {
+        for side in TWO_HEADS_SIDES {
+            for name in TWO_HEADS_NAMES {
+                let greys = named(name, side);
+                text.push_str(&format!("{knit},"));
+                text.push_str(&measured_line(name, &greys, &run_two_heads(side, knit, &greys)?)?);
+            }
+        }
+    }
+    Ok(text)
+}
+
+/// What stands in a line of a run.
+const RUN_COLUMNS: &str = "side,map,grey_sum,dots,top,level0,level1,level2,level3,level4,level5,level6,level7,level8,\
+                           pyramid,serials,order,list_length,list,quarters";
+
+/// The line of a run, with the sums of Levels worked out, and with its ending.
+fn measured_line(name: &str, greys: &[u8], run: &Run) -> Result<String, Refusal> {
+    let levels = levels(run.progress.side, greys, &run.buffers.serials)?;
+    Ok(run_line(name, greys, run, &levels) + "\n")
 }
 
 /// The line of a named map, from what a run of it leaves and the sums of Levels; without its ending.

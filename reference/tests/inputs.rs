@@ -10,7 +10,7 @@ const BUFFER: usize = 65_536;
 fn every_input_fits_the_buffer() -> Result<(), Refusal> {
     let files = files()?;
     let inputs: Vec<_> = files.iter().filter(|(path, _)| path.ends_with("/stdin")).collect();
-    assert_eq!(inputs.len(), 9);
+    assert_eq!(inputs.len(), 10);
     for (path, bytes) in inputs {
         assert!(bytes.len() < BUFFER, "{path} has {} bytes", bytes.len());
     }

@@ -29,6 +29,7 @@ pub fn number_of(why: Refusal) -> u32
         Refusal::KnitUnknown => 11,
         Refusal::GreyHigh => 12,
         Refusal::PairFalls => 13,
+        Refusal::SideSmall => 14,
     }
 }
 

@@ -17,6 +17,7 @@ use Rattle.definition.specs.declared.Refusal.the-variants.{
   KnitUnknown,
   GreyHigh,
   PairFalls,
+  SideSmall,
 }
 use Rattle.definition.specs.declared.LoadStatus.{LoadStatus}
 use Rattle.definition.specs.declared.LoadStatus.the-variants as Load
@@ -42,6 +43,8 @@ use Rattle.definition.specs.declared.RelayAnswer.{RelayAnswer}
 use Rattle.definition.specs.declared.RelayAnswer.the-variants as Relay
 use Rattle.definition.specs.declared.SketchAnswer.{SketchAnswer}
 use Rattle.definition.specs.declared.SketchAnswer.the-variants as Sketch
+use Rattle.definition.specs.declared.TwoHeadsStatus.{TwoHeadsStatus}
+use Rattle.definition.specs.declared.TwoHeadsStatus.the-variants as TwoHeads
 
 -- How the left of two plates stands to the right one (document 02, request 6): before it, the same, or after it; where
 -- a cell decides, with its row and column.
@@ -81,6 +84,7 @@ numberOf NameUnknown = 10
 numberOf KnitUnknown = 11
 numberOf GreyHigh = 12
 numberOf PairFalls = 13
+numberOf SideSmall = 14
 
 -- Load returns its record and, beside it, nothing or a number
 unfoldable pub loadSays : LoadStatus → Said
@@ -145,3 +149,8 @@ relaySays (Relay.Refused why) = refused (numberOf why)
 unfoldable pub sketchSays : SketchAnswer → Said
 sketchSays (Sketch.Quoted side least greatest) = returned (side ∷ least ∷ greatest ∷ [])
 sketchSays (Sketch.Refused why) = refused (numberOf why)
+
+-- Two Heads of document 02: beside the record, the holes and the debt, nothing or a number
+unfoldable pub twoHeadsSays : TwoHeadsStatus → Said
+twoHeadsSays TwoHeads.Stopped = returned []
+twoHeadsSays (TwoHeads.Refused why) = refused (numberOf why)

@@ -444,7 +444,8 @@ numbers =
     map numberOf
     (Refusal.SideUnknown ∷ Refusal.GreysShort ∷ Refusal.PyramidShort ∷ Refusal.SheetShort ∷ Refusal.SheetUnsound
     ∷ Refusal.BlockUnknown ∷ Refusal.TextMalformed ∷ Refusal.OutputShort ∷ Refusal.InputLong
-    ∷ Refusal.NameUnknown ∷ Refusal.KnitUnknown ∷ Refusal.GreyHigh ∷ Refusal.PairFalls ∷ [])
+    ∷ Refusal.NameUnknown ∷ Refusal.KnitUnknown ∷ Refusal.GreyHigh ∷ Refusal.PairFalls
+    ∷ Refusal.SideSmall ∷ [])
 
 -- Load of a side and a knit, lent buffers of these lengths: greys, pyramid, serials, order
 unfoldable pub loads : ℕ → ℕ → ℕ → ℕ → ℕ → ℕ → Said
@@ -574,7 +575,7 @@ shelfRefuses side n plates lent number =
 unfoldable pub singlePlates : List Row
 singlePlates =
     -- the numbers of the table; the powers of 1, 2, 4 .. 512 as sides, and of other numbers; some needed lengths
-    (50, same numbers (1 ∷ 2 ∷ 3 ∷ 4 ∷ 5 ∷ 6 ∷ 7 ∷ 8 ∷ 9 ∷ 10 ∷ 11 ∷ 12 ∷ 13 ∷ []))
+    (50, same numbers (1 ∷ 2 ∷ 3 ∷ 4 ∷ 5 ∷ 6 ∷ 7 ∷ 8 ∷ 9 ∷ 10 ∷ 11 ∷ 12 ∷ 13 ∷ 14 ∷ []))
     ∷ (51, same (tabulateFrom 0 10 (λ r. powerOf (2 ^ r))) (tabulateFrom 0 9 (λ r. r) ++ 0 ∷ []))
     ∷ (51, same (map powerOf (0 ∷ 3 ∷ 5 ∷ 31 ∷ 33 ∷ 255 ∷ 257 ∷ [])) (replicate 7 0))
     ∷ (52, eqb (needed 1) 5 && eqb (cellCount 1) 4 && eqb (needed 8) 87381 && eqb (cellCount 8) 65536)

@@ -50,6 +50,10 @@ greyHigh low = (12, not low)
 abbrev pub pairFalls : Bool → Row
 pairFalls rise = (13, not rise)
 
+-- a side below 16, which is too small for two heads (document 02, request 13): it stands directly after 1
+abbrev pub sideSmall : ℕ → Row
+sideSmall side = (14, ltb side 16)
+
 -- "k above r, or a or b not below 2^k"
 abbrev pub blockUnknown : ℕ → ℕ → ℕ → ℕ → Row
 blockUnknown r k a b = (6, ltb r k || leb (2 ^ k) a || leb (2 ^ k) b)
@@ -63,7 +67,8 @@ abbrev pub outputShort : ℕ → ℕ → Row
 outputShort list lent = (8, ltb lent list)
 
 -- The first row of the call's list that applies; 0 if none does. In document 01 the rows go by rising number, so that
--- this is the lowest that applies; document 02 puts 11 directly after 1, 12 before 10, and 12 and 13 before 6.
+-- this is the lowest that applies; document 02 puts 11 directly after 1, 14 between these two, 12 before 10, and 12 and
+-- 13 before 6.
 unfoldable pub lowest : List Row → ℕ
 lowest [] = 0
 lowest (row ∷ rows) = cond (row .1) (row .0) (lowest rows)

@@ -24,6 +24,7 @@ pub enum Refusal {
     KnitUnknown,
     GreyHigh,
     PairFalls,
+    SideSmall,
 }
 
 // Whether Load filled the buffers.
@@ -133,4 +134,19 @@ pub enum RelayAnswer {
 pub enum SketchAnswer {
     Quoted(u32, u32, u32),
     Refused(Refusal),
+}
+
+// Whether the laser with two heads ran to its end.
+pub enum TwoHeadsStatus {
+    Stopped,
+    Refused(Refusal),
+}
+
+// Two Heads: the record, the holes made and the debt that is left, which may end on either side of 0; all of it 0
+// where it refuses.
+pub struct TwoHeadsAnswer {
+    pub progress: Progress,
+    pub holes: u32,
+    pub debt: i64,
+    pub status: TwoHeadsStatus,
 }

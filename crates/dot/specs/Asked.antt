@@ -1,8 +1,8 @@
 -- What the functions of this crate are asked.
-use Prim.Native.Nat.{ℕ, _≤_, _<_}
+use Prim.Native.Nat.{ℕ, _^_, _≤_, _<_}
 use lib.IntN.{pos}
-use lib.Signed.{_≤ℤ_}
-use Rattle.definition.specs.Pyramid.{halfDot}
+use lib.Signed.{_≤ℤ_, _<ℤ_}
+use Rattle.definition.specs.Pyramid.{halfDot, entry}
 use Rattle.definition.specs.Model.{Halftone, topOf}
 use Rattle.dots.specs.Steps.{Sheet}
 
@@ -12,6 +12,15 @@ pub record DotAsked (r : ℕ) (s : Halftone) : Type 0 where
   pub small : r ≤ 8
   pub sheet : Sheet r s
   pub due : pos halfDot ≤ℤ topOf (s .pyramid)
+
+-- a sound sheet of just the needed lengths, and a cell of it that owes something
+pub record PlaceAtAsked (r : ℕ) (s : Halftone) (row column : ℕ) : Type 0 where
+  pub power : 1 ≤ r
+  pub small : r ≤ 8
+  pub sheet : Sheet r s
+  pub above : row < 2 ^ r
+  pub left : column < 2 ^ r
+  pub due : pos 0 <ℤ entry (s .pyramid) r row column
 
 -- a cell and a number that there are places for
 pub record NoteAsked (serials order at dots : ℕ) : Type 0 where

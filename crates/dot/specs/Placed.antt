@@ -1,4 +1,4 @@
--- A dot placed by the code: the walk, the cells burnt, the sums over them, and the number noted.
+-- A dot placed by the code: the cells burnt, the sums over them, and the number noted; and the walk to its cell.
 use mathlib.Core.Path.{_≡_, refl, sym, ap, _∙_}
 use mathlib.Core.Bool.{Bool, false}
 use mathlib.Core.List.{List, _++_}
@@ -19,13 +19,14 @@ use Rattle.definition.specs.Descent.{ofEquals, choiceOf, descend}
 use Rattle.definition.specs.Diffusion.{kernelOf, diffuse}
 use Rattle.definition.specs.Model.{Halftone, missing, placeDot, step}
 use Rattle.definition.specs.Renewal.{isNear, renewed}
+use Rattle.definition.specs.Sound.{Sound}
 use Rattle.integers.specs.Tests.{tests, true-T, same-test}
 use Rattle.quadtree.specs.Levels.{start-thrice, start-suc, start-mono, cell-lt, cells-few}
 use Rattle.quadtree.specs.Pyramids.{entry-drop, pyramid-cells}
 use Rattle.quadtree.specs.Renewal.{Changed, renewed-right}
 use Rattle.shares.specs.Kernels.{knit-fit}
-use Rattle.dots.specs.Kept.{sound-summed}
-use Rattle.dots.specs.Steps.{Sheet, target, step-made, row-in, column-in, next-sheet, next-away}
+use Rattle.dots.specs.Kept.{sound-summed, after-sound, after-away}
+use Rattle.dots.specs.Steps.{Sheet, target, step-made, row-in, column-in, owes}
 use Rattle.layouts.specs.Interleaved.{interleaved-lt}
 use Rattle.layouts.specs.Cells.{rowsLevel, length-rows-level, rows-in, rows-cells, rows-replaced}
 use Rattle.pyramid.specs.Asked.{Within, Whole, SmallPyramid}
@@ -34,19 +35,27 @@ use Rattle.pyramid.specs.Small.{take-within, append-within}
 use Rattle.pyramid.specs.Turn.{tail-lent, tail-back}
 use Rattle.descent.specs.Asked.{DescentAsked}
 use Rattle.diffusion.specs.Asked.{PlaceAsked}
-use Rattle.dot.specs.Asked.{DotAsked, NoteAsked}
+use Rattle.dot.specs.Asked.{DotAsked, PlaceAtAsked, NoteAsked}
 use Rattle.dot.specs.Small.{mostResidual, sound-small, places-small, rows-small, all-small}
 
 start-eight : start 8 ≡ 21845
 start-eight = unfold start in refl
 
--- after an odd number of dots the next serial is even
-in-turn : (n : ℕ) → eqb (n % 2) 1 ≡ eqb (suc n % 2) 0
-in-turn n = same-test (eqb (n % 2) 1) (eqb (suc n % 2) 0) (λ t. omega tests) (λ t. omega tests)
+-- ---- the sheet has row after row what lies by quarters in p, whose entries are all small
+pub pyramid-small : (r : ℕ) (p : List ℤ) (s : Halftone) → r ≤ 8 → Sheet r s → s .pyramid ≡ rowsFrom r p
+    → length p ≡ needed r → SmallPyramid p
+pyramid-small r p s most sheet e long =
+    record {
+      small =
+          λ i.
+          within-mono _ _ _ (omega (arith, cells-few r most))
+          (all-small r p mostResidual (rw e at (sound-summed (sheet .sound))) (rw e at (sound-small r s (sheet .sound)))
+          long i);
+    }
 
--- p is the pyramid by quarters, and the sheet has it row after row
-module _ (r : ℕ) (p : List ℤ) (ss o : List ℕ) (dots : ℕ)
-    (h : DotAsked r (record { pyramid = rowsFrom r p; serials = ss; order = o; dots = dots }))
+-- ---- a dot at a cell that owes something
+module _ (r : ℕ) (p : List ℤ) (ss o : List ℕ) (dots row column : ℕ)
+    (h : PlaceAtAsked r (record { pyramid = rowsFrom r p; serials = ss; order = o; dots = dots }) row column)
     (needed-long : length p ≡ needed r) where
   abbrev rows : List ℤ
   rows = rowsFrom r p
@@ -63,22 +72,25 @@ module _ (r : ℕ) (p : List ℤ) (ss o : List ℕ) (dots : ℕ)
   cells-long : length (drop (start r) p) ≡ cellCount r
   cells-long = omega (arith, length-drop (start r) p, long)
 
-  p-small : (i : ℕ) → Within (2 ^ 40) (getD p i (pos 0))
-  p-small i =
-      within-mono _ _ _ (omega (arith, cells-few r (h .small)))
-      (all-small r p mostResidual (sound-summed (h .sheet .sound)) (sound-small r s (h .sheet .sound)) needed-long i)
+  -- what the dot leaves, on cloth of a knit: only the cell and its neighbours change
+  module _ (knit : ℕ) where
+    abbrev after : Halftone
+    after = placeDot (kernelOf knit) r s (row, column)
 
-  pub descent-asked : DescentAsked p r 0 0 0 0
-  descent-asked =
-      record {
-        most = h .small;
-        level = omega arith;
-        row = omega arith;
-        column = omega arith;
-        whole = needed-long;
-        small = record { small = p-small };
-        place = omega (arith, start-thrice 0, interleaved-lt 0 0 0);
-      }
+    sound' : Sound r after
+    sound' =
+        after-sound (kernelOf knit) (knit-fit knit) r big s (h .sheet .sized) (h .sheet .sound) row column
+        (h .above) (h .left) (h .due)
+
+    away : (x y : ℕ) → x < 2 ^ r → y < 2 ^ r → isNear row column x y ≡ false
+        → entry (after .pyramid) r x y ≡ entry rows r x y
+    away =
+        after-away (kernelOf knit) (knit-fit knit) r big s (h .sheet .sized) (h .sheet .sound) row column
+        (h .above) (h .left) (h .due)
+
+    dots' : after .dots ≡ suc dots
+    unfolding placeDot
+    dots' = refl
 
   -- where the cells begin
   module _ (off : ℕ) (eo : off ≡ start r) where
@@ -88,165 +100,180 @@ module _ (r : ℕ) (p : List ℤ) (ss o : List ℕ) (dots : ℕ)
     pub off-bytes : Fits w64 (off * 8)
     off-bytes = record { fits = omega (arith, start-mono r 8 (h .small), start-eight) }
 
-  -- the cell that the walk reaches
-  module _ (last : Bool) (el : last ≡ eqb (dots % 2) 1) (row column : ℕ)
-      (ec : (row, column) ≡ descend (ofEquals last) rows (r - 0) 0 0 0) where
-    -- no knit leads the walk elsewhere: here 0 stands for them all
-    at-target : (row, column) ≡ target (kernelOf 0) r s
-    unfolding choiceOf
-    at-target = rw (sub-zero r, el ∙ in-turn dots) at ec
+    abbrev lent : List ℤ
+    lent = take (length p - off) (drop off p)
 
-    pub row-lt : row < 2 ^ r
-    row-lt =
-        rw (ap (λ (c : ℕ × ℕ). c .0) at-target) (row-in (kernelOf 0) (knit-fit 0) r big s (h .sheet) (h .due))
+    lent-is : lent ≡ drop (start r) p
+    lent-is = tail-lent off p ∙ ap (λ (n : ℕ). drop n p) eo
 
-    pub column-lt : column < 2 ^ r
-    column-lt =
-        rw (ap (λ (c : ℕ × ℕ). c .1) at-target) (column-in (kernelOf 0) (knit-fit 0) r big s (h .sheet) (h .due))
+    lent-long : length lent ≡ cellCount r
+    lent-long = ap length lent-is ∙ cells-long
 
-    next-is : (knit : ℕ) → step (kernelOf knit) r s ≡ placeDot (kernelOf knit) r s (row, column)
-    next-is knit =
-        step-made (kernelOf knit) r s (true-T _ (h .due .le)) ∙ ap (placeDot (kernelOf knit) r s) (sym at-target)
+    -- row after row these are the sheet's cells
+    lent-rows : rowsLevel r lent ≡ drop (start r) rows
+    lent-rows = ap (rowsLevel r) lent-is ∙ sym (rows-cells r p)
 
-    sheet' : (knit : ℕ) → Sheet r (placeDot (kernelOf knit) r s (row, column))
-    sheet' knit = rw at-target (next-sheet (kernelOf knit) (knit-fit knit) r big s (h .sheet) (h .due))
+    lent-small : (i : ℕ) → Within mostResidual (getD (rowsLevel r lent) i (pos 0))
+    lent-small =
+        rows-small r mostResidual (rowsLevel r lent) (length-rows-level r lent)
+        (λ x y a b. rw (lent-rows, entry-drop rows r x y) (sound-small r s (h .sheet .sound) x y a b))
 
-    module _ (off : ℕ) (eo : off ≡ start r) where
-      abbrev lent : List ℤ
-      lent = take (length p - off) (drop off p)
+    pub place-asked : (at : ℕ) → at ≡ start r + interleaved r row column → PlaceAsked lent r (at - off) row column
+    place-asked at ea =
+        record {
+          cell = record { least = h .power; most = h .small; above = h .above; left = h .left };
+          whole = lent-long;
+          small = λ i. within-mono mostResidual (2 ^ 40) _ (omega arith) (lent-small i);
+          owed =
+              rw (lent-rows, entry-drop rows r row column)
+              (h .sheet .sound .at-most row column (h .above) (h .left));
+          place = omega (arith, ea, eo);
+        }
 
-      lent-is : lent ≡ drop (start r) p
-      lent-is = tail-lent off p ∙ ap (λ (n : ℕ). drop n p) eo
+    -- the cells come back as e, as many as before
+    module _ (e : List ℤ) (kept : length e ≡ length lent) where
+      abbrev back : List ℤ
+      back = take off p ++ (e ++ drop (length p - off) (drop off p))
 
-      lent-long : length lent ≡ cellCount r
-      lent-long = ap length lent-is ∙ cells-long
+      e-long : length e ≡ cellCount r
+      e-long = kept ∙ lent-long
 
-      -- row after row these are the sheet's cells
-      lent-rows : rowsLevel r lent ≡ drop (start r) rows
-      lent-rows = ap (rowsLevel r) lent-is ∙ sym (rows-cells r p)
+      back-is : back ≡ take off p ++ e
+      back-is = tail-back off p e
 
-      lent-small : (i : ℕ) → Within mostResidual (getD (rowsLevel r lent) i (pos 0))
-      lent-small =
-          rows-small r mostResidual (rowsLevel r lent) (length-rows-level r lent)
-          (λ x y a b. rw (lent-rows, entry-drop rows r x y) (sound-small r s (h .sheet .sound) x y a b))
+      head-long : length (take off p) ≡ start r
+      head-long = length-take-le off p off-in ∙ eo
 
-      pub place-asked : (at : ℕ) → at ≡ start r + interleaved r row column
-          → PlaceAsked lent r (at - off) row column
-      place-asked at ea =
-          record {
-            cell = record { least = h .power; most = h .small; above = row-lt; left = column-lt };
-            whole = lent-long;
-            small = λ i. within-mono mostResidual (2 ^ 40) _ (omega arith) (lent-small i);
-            owed =
-                rw (lent-rows, entry-drop rows r row column)
-                (h .sheet .sound .at-most row column row-lt column-lt);
-            place = omega (arith, ea, eo);
-          }
+      pub back-whole : Whole back r
+      back-whole =
+          rw back-is
+          (record {
+            most = h .small;
+            long =
+                omega (arith, length-append (take off p) e, head-long, e-long, start-suc r, ap start (add-one r));
+          })
 
-      -- the cells come back as e, as many as before
-      module _ (e : List ℤ) (kept : length e ≡ length lent) where
-        abbrev back : List ℤ
-        back = take off p ++ (e ++ drop (length p - off) (drop off p))
+      back-rows : rowsFrom r back ≡ take (start r) rows ++ rowsLevel r e
+      back-rows =
+          ap (rowsFrom r) (back-is ∙ ap (λ (n : ℕ). take n p ++ e) eo) ∙ rows-replaced r p e (omega (arith, long))
 
-        e-long : length e ≡ cellCount r
-        e-long = kept ∙ lent-long
+      -- with a dot placed, on cloth of a knit
+      module _ (knit : ℕ)
+          (q : rowsLevel r e
+          ≡ diffuse (kernelOf knit) r row column (missing (inLevel r (rowsLevel r lent) row column)) 9
+          (set (rowsLevel r lent) (placeIn r row column) (pos 0))) where
+        over-e : after knit .pyramid ≡ pyramidOver r (rowsLevel r e)
+        unfolding placeDot
+        over-e = rw (q, lent-rows)
 
-        back-is : back ≡ take off p ++ e
-        back-is = tail-back off p e
+        e-small : (i : ℕ) → Within mostResidual (getD e i (pos 0))
+        e-small =
+            places-small r mostResidual e e-long
+            (λ x y a b.
+            rw (over-e, pyramid-cells r (rowsLevel r e) x y, rows-in r e x y a b) at
+            (sound-small r (after knit) (sound' knit) x y a b))
 
-        head-long : length (take off p) ≡ start r
-        head-long = length-take-le off p (off-in off eo) ∙ eo
-
-        pub back-whole : Whole back r
-        back-whole =
+        pub back-small : SmallPyramid back
+        back-small =
             rw back-is
             (record {
-              most = h .small;
-              long =
-                  omega (arith, length-append (take off p) e, head-long, e-long, start-suc r, ap start (add-one r));
+              small =
+                  append-within (2 ^ 40) (take off p) e
+                  (take-within (2 ^ 40) off p (pyramid-small r p s (h .small) (h .sheet) refl needed-long .small))
+                  (λ i. within-mono mostResidual (2 ^ 40) _ (omega arith) (e-small i));
             })
 
-        back-rows : rowsFrom r back ≡ take (start r) rows ++ rowsLevel r e
-        back-rows =
-            ap (rowsFrom r) (back-is ∙ ap (λ (n : ℕ). take n p ++ e) eo)
-            ∙ rows-replaced r p e (omega (arith, long))
+        changed : Changed r (isNear row column) rows (rowsLevel r e)
+        changed =
+            record {
+              long = h .sheet .sized .pyramid;
+              full = length-rows-level r e;
+              summed = sound-summed (h .sheet .sound);
+              away =
+                  λ x y i j f. sym (sym (pyramid-cells r (rowsLevel r e) x y) ∙ rw (← over-e) (away knit x y i j f));
+            }
 
-        -- with a dot placed, on cloth of a knit
-        module _ (knit : ℕ)
-            (q : rowsLevel r e
-            ≡ diffuse (kernelOf knit) r row column (missing (inLevel r (rowsLevel r lent) row column)) 9
-            (set (rowsLevel r lent) (placeIn r row column) (pos 0))) where
-          over-e : placeDot (kernelOf knit) r s (row, column) .pyramid ≡ pyramidOver r (rowsLevel r e)
-          unfolding placeDot
-          over-e = rw (q, lent-rows)
+        renewed-is : renewed r (isNear row column) (rowsFrom r back) ≡ pyramidOver r (rowsLevel r e)
+        renewed-is =
+            ap (renewed r (isNear row column)) back-rows
+            ∙ renewed-right r (isNear row column) rows (rowsLevel r e) changed
 
-          e-small : (i : ℕ) → Within mostResidual (getD e i (pos 0))
-          e-small =
-              places-small r mostResidual e e-long
-              (λ x y a b.
-              rw (over-e, pyramid-cells r (rowsLevel r e) x y, rows-in r e x y a b) at
-              (sound-small r (placeDot (kernelOf knit) r s (row, column)) (sheet' knit .sound) x y a b))
+        pub placed : {z : List ℤ} {s′ o′ : List ℕ} (side : ℕ) → side ≡ 2 ^ r
+            → z ≡ renewed r (isNear row column) (rowsFrom r back)
+            → s′ ≡ set ss (row * side + column) (dots + 1) → o′ ≡ set o dots (row * side + column)
+            → record { pyramid = z; serials = s′; order = o′; dots = dots + 1 } ≡ after knit
+        unfolding placeDot
+        placed side es ez e₁ e₂ = rw (ez, renewed-is, e₁, e₂, es, q, lent-rows, add-one dots)
 
-          pub back-small : SmallPyramid back
-          back-small =
-              rw back-is
-              (record {
-                small =
-                    append-within (2 ^ 40) (take off p) e (take-within (2 ^ 40) off p p-small)
-                    (λ i. within-mono mostResidual (2 ^ 40) _ (omega arith) (e-small i));
-              })
+  -- the number of the cell
+  module _ (side : ℕ) (es : side ≡ 2 ^ r) where
+    cell-in : row * side + column < 65536
+    cell-in = rw es (omega (arith, cell-lt (2 ^ r) row column (h .above) (h .left), cells-few r (h .small)))
 
-          -- only the cell and its neighbours have changed
-          stays : (x y : ℕ) → x < 2 ^ r → y < 2 ^ r → isNear row column x y ≡ false
-              → inLevel r (rowsLevel r e) x y ≡ entry rows r x y
-          stays x y i j f =
-              sym (pyramid-cells r (rowsLevel r e) x y)
-              ∙ rw (← over-e, at-target)
-              (next-away (kernelOf knit) (knit-fit knit) r big s (h .sheet) (h .due) x y i j
-              (ap (λ (c : ℕ × ℕ). isNear (c .0) (c .1) x y) (sym at-target) ∙ f))
+    pub side-fits : Fits w64 (row * side)
+    side-fits = record { fits = omega (arith, cell-in) }
 
-          changed : Changed r (isNear row column) rows (rowsLevel r e)
-          changed =
-              record {
-                long = h .sheet .sized .pyramid;
-                full = length-rows-level r e;
-                summed = sound-summed (h .sheet .sound);
-                away = λ x y i j f. sym (stays x y i j f);
-              }
+    pub cell-fits : Fits w64 (row * side + column)
+    cell-fits = record { fits = omega (arith, cell-in) }
 
-          renewed-is : renewed r (isNear row column) (rowsFrom r back) ≡ pyramidOver r (rowsLevel r e)
-          renewed-is =
-              ap (renewed r (isNear row column)) back-rows
-              ∙ renewed-right r (isNear row column) rows (rowsLevel r e) changed
+    -- no knit leaves other marks: here 0 stands for them all
+    pub note-asked : NoteAsked (length ss) (length o) (row * side + column) dots
+    note-asked =
+        let room : dots < cellCount r = omega (arith, sound' 0 .few-dots, dots' 0) in
+        record {
+          at-in = rw es (omega (arith, cell-lt (2 ^ r) row column (h .above) (h .left), h .sheet .sized .serials));
+          dots-in = omega (arith, room, h .sheet .sized .order);
+          at-most = cell-in;
+          dots-most = omega (arith, room, cells-few r (h .small));
+        }
 
-          pub placed : {z : List ℤ} {s′ o′ : List ℕ} (side : ℕ) → side ≡ 2 ^ r
-              → z ≡ renewed r (isNear row column) (rowsFrom r back)
-              → s′ ≡ set ss (row * side + column) (dots + 1) → o′ ≡ set o dots (row * side + column)
-              → record { pyramid = z; serials = s′; order = o′; dots = dots + 1 } ≡ step (kernelOf knit) r s
-          unfolding placeDot
-          placed side es ez e₁ e₂ = rw (next-is knit, ez, renewed-is, e₁, e₂, es, q, lent-rows, add-one dots)
+-- ---- the walk to the cell of the next dot
+-- after an odd number of dots the next serial is even
+in-turn : (n : ℕ) → eqb (n % 2) 1 ≡ eqb (suc n % 2) 0
+in-turn n = same-test (eqb (n % 2) 1) (eqb (suc n % 2) 0) (λ t. omega tests) (λ t. omega tests)
 
-    module _ (side : ℕ) (es : side ≡ 2 ^ r) where
-      cell-in : row * side + column < 65536
-      cell-in = rw es (omega (arith, cell-lt (2 ^ r) row column row-lt column-lt, cells-few r (h .small)))
+module _ (r : ℕ) (p : List ℤ) (ss o : List ℕ) (dots : ℕ)
+    (h : DotAsked r (record { pyramid = rowsFrom r p; serials = ss; order = o; dots = dots })) where
+  abbrev t : Halftone
+  t = record { pyramid = rowsFrom r p; serials = ss; order = o; dots = dots }
 
-      pub side-fits : Fits w64 (row * side)
-      side-fits = record { fits = omega (arith, cell-in) }
+  pub descent-asked : length p ≡ needed r → DescentAsked p r 0 0 0 0
+  descent-asked long =
+      record {
+        most = h .small;
+        level = omega arith;
+        row = omega arith;
+        column = omega arith;
+        whole = long;
+        small = pyramid-small r p t (h .small) (h .sheet) refl long;
+        place = omega (arith, start-thrice 0, interleaved-lt 0 0 0);
+      }
 
-      pub cell-fits : Fits w64 (row * side + column)
-      cell-fits = record { fits = omega (arith, cell-in) }
+  large : 2 ≤ 2 ^ r
+  large = pow-mono {i = 1} {j = r} (h .power)
 
-      pub note-asked : NoteAsked (length ss) (length o) (row * side + column) dots
-      note-asked =
-          record {
-            at-in = rw es (omega (arith, cell-lt (2 ^ r) row column row-lt column-lt, h .sheet .sized .serials));
-            dots-in = omega (arith, room, h .sheet .sized .order);
-            at-most = cell-in;
-            dots-most = omega (arith, room, cells-few r (h .small));
-          }
-        where
-          room : dots < cellCount r
-          room = omega (arith, sheet' 0 .sound .few-dots, dots-next)
-            where
-              dots-next : placeDot (kernelOf 0) r s (row, column) .dots ≡ suc dots
-              dots-next = unfold placeDot in refl
+  -- the cell that it reaches, whatever the knit
+  module _ (last : Bool) (el : last ≡ eqb (dots % 2) 1) (row column : ℕ)
+      (ec : (row, column) ≡ descend (ofEquals last) (rowsFrom r p) (r - 0) 0 0 0) where
+    at-target : (knit : ℕ) → (row, column) ≡ target (kernelOf knit) r t
+    unfolding choiceOf
+    at-target knit = rw (sub-zero r, el ∙ in-turn dots) at ec
+
+    pub reached-asked : PlaceAtAsked r t row column
+    reached-asked =
+        let row-is = ap (λ (c : ℕ × ℕ). c .0) (at-target 0) in
+        let column-is = ap (λ (c : ℕ × ℕ). c .1) (at-target 0) in
+        record {
+          power = h .power;
+          small = h .small;
+          sheet = h .sheet;
+          above = rw row-is (row-in (kernelOf 0) (knit-fit 0) r large t (h .sheet) (h .due));
+          left = rw column-is (column-in (kernelOf 0) (knit-fit 0) r large t (h .sheet) (h .due));
+          due = rw (row-is, column-is) (owes (kernelOf 0) (knit-fit 0) r large t (h .sheet) (h .due));
+        }
+
+    pub reached-step : (knit : ℕ) {after : Halftone} → after ≡ placeDot (kernelOf knit) r t (row, column)
+        → after ≡ step (kernelOf knit) r t
+    reached-step knit e =
+        e ∙ ap (placeDot (kernelOf knit) r t) (at-target knit)
+        ∙ sym (step-made (kernelOf knit) r t (true-T _ (h .due .le)))

@@ -3,20 +3,70 @@
 ghost use mathlib.Core.Path.{_≡_};
 ghost use Prim.Native.Nat.{_+_};
 ghost use lib.ListN.{length, set};
-ghost use Rattle.definition.specs.Pyramid.{needed};
-ghost use Rattle.definition.specs.Quarters.{rowsFrom};
+ghost use Rattle.definition.specs.Pyramid.{start, needed};
+ghost use Rattle.definition.specs.Quarters.{interleaved, rowsFrom};
 ghost use Rattle.definition.specs.Diffusion.{kernelOf};
-ghost use Rattle.definition.specs.Model.{step};
+ghost use Rattle.definition.specs.Model.{placeDot, step};
 ghost use Rattle.places.specs.Table.{places};
-ghost use Rattle.dot.specs.Asked.{NoteAsked, DotAsked};
+ghost use Rattle.dot.specs.Asked.{NoteAsked, PlaceAtAsked, DotAsked};
 
 // Notes the next dot, at the cell with the number `at`, in serial sheet and order list.
 fn note(serials: &mut [u32], order: &mut [u32], at: usize, dots: u32)
     requires { ⌜ NoteAsked (length (now serials)) (length (now order)) at dots ⌝ }
-    ensures { λ _. ⌜ (now (serials .exit) ≡ set (now (serials .entry)) at (dots + 1)) × (now (order .exit) ≡ set (now (order .entry)) dots at) ⌝ }
+    ensures { λ _. ⌜
+        (now (serials .exit) ≡ set (now (serials .entry)) at (dots + 1))
+        × (now (order .exit) ≡ set (now (order .entry)) dots at)
+        ⌝ }
 {
     serials[at] = dots + 1;
     order[dots as usize] = at as u32;
+}
+
+// Makes the next dot on cloth of a knit at a cell that owes something, on a sound sheet of just the needed lengths. The
+// table has the places, and the cell's own is that in the whole pyramid.
+pub fn place_at(
+    pyramid: &mut [i64],
+    serials: &mut [u32],
+    order: &mut [u32],
+    table: &[u16; 1024],
+    knit: u32,
+    r: usize,
+    cell: descent::Cell,
+    dots: u32,
+)
+    requires { ⌜
+        PlaceAtAsked r
+        (record { pyramid = rowsFrom r (now pyramid); serials = now serials; order = now order; dots = dots })
+        (cell .row) (cell .column)
+        ⌝ }
+    requires { ⌜ length (now pyramid) ≡ needed r ⌝ }
+    requires { ⌜ now table ≡ places ⌝ }
+    requires { ⌜ cell .at ≡ start r + interleaved r (cell .row) (cell .column) ⌝ }
+    ensures { λ _. ⌜
+        record {
+          pyramid = rowsFrom r (now (pyramid .exit));
+          serials = now (serials .exit);
+          order = now (order .exit);
+          dots = dots + 1;
+        }
+        ≡ placeDot (kernelOf knit) r
+        (record {
+          pyramid = rowsFrom r (now (pyramid .entry));
+          serials = now (serials .entry);
+          order = now (order .entry);
+          dots = dots;
+        })
+        (cell .row, cell .column)
+        ⌝ }
+{
+    let row = cell.row;
+    let column = cell.column;
+    let cells = sizes::level_start(r);
+    let at = cell.at - cells;
+    diffusion::place(&mut pyramid[cells..], table, knit, r, at, row, column);
+    renewal::renew(pyramid, table, r, row, column);
+    let side = sizes::pow2(r);
+    note(serials, order, row * side + column, dots);
 }
 
 // Makes the next dot on cloth of a knit, on a sound sheet of just the needed lengths where one is due. After an odd
@@ -54,12 +104,5 @@ pub fn place_dot(
 {
     let last = dots % 2 == 1;
     let cell = descent::descend(pyramid, r, 0, 0, 0, 0, last);
-    let row = cell.row;
-    let column = cell.column;
-    let cells = sizes::level_start(r);
-    let at = cell.at - cells;
-    diffusion::place(&mut pyramid[cells..], table, knit, r, at, row, column);
-    renewal::renew(pyramid, table, r, row, column);
-    let side = sizes::pow2(r);
-    note(serials, order, row * side + column, dots);
+    place_at(pyramid, serials, order, table, knit, r, cell, dots);
 }

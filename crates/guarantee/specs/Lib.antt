@@ -10,5 +10,6 @@ pub mod Theorem
 pub mod Clauses
 pub mod Full
 pub mod Sharp
+pub mod Listed
 pub mod Relay
 pub mod Example

@@ -1,41 +1,33 @@
 -- The drill list of the finished sheet: Drill List isn't refused, and prints it.
-use mathlib.Core.Path.{_≡_, sym, ap, _∙_}
-use mathlib.Core.List.{List, [], _∷_, _++_}
+use mathlib.Core.Path.{_≡_, refl, ap, _∙_}
+use mathlib.Core.List.{List}
 use Prim.Native.Nat.{ℕ, _^_, _≤_, _<_}
-use native.Mathlib.Nat.{suc-ne-zero}
 use native.Mathlib.Omega.{arith}
-use borrow.Author.Tests.{ne-eqb, le-ltb}
 use lib.Pow.{pow-mono}
-use lib.ListN.{length, drop, length-append}
-use lib.Seq.{take-at}
+use lib.ListN.{length, drop}
 use lib.IntN.{ℤ}
 use Rattle.definition.specs.Answers.{textSays}
 use Rattle.definition.specs.Pyramid.{needed, cellCount}
 use Rattle.definition.specs.Diffusion.{plain}
 use Rattle.definition.specs.Model.{Halftone}
-use Rattle.definition.specs.Refusals.{powerOf, lowest}
-use Rattle.definition.specs.Sound.{isSound}
-use Rattle.definition.specs.Advance.{sheetIn}
+use Rattle.definition.specs.Refusals.{powerOf}
 use Rattle.definition.specs.Calls.{Held}
 use Rattle.definition.specs.Text.{TextOutcome, textInto}
-use Rattle.definition.specs.DrillList.{drillText, drillListRefusal, drillListOf}
-use Rattle.definition.specs.Quarters.{quartersFrom, asRows}
+use Rattle.definition.specs.DrillList.{drillText}
 use Rattle.definition.specs.ByQuarters.{drillListByQuarters}
 use Rattle.definition.specs.Plate.{finishedOf}
 use Rattle.definition.specs.declared.Progress.{Progress}
 use Rattle.definition.specs.declared.Refusal.{Refusal}
 use Rattle.definition.specs.declared.TextAnswer.{TextAnswer}
 use Rattle.definition.specs.declared.TextAnswer.the-variants.{Length, Refused}
-use Rattle.integers.specs.Tests.{true-T}
-use Rattle.layouts.specs.Relaid.{length-quarters, rows-back}
-use Rattle.layouts.specs.Lent.{rows-part}
+use Rattle.refusals.specs.Powers.{side-pow}
 use Rattle.dots.specs.Steps.{Sheet}
-use Rattle.dots.specs.SoundTest.{sound-test}
 use Rattle.guarantee.specs.Lent.{heldOf}
+use Rattle.guarantee.specs.Listed.{listedOf, lists}
 use Rattle.decimals.specs.Printed.{Printed}
 use Rattle.program_texts.specs.Promised.{text-printed, not-refused-there}
 use Rattle.program_texts.specs.Lengths.{list-length}
-use Rattle.program_texts.specs.Finished.{finishedIn, MapAsked, power-again, finished-sheet}
+use Rattle.program_texts.specs.Finished.{finishedIn, MapAsked, finished-sheet}
 
 -- Drill List, as a call on what the caller holds
 abbrev listedFrom : Held → List ℕ → TextOutcome
@@ -46,47 +38,16 @@ abbrev printedIn : List ℕ → List ℕ → TextOutcome
 printedIn text out = textInto 0 text out
 
 -- ---- Drill List on buffers that begin with a sheet
-module _ (r : ℕ) (some : 0 < r) (power : powerOf (2 ^ r) ≡ r) (t : Halftone) (sheet : Sheet r t) (p : List ℤ) (s o out : List ℕ)
-    (room : length (drillText r t) ≤ length out) where
-  -- the pyramid's buffer, and the same row after row
-  abbrev buffer : List ℤ
-  buffer = quartersFrom r (t .pyramid) ++ p
+printed-is : (r : ℕ) (t : Halftone) (out : List ℕ) → listedOf r t out ≡ printedIn (drillText r t) out
+unfolding textInto
+printed-is r t out = refl
 
-  rows-are : asRows r buffer ≡ t .pyramid ++ p
-  rows-are =
-      rows-part r (quartersFrom r (t .pyramid)) p (length-quarters r (t .pyramid))
-      ∙ ap (λ (l : List ℤ). l ++ p) (rows-back r (t .pyramid) (sheet .sized .pyramid))
-
-  sheet-is : sheetIn r (t .dots) (t .pyramid ++ p) (t .serials ++ s) (t .order ++ o) ≡ t
-  unfolding sheetIn
-  sheet-is =
-      λ i.
-      record {
-        pyramid = take-at (t .pyramid) p (needed r) (sheet .sized .pyramid) i;
-        serials = take-at (t .serials) s (cellCount r) (sheet .sized .serials) i;
-        order = take-at (t .order) o (cellCount r) (sheet .sized .order) i;
-        dots = t .dots;
-      }
-
-  not-refused :
-      drillListRefusal r plain
-      (length (t .pyramid ++ p)) (length (t .serials ++ s)) (length (t .order ++ o))
-      (isSound r t) (length (drillText r t)) (length out)
-      ≡ 0
-  unfolding drillListRefusal lowest
-  not-refused =
-      rw (
-        ne-eqb r 0 (λ e. omega arith),
-        le-ltb (length (t .pyramid ++ p)) (needed r) (omega (arith, length-append (t .pyramid) p, sheet .sized .pyramid)),
-        le-ltb (length (t .serials ++ s)) (cellCount r) (omega (arith, length-append (t .serials) s, sheet .sized .serials)),
-        le-ltb (length (t .order ++ o)) (cellCount r) (omega (arith, length-append (t .order) o, sheet .sized .order)),
-        true-T (isSound r t) (sound-test r t (sheet .sound)),
-        le-ltb (length out) (length (drillText r t)) room,
-      )
-
-  sheet-listed : listedFrom (heldOf plain r t p s o) out ≡ printedIn (drillText r t) out
-  unfolding drillListByQuarters drillListOf
-  sheet-listed = rw (power, rows-are, sheet-is, not-refused)
+sheet-listed : (side : ℕ) → 0 < powerOf side → (t : Halftone) → Sheet (powerOf side) t
+    → (p : List ℤ) (s o out : List ℕ) → length (drillText (powerOf side) t) ≤ length out
+    → listedFrom (heldOf plain (powerOf side) t p s o) out ≡ printedIn (drillText (powerOf side) t) out
+sheet-listed side some t sheet p s o out room =
+    rw (← side-pow side some)
+    (lists side plain (omega arith) some t sheet p s o out room ∙ printed-is (powerOf side) t out)
 
 -- ---- Drill List on the finished sheet
 module _ (side : ℕ) (greys : List ℕ) {a b c : ℕ} (asked : MapAsked side greys a b c) (p : List ℤ) (s o out : List ℕ)
@@ -115,8 +76,8 @@ module _ (side : ℕ) (greys : List ℕ) {a b c : ℕ} (asked : MapAsked side gr
     answered =
         list
         ∙ ap (λ (held : Held). listedFrom held out) e
-        ∙ sheet-listed r (asked .lent .power) (power-again side (asked .lent .power)) sheet last (drop (needed r) p) (drop (cellCount r) s) (drop (cellCount r) o)
-        out list-room
+        ∙ sheet-listed side (asked .lent .power) sheet last (drop (needed r) p) (drop (cellCount r) s)
+        (drop (cellCount r) o) out list-room
 
     pub finished-printed : {n : ℕ} → answer ≡ Length n → Printed (drillText r sheet) out n after
     finished-printed q = text-printed (drillText r sheet) out after answer answered list-room q

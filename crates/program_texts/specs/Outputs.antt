@@ -59,7 +59,7 @@ module _ (input : List ℕ) {before after : List ℕ} {n : ℕ} where
 module _ (input buffer : List ℕ) (whole : length buffer ≡ 1024) {greys : List ℕ} {a : MapTextAnswer}
     (promise : record { said = mapTextSays a; greys = greys } ≡ mapTextOf input buffer) where
   -- a refusal is the reader's
-  refused-rejected : {why : Refusal} → a ≡ Refused why → readLow input (length buffer) ≡ rejected (numberOf why)
+  pub refused-rejected : {why : Refusal} → a ≡ Refused why → readLow input (length buffer) ≡ rejected (numberOf why)
   unfolding mapTextOf mapTextSays
   refused-rejected {why} e =
       let told : refused (numberOf why) ≡ mapTextOf input buffer .said = ap mapTextSays (sym e) ∙ ap (λ (o : GreysOutcome). o .said) promise in
@@ -70,7 +70,7 @@ module _ (input buffer : List ℕ) (whole : length buffer ≡ 1024) {greys : Lis
       ]) refl
 
   module _ {side : ℕ} (e : a ≡ Side side) where
-    found : (values : List ℕ) × LowMapOf input (length buffer) side values
+    pub found : (values : List ℕ) × LowMapOf input (length buffer) side values
     found = accepts-iff input buffer greys a promise side .0 e
 
     abbrev values : List ℕ
@@ -79,10 +79,10 @@ module _ (input buffer : List ℕ) (whole : length buffer ≡ 1024) {greys : Lis
     few : cellCount (powerOf side) ≤ 1024
     few = omega (arith, cellCount-side side (found .1 .map .one-of-eight), found .1 .map .fits)
 
-    count : length values ≡ cellCount (powerOf side)
+    pub count : length values ≡ cellCount (powerOf side)
     count = found .1 .map .count ∙ sym (cellCount-side side (found .1 .map .one-of-eight))
 
-    greys-are : greys ≡ values ++ drop (side * side) buffer
+    pub greys-are : greys ≡ values ++ drop (side * side) buffer
     greys-are = leaves-greys input buffer greys a promise side values (found .1)
 
     pub side-asked : MapAsked side greys 1365 1024 1024
@@ -107,7 +107,7 @@ module _ (input buffer : List ℕ) (whole : length buffer ≡ 1024) {greys : Lis
     finished-same =
         ap (finishedOf plain (powerOf side)) greys-are ∙ finished-front side values (drop (side * side) buffer) count
 
-    read-is : readLow input 1024 ≡ accepted side values
+    pub read-is : readLow input 1024 ≡ accepted side values
     read-is = rw whole at (read-low-iff input (length buffer) side values .1 (found .1))
 
     -- the page of the greys in their buffer is that of the map

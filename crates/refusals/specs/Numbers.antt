@@ -17,6 +17,7 @@ use Rattle.definition.specs.declared.Refusal.the-variants.{
   KnitUnknown,
   GreyHigh,
   PairFalls,
+  SideSmall,
 }
 
 pub number-positive : (why : Refusal) → numberOf why ≡ suc (numberOf why - 1)
@@ -34,3 +35,4 @@ number-positive NameUnknown = refl
 number-positive KnitUnknown = refl
 number-positive GreyHigh = refl
 number-positive PairFalls = refl
+number-positive SideSmall = refl

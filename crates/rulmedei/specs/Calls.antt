@@ -19,6 +19,7 @@ use Rattle.definition.specs.Answers.{
   sketchSays,
   shelfSays,
   relaySays,
+  twoHeadsSays,
 }
 use Rattle.definition.specs.Checkpoints.{keepOf}
 use Rattle.definition.specs.ByQuarters.{loadByQuarters, advanceByQuarters, restoreByQuarters, RelayOutcome}
@@ -27,6 +28,7 @@ use Rattle.definition.specs.Text.{TextOutcome}
 use Rattle.definition.specs.LowerText.{LowerTextOutcome}
 use Rattle.definition.specs.SketchQuote.{SketchOutcome}
 use Rattle.definition.specs.Shelf.{ShelfOutcome}
+use Rattle.heads.specs.TwoHeads.{twoHeadsByQuarters}
 use Rattle.definition.specs.declared.LoadAnswer.{LoadAnswer}
 use Rattle.definition.specs.declared.LoadStatus.{LoadStatus}
 use Rattle.definition.specs.declared.AdvanceAnswer.{AdvanceAnswer}
@@ -41,6 +43,8 @@ use Rattle.definition.specs.declared.SketchAnswer.{SketchAnswer}
 use Rattle.definition.specs.declared.CompareAnswer.{CompareAnswer}
 use Rattle.definition.specs.declared.ShelfAnswer.{ShelfAnswer}
 use Rattle.definition.specs.declared.RelayAnswer.{RelayAnswer}
+use Rattle.definition.specs.declared.TwoHeadsAnswer.{TwoHeadsAnswer}
+use Rattle.definition.specs.declared.TwoHeadsStatus.{TwoHeadsStatus}
 use Rattle.rulmedei.specs.Codes.{
   codeOf,
   valueOf,
@@ -60,6 +64,7 @@ use Rattle.rulmedei.specs.Codes.{
   shelfCode,
   relayCode,
   renewCode,
+  twoHeadsCode,
 }
 
 -- ---- the calls that answer a record with a status
@@ -176,6 +181,35 @@ pub sketch-coded : {o : SketchOutcome} {low high cap : List ℕ} (a : SketchAnsw
     → record { code = n; side = v; least = l; greatest = g; lows = low; highs = high; caps = cap } ≡ sketchCode o
 unfolding sketchCode
 sketch-coded a h is n v l g = rw (← h, is, n, v, l, g)
+
+pub two-heads-coded : (side knit : ℕ) (g : List ℕ) (p : List ℤ) (s o : List ℕ) (a : TwoHeadsAnswer)
+    {p′ : List ℤ} {s′ o′ : List ℕ}
+    → record {
+      progress = a .progress;
+      holes = a .holes;
+      debt = a .debt;
+      said = twoHeadsSays (a .status);
+      pyramid = p′;
+      serials = s′;
+      order = o′;
+    }
+    ≡ twoHeadsByQuarters side knit g p s o
+    → {t : TwoHeadsStatus} → a .status ≡ t → {n : ℕ} → n ≡ codeOf (twoHeadsSays t)
+    → {z : ℤ} → z ≡ a .debt
+    → record {
+      code = n;
+      side = a .progress .side;
+      dots = a .progress .dots;
+      knit = a .progress .knit;
+      holes = a .holes;
+      debt = z;
+      pyramid = p′;
+      serials = s′;
+      order = o′;
+    }
+    ≡ twoHeadsCode side knit g p s o
+unfolding twoHeadsCode
+two-heads-coded side knit g p s o a h is n z = rw (z, ← h, is, n)
 
 -- ---- the comparison and the shelf
 pub compare-coded : {o : Said} (a : CompareAnswer) → compareSays a ≡ o → {t : CompareAnswer} → a ≡ t

@@ -27,6 +27,7 @@ use Rattle.definition.specs.Text.{TextOutcome}
 use Rattle.definition.specs.LowerText.{LowerTextOutcome}
 use Rattle.definition.specs.SketchQuote.{SketchOutcome}
 use Rattle.definition.specs.Shelf.{ShelfOutcome}
+use Rattle.heads.specs.TwoHeads.{twoHeadsByQuarters}
 
 -- 102 to 106 for what a comparison says
 unfoldable pub comparedCode : Compared → ℕ
@@ -199,6 +200,33 @@ sketchCode o =
       lows = o .lows;
       highs = o .highs;
       caps = o .caps;
+    }
+
+-- Two Heads: the record, the holes and the debt
+pub record TwoHeadsCode : Type 0 where
+  pub code : ℕ
+  pub side : ℕ
+  pub dots : ℕ
+  pub knit : ℕ
+  pub holes : ℕ
+  pub debt : ℤ
+  pub pyramid : List ℤ
+  pub serials : List ℕ
+  pub order : List ℕ
+
+unfoldable pub twoHeadsCode : ℕ → ℕ → List ℕ → List ℤ → List ℕ → List ℕ → TwoHeadsCode
+twoHeadsCode side knit greys pyramid serials order =
+    let o = twoHeadsByQuarters side knit greys pyramid serials order in
+    record {
+      code = codeOf (o .said);
+      side = o .progress .side;
+      dots = o .progress .dots;
+      knit = o .progress .knit;
+      holes = o .holes;
+      debt = o .debt;
+      pyramid = o .pyramid;
+      serials = o .serials;
+      order = o .order;
     }
 
 -- the row and the column of the cell that a comparison names; 0 and 0 where it names none

@@ -16,6 +16,7 @@ use definition::ShelfAnswer;
 use definition::SketchAnswer;
 use definition::TallyAnswer;
 use definition::TextAnswer;
+use definition::TwoHeadsStatus;
 ghost use mathlib.Core.Path.{_≡_};
 ghost use lib.ListN.{set};
 ghost use lib.Seq.{sets};
@@ -30,7 +31,7 @@ ghost use Rattle.definition.specs.Sample.{sampleOf};
 ghost use Rattle.definition.specs.Shelf.{compareOf, shelfOf};
 ghost use Rattle.rulmedei.specs.Codes.{codeOf, valueOf, loadCode, advanceCode, tallyCode, levelsCode};
 ghost use Rattle.rulmedei.specs.Codes.{keepCode, restoreCode};
-ghost use Rattle.rulmedei.specs.Codes.{lowerTextCode, sketchCode};
+ghost use Rattle.rulmedei.specs.Codes.{lowerTextCode, sketchCode, twoHeadsCode};
 ghost use Rattle.rulmedei.specs.Codes.{greysCode, textCode, compareCode, shelfCode, relayCode, renewCode};
 
 // Load. The record is written to `progress_side`, `progress_dots` and `progress_knit`.
@@ -379,6 +380,53 @@ pub extern "C" fn rulmedei_sketch_quote(
             0
         }
         SketchAnswer::Refused(why) => checks::number_of(why),
+    }
+}
+
+// Two Heads. The record is written to `progress_side`, `progress_dots` and `progress_knit`, the holes to `holes` and
+// the debt that is left to `debt`, all 0 where it refuses.
+#[no_mangle]
+pub extern "C" fn rulmedei_two_heads(
+    side: u32,
+    knit: u32,
+    greys: &[u8],
+    pyramid: &mut [i64],
+    serials: &mut [u32],
+    order: &mut [u32],
+    progress_side: &mut u32,
+    progress_dots: &mut u32,
+    progress_knit: &mut u32,
+    holes: &mut u32,
+    debt: &mut i64,
+) -> u32
+    ensures { λ n. ⌜
+        record {
+          code = n;
+          side = now («progress_side» .exit);
+          dots = now («progress_dots» .exit);
+          knit = now («progress_knit» .exit);
+          holes = now (holes .exit);
+          debt = now (debt .exit);
+          pyramid = now (pyramid .exit);
+          serials = now (serials .exit);
+          order = now (order .exit);
+        }
+        ≡ twoHeadsCode side knit
+        (now (greys .entry)) (now (pyramid .entry)) (now (serials .entry)) (now (order .entry))
+        ⌝ }
+{
+    let answer = laser::two_heads(side, knit, greys, pyramid, serials, order);
+    let after = answer.progress;
+    *progress_side = after.side;
+    *progress_dots = after.dots;
+    *progress_knit = after.knit;
+    *holes = answer.holes;
+    let left = answer.debt;
+    *debt = left;
+    let status = answer.status;
+    match status {
+        TwoHeadsStatus::Stopped => 0,
+        TwoHeadsStatus::Refused(why) => checks::number_of(why),
     }
 }
 

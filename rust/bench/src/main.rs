@@ -2,8 +2,10 @@
 //! the team's own Rust in the same layout, and by the team's own Rust row after row, on plain cloth and then on ribbed.
 //! Runs alternate, every buffer is cleared before each, the median of nine is taken. Printed for each knit: the times,
 //! the library's ratio to either, and the time of the test for a sound sheet alone (an Advance of budget 0 on the
-//! loaded sheet).
+//! loaded sheet). At last, for this map and for a flat one, a line with the time of two heads beside that of one
+//! (`heads`).
 
+mod heads;
 mod quarters;
 mod rows;
 
@@ -43,6 +45,8 @@ fn main() {
     let greys = sampled();
     measure(PLAIN, "plain", &greys);
     measure(RIBBED, "ribbed", &greys);
+    heads::measure("seed 1", &greys);
+    heads::measure("all greys 240", &vec![240; greys.len()]);
 }
 
 fn measure(knit: u32, name: &str, greys: &[u8]) {
@@ -116,7 +120,10 @@ fn same_holes(a: &Run, b: &Run) -> bool {
 }
 
 fn median(runs: &[Run], of: impl Fn(&Run) -> f64) -> f64 {
-    let mut times: Vec<f64> = runs.iter().map(of).collect();
+    median_of(runs.iter().map(of).collect())
+}
+
+fn median_of(mut times: Vec<f64>) -> f64 {
     times.sort_by(f64::total_cmp);
     times[times.len() / 2]
 }

@@ -1,10 +1,11 @@
 //! The cases, by kind: every call answered, and every call refused, both on either knit; loads; runs of calls with lent
 //! parts and damage between them; runs with names; sheets that no Load made; noise; the renewal by itself on wrong
 //! pyramids; samples one after another, and lowered; plates compared, and shelves of plates; older sheets; texts, and
-//! texts of two sides, read and lowered; sketches, and texts that are nearly such.
+//! texts of two sides, read and lowered; sketches, and texts that are nearly such; maps for two heads.
 
 use reference::SIDES;
 
+use crate::heads::{heads_case, heads_side};
 use crate::older::older_case;
 use crate::random::Random;
 use crate::renewals::renewal_case;
@@ -21,7 +22,7 @@ use crate::tours::{refusals_case, ribbed_refusals_case, ribbed_tour_case, tour_c
 type Case = fn(&mut Random, &mut SideBySide, u32) -> Result<(), Differs>;
 
 /// The kinds of case, each made at every side by the sweep.
-const KINDS: [Case; 18] = [
+const KINDS: [Case; 19] = [
     tour_case,
     ribbed_tour_case,
     refusals_case,
@@ -40,6 +41,7 @@ const KINDS: [Case; 18] = [
     mixed_text_case,
     sketch_case,
     mixed_sketch_case,
+    heads_case,
 ];
 
 /// How often the sweep goes over all kinds and sides.
@@ -60,7 +62,7 @@ fn random_case(random: &mut Random, calls: &mut SideBySide) -> Result<(), Differ
     let (any, good) = (random.side(), random.good_side());
     let large = random.pick(&[32, 64, 128, 256]);
     let (quick, quick_good) = if random.once_in(200) { (large, large) } else { (any, good) };
-    match random.below(37) {
+    match random.below(38) {
         0..=3 => load_case(random, calls, any),
         4..=9 => run_case(random, calls, good),
         10 | 11 => made_up_case(random, calls, good),
@@ -74,6 +76,10 @@ fn random_case(random: &mut Random, calls: &mut SideBySide) -> Result<(), Differ
         30 | 31 => older_case(random, calls, any),
         32..=34 => sketch_case(random, calls, quick_good),
         35 => mixed_sketch_case(random, calls, quick_good),
+        36 => {
+            let side = heads_side(random);
+            heads_case(random, calls, side)
+        }
         _ => mixed_text_case(random, calls, quick_good),
     }
 }

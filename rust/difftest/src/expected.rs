@@ -45,6 +45,19 @@ pub fn advance(
     Outcome { code, values: [record(answer.progress), vec![answer.made.into()]].concat() }
 }
 
+pub fn two_heads(
+    side: u32,
+    knit: u32,
+    greys: &[u8],
+    pyramid: &mut [i64],
+    serials: &mut [u32],
+    order: &mut [u32],
+) -> Outcome {
+    let answer = reference::two_heads(side, knit, greys, pyramid, serials, order);
+    let values = [record(answer.progress), vec![answer.holes.into(), answer.debt as u64]].concat();
+    Outcome { code: code_of(answer.status), values }
+}
+
 pub fn tally(side: u32, serials: &[u32], [level, row, column]: [u32; 3]) -> Outcome {
     let answer = reference::tally(side, serials, level, row, column);
     Outcome { code: code_of(answer), values: vec![answer.unwrap_or(0).into()] }

@@ -11,7 +11,7 @@ pub struct Outcome {
 }
 
 impl Outcome {
-    /// The record, of Load, Advance and Restore.
+    /// The record, of Load, Advance, Two Heads and Restore.
     pub fn progress(&self) -> Progress {
         let [side, dots, knit] = [0, 1, 2].map(|place| self.values[place] as u32);
         Progress { side, dots, knit }
@@ -40,6 +40,19 @@ pub fn advance(
 ) -> Outcome {
     let (code, after, made) = codes::advance(ours(progress), budget, pyramid, serials, order);
     Outcome { code, values: [numbers(after), vec![made.into()]].concat() }
+}
+
+/// The holes and the debt stand behind the record.
+pub fn two_heads(
+    side: u32,
+    knit: u32,
+    greys: &[u8],
+    pyramid: &mut [i64],
+    serials: &mut [u32],
+    order: &mut [u32],
+) -> Outcome {
+    let (code, end) = codes::two_heads(side, knit, greys, pyramid, serials, order);
+    Outcome { code, values: [numbers(end.progress), vec![end.holes.into(), end.debt as u64]].concat() }
 }
 
 pub fn tally(side: u32, serials: &[u32], [level, row, column]: [u32; 3]) -> Outcome {

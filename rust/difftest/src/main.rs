@@ -1,10 +1,13 @@
 //! The library and the reference side by side: `difftest CASES SEED` on so many cases, of which the first thousand make
-//! every call at every side, and `difftest vectors` on the maps of `vectors/runs.csv` and `vectors/ribbed.csv`.
+//! every call at every side, and `difftest vectors` on the maps of `vectors/runs.csv`, `vectors/ribbed.csv` and
+//! `vectors/two-heads.csv`.
 
 mod cases;
 mod coverage;
 mod expected;
 mod grey_kinds;
+mod heads;
+mod heads_kinds;
 mod knit_kinds;
 mod library;
 mod older;
@@ -23,6 +26,7 @@ mod stages;
 mod texts;
 mod tours;
 mod vectors;
+mod wrong_heads;
 
 use std::process::ExitCode;
 
@@ -31,7 +35,7 @@ use random::Random;
 use side_by_side::SideBySide;
 
 /// Within so many cases every call has returned each of its codes at every side, those that look at the knit on ribbed
-/// cloth too, and there was every kind of comparison, shelf, Keep, Restore, knit, greys and sketch.
+/// cloth too, and there was every kind of comparison, shelf, Keep, Restore, knit, greys, sketch and Two Heads.
 const COVERED: u64 = 1000;
 
 fn main() -> ExitCode {
@@ -62,8 +66,9 @@ fn usage() -> String {
 }
 
 fn compare_vectors() -> Result<String, String> {
-    let [plain, ribbed] = vectors::compare()?;
-    Ok(format!("vectors: the library gives the same {plain} lines of runs.csv and {ribbed} of ribbed.csv"))
+    let [plain, ribbed, heads] = vectors::compare()?;
+    let counts = format!("{plain} lines of runs.csv, {ribbed} of ribbed.csv and {heads} of two-heads.csv");
+    Ok(format!("vectors: the library gives the same {counts}"))
 }
 
 /// Compares the cases and prints the calls by name and code. Returns the last line.
@@ -88,11 +93,12 @@ fn compare_cases(cases: u64, seed: u64) -> Result<String, String> {
         println!("{call},{code},{count}");
     }
     let [codes, kinds] = [codes, kinds].map(|covered| covered.unwrap_or(cases));
-    println!("each of the fifteen calls, the renewal by itself and the lowering of greys was answered, and gave each");
+    println!("each of the sixteen calls, the renewal by itself and the lowering of greys was answered, and gave each");
+    println!("refusal, at each side that has it, those that look at the knit on plain cloth and on ribbed, within");
     println!(
-        "refusal, at all eight sides within {codes} cases, those that look at the knit on plain cloth and on ribbed"
+        "{codes} cases; every kind of comparison, shelf, Keep, Restore, knit, greys, sketch and Two Heads was met, and"
     );
-    println!("every kind of comparison, shelf, Keep, Restore, knit, greys and sketch was met within {kinds} cases");
+    println!("every wrong rule for two heads told from the right one, within {kinds} cases");
     Ok(format!("{} calls compared in {cases} cases of seed {seed}, no difference", calls.total()))
 }
 

@@ -9,6 +9,7 @@ use reference::{Checkpoints, Progress, RIBBED};
 use crate::coverage::Coverage;
 use crate::expected;
 use crate::grey_kinds;
+use crate::heads_kinds;
 use crate::knit_kinds;
 use crate::library::{self, Outcome};
 use crate::plate_kinds;
@@ -120,6 +121,40 @@ impl SideBySide {
         // an answer without a hole made says little about a side, so it is noted under none
         let idle = matches!(ours.code, 0 | 100) && ours.values[3] == 0;
         self.counted_on(progress.knit, "advance", if idle { 0 } else { progress.side }, ours)
+    }
+
+    pub fn two_heads(
+        &mut self,
+        side: u32,
+        knit: u32,
+        greys: &[u8],
+        sheet: &mut Sheet,
+        lent: Lent,
+    ) -> Result<Outcome, Differs> {
+        let before = sheet.clone();
+        let mut other = sheet.clone();
+        let ours = library::two_heads(
+            side,
+            knit,
+            greys,
+            &mut sheet.pyramid[..lent.pyramid],
+            &mut sheet.serials[..lent.serials],
+            &mut sheet.order[..lent.order],
+        );
+        let theirs = expected::two_heads(
+            side,
+            knit,
+            greys,
+            &mut other.pyramid[..lent.pyramid],
+            &mut other.serials[..lent.serials],
+            &mut other.order[..lent.order],
+        );
+        let inputs = (side, knit, greys, &before, lent);
+        self.agreed("two_heads", &inputs, (&ours, &*sheet), (&theirs, &other))?;
+        if self.coverage.wants_kinds() {
+            self.coverage.note_kinds(heads_kinds::of_two_heads(side, knit, greys, sheet, lent, &ours));
+        }
+        self.counted_on(knit, "two_heads", side, ours)
     }
 
     pub fn tally(&mut self, side: u32, serials: &[u32], block: [u32; 3]) -> Result<Outcome, Differs> {

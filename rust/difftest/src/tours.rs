@@ -4,6 +4,7 @@
 use reference::{lowered, write_map_text, Checkpoints, Progress, PLAIN, RIBBED};
 use rulmedei::{list_room, page_length};
 
+use crate::heads::{heads_tour, refused_heads};
 use crate::knit_kinds;
 use crate::older::{older_tour, refused_older};
 use crate::parts::{blank, last_level, needed, other_knit, square, whole};
@@ -24,7 +25,8 @@ pub fn ribbed_tour_case(random: &mut Random, calls: &mut SideBySide, side: u32) 
 /// A sample of at least two holes, which is lowered, its text read, the map loaded and run to its end in three calls,
 /// with Levels and Drill List after each. Then Tally and Quote Page at every level, Compare and Shelf on the plate and
 /// others, Keep and Restore, Relay, and the renewal of sums of which the top is wrong. After the text was read, another
-/// one, with greys that are too high, is lowered, and a sketch around the map is read at every level.
+/// one, with greys that are too high, is lowered, and a sketch around the map is read at every level. At last the map
+/// is run with two heads.
 fn tour(random: &mut Random, calls: &mut SideBySide, side: u32, knit: u32) -> Result<(), Differs> {
     let greys = sampled(random, calls, side)?;
     let mut read = vec![9; greys.len()];
@@ -46,7 +48,7 @@ fn tour(random: &mut Random, calls: &mut SideBySide, side: u32, knit: u32) -> Re
     sheet.pyramid[0] += 1 + random.below(1000) as i64;
     let cell = [random.below(side as usize) as u32, random.below(side as usize) as u32];
     calls.renew(side, cell, &mut sheet.pyramid, all.pyramid)?;
-    Ok(())
+    heads_tour(random, calls, side, knit, &greys)
 }
 
 /// Sample, then two of the greys set so that two holes are due, then all lowered.
@@ -129,6 +131,7 @@ fn refusals(random: &mut Random, calls: &mut SideBySide, side: u32, knit: u32) -
     refused_older(random, calls, progress, &sheet)?;
     refused_texts(random, calls, side, &greys)?;
     refused_sketches(random, calls, side, &greys)?;
+    refused_heads(calls, side, knit, &greys)?;
     on_other_knit(calls, progress, &greys, &mut sheet)
 }
 

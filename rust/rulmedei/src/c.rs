@@ -33,6 +33,24 @@ extern "C" {
         made: *mut u32,
     ) -> u32;
 
+    pub fn rulmedei_two_heads(
+        side: u32,
+        knit: u32,
+        greys: *const u8,
+        greys_length: usize,
+        pyramid: *mut i64,
+        pyramid_length: usize,
+        serials: *mut u32,
+        serials_length: usize,
+        order: *mut u32,
+        order_length: usize,
+        progress_side: *mut u32,
+        progress_dots: *mut u32,
+        progress_knit: *mut u32,
+        holes: *mut u32,
+        debt: *mut i64,
+    ) -> u32;
+
     pub fn rulmedei_tally(
         side: u32,
         serials: *const u32,

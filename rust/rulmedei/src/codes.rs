@@ -3,7 +3,7 @@
 //! number is 0 or 101, and the lowering of greys, which has none.
 
 use crate::c;
-use crate::{Checkpoints, Progress, SketchQuote};
+use crate::{Checkpoints, Progress, SketchQuote, TwoHeads};
 
 /// What a place for a number holds before a call has written it.
 const UNWRITTEN: u32 = u32::MAX;
@@ -72,6 +72,40 @@ pub fn advance(
         )
     };
     (code, after, made)
+}
+
+/// The code, and the record with the holes and the debt.
+pub fn two_heads(
+    side: u32,
+    knit: u32,
+    greys: &[u8],
+    pyramid: &mut [i64],
+    serials: &mut [u32],
+    order: &mut [u32],
+) -> (u32, TwoHeads) {
+    let progress = Progress { side: UNWRITTEN, dots: UNWRITTEN, knit: UNWRITTEN };
+    let mut end = TwoHeads { progress, holes: UNWRITTEN, debt: UNWRITTEN.into() };
+    // SAFETY: each pointer and length is that of a slice, or a reference to a field of a local.
+    let code = unsafe {
+        c::rulmedei_two_heads(
+            side,
+            knit,
+            greys.as_ptr(),
+            greys.len(),
+            pyramid.as_mut_ptr(),
+            pyramid.len(),
+            serials.as_mut_ptr(),
+            serials.len(),
+            order.as_mut_ptr(),
+            order.len(),
+            &mut end.progress.side,
+            &mut end.progress.dots,
+            &mut end.progress.knit,
+            &mut end.holes,
+            &mut end.debt,
+        )
+    };
+    (code, end)
 }
 
 /// The code, and the holes of the square.

@@ -1,16 +1,17 @@
-//! Grey maps to ordered lists of holes: the fifteen calls of the proved library, on slices that the caller lends. No
+//! Grey maps to ordered lists of holes: the sixteen calls of the proved library, on slices that the caller lends. No
 //! call asks anything of its arguments; what doesn't fit is refused, and a refused call leaves every buffer as it was.
 //! Each call below has the numbers of its refusals in the order in which it looks for them, and of several the first is
-//! told. That is by rising number, but for 11, which comes directly after 1, and 12, which in Restore comes before 10;
-//! Map Text, Lower Text and Sketch Quote have an order of their own.
+//! told. That is by rising number, but for 11, which comes directly after 1, 14, which comes between these two, and 12,
+//! which in Restore comes before 10; Map Text, Lower Text and Sketch Quote have an order of their own.
 //!
 //! Map Text reads a map, Load fills the buffers, Advance makes holes until it is finished, and Drill List writes them
 //! down (`examples/list.rs`). Tally, Levels and Quote Page look at what was made. Sample makes a map from a seed.
 //! Compare tells which of two plates comes first, and Shelf puts many in order (`examples/shelf.rs`). Keep writes down
-//! under a name how far a plate is, and Restore goes back to it.
+//! under a name how far a plate is, and Restore goes back to it. Two Heads makes all holes in one call, for a laser
+//! with two heads.
 //!
-//! No map may have a grey above [`HIGHEST`]: Map Text, Load and Restore refuse it. Lower Text makes of a text that was
-//! stored before one that they take.
+//! No map may have a grey above [`HIGHEST`]: Map Text, Load, Two Heads and Restore refuse it. Lower Text makes of a
+//! text that was stored before one that they take.
 //!
 //! Where only a lowest and a highest grey are known of each cell, Sketch Quote says from such a sketch how many holes
 //! there may be, and at most how many in each square. A sketch may have no grey above [`HIGHEST`] either.
@@ -18,7 +19,7 @@
 //! The pyramid lies by quarters: [`place`] says where. One that an earlier version left row after row is written anew
 //! by Relay.
 //!
-//! Besides the fifteen there are `renew`, the renewal of sums that Advance does after each hole, by itself, and
+//! Besides the sixteen there are `renew`, the renewal of sums that Advance does after each hole, by itself, and
 //! `lower`, which lowers greys.
 
 #[cfg(not(all(target_arch = "x86_64", target_os = "linux")))]
@@ -58,6 +59,14 @@ pub struct Advanced {
     pub progress: Progress,
     pub made: u32,
     pub finished: bool,
+}
+
+/// What Two Heads answers: the record, all holes, and what the map then still asks for, which may be below 0.
+#[derive(Clone, Copy, Debug, PartialEq, Eq)]
+pub struct TwoHeads {
+    pub progress: Progress,
+    pub holes: u32,
+    pub debt: i64,
 }
 
 /// What Compare answers: whether the left plate comes before the right one or after it, or both are burnt alike. Where
@@ -173,6 +182,49 @@ pub fn advance(
         did(code)?;
     }
     Ok(Advanced { progress, made, finished })
+}
+
+/// Two Heads: fills the buffers as Load does and makes all holes at once, for a laser that burns with two heads. It
+/// cuts the map into macroblocks of 8 by 8 cells, in rounds that begin one after the other at rows and columns (0, 0),
+/// (0, 4), (4, 0) and (4, 4); those that would leave the map are left out. In its round a macroblock that asks for half
+/// a hole or more, 32,640, goes to that one of its four blocks of 4 by 4 cells that asks for most, and from there down
+/// to a cell, of equals always to the first by row then column. This cell is burnt, and the rest spread, as by Advance;
+/// unless it lies on a side of the macroblock's rim that is not an edge of the map, when the macroblock burns nothing
+/// in this round. Once four rounds on end have burnt nothing all is done. The holes of a round have their serials by
+/// macroblock, by row then column. Their cells, and the pyramid, are the same in whatever order its macroblocks are
+/// worked.
+///
+/// The debt is what the map still asks for, the first entry of the pyramid: 65,280 × holes + debt = 256 × the sum of
+/// the map's greys. What is said of the number of holes, of caps and of floors is said of Load and Advance, and does
+/// not hold here.
+///
+/// Refusals: 1, 14, 11, 2, 3, 4, 12 (as by Load).
+///
+/// ```
+/// use rulmedei::{two_heads, Progress, Refusal, TwoHeads, PLAIN};
+///
+/// let (mut greys, mut pyramid, mut serials, mut order) = ([0; 256], [0; 341], [0; 256], [0; 256]);
+/// greys[7 * 16 + 7] = 240;
+/// greys[10 * 16 + 10] = 200;
+/// let end = two_heads(16, PLAIN, &greys, &mut pyramid, &mut serials, &mut order)?;
+/// assert_eq!(end, TwoHeads { progress: Progress { side: 16, dots: 2, knit: PLAIN }, holes: 2, debt: -17920 });
+/// // the darker cell lies on the rim of its first macroblock, and is burnt in a later round
+/// assert_eq!(order[..2], [10 * 16 + 10, 7 * 16 + 7]);
+/// let small = two_heads(8, PLAIN, &greys, &mut pyramid, &mut serials, &mut order);
+/// assert_eq!(small, Err(Refusal::SideSmall));
+/// # Ok::<(), rulmedei::Refusal>(())
+/// ```
+pub fn two_heads(
+    side: u32,
+    knit: u32,
+    greys: &[u8],
+    pyramid: &mut [i64],
+    serials: &mut [u32],
+    order: &mut [u32],
+) -> Result<TwoHeads, Refusal> {
+    let (code, end) = codes::two_heads(side, knit, greys, pyramid, serials, order);
+    did(code)?;
+    Ok(end)
 }
 
 /// Tally: the holes of the aligned square (row, column) of a level; level 0 is the whole map, and level k has 2^k by
@@ -419,7 +471,7 @@ pub fn relay(
     did(codes::relay(progress, pyramid, serials, order, second))
 }
 
-/// The renewal by itself, none of the fifteen calls: makes each coarser entry over the cell (row, column), or over one
+/// The renewal by itself, none of the sixteen calls: makes each coarser entry over the cell (row, column), or over one
 /// of its up to eight neighbours on the map, the sum of its four entries on the level below, level by level up to the
 /// top. All other entries stay as they are, right or wrong.
 ///
@@ -429,7 +481,7 @@ pub fn renew(side: u32, row: u32, column: u32, pyramid: &mut [i64]) -> bool {
     codes::renew(side, row, column, pyramid) == 0
 }
 
-/// Lowers greys, none of the fifteen calls: each grey above 240 becomes 240, whatever the length. Sample gives greys
+/// Lowers greys, none of the sixteen calls: each grey above 240 becomes 240, whatever the length. Sample gives greys
 /// up to 255, and Load refuses those above 240.
 pub fn lower(greys: &mut [u8]) {
     codes::lower(greys);

@@ -44,11 +44,12 @@ refusals! {
     BlockUnknown = 6: "the level is past the map's last, or the row or column not below 2^level",
     TextMalformed = 7: "the text does not fit the grammar of map texts, or of sketches",
     OutputShort = 8: "the output is shorter than its text, a shelf's list than n, or caps than 4^level",
-    InputLong = 9: "the input is longer than 4,099 bytes: the program plate only, none of the calls",
+    InputLong = 9: "the input is longer than 4,099 bytes: plate and two_heads, none of the calls",
     NameUnknown = 10: "the name is none of 1 to 8; for a return also: empty, or past the map's total",
     KnitUnknown = 11: "the knit is neither 0 nor 1",
     GreyHigh = 12: "a grey of the map or the sketch is above 240",
     PairFalls = 13: "a pair of the sketch has its low above its high",
+    SideSmall = 14: "the side is below 16",
 }
 
 impl Refusal {
@@ -67,7 +68,7 @@ impl fmt::Display for Refusal {
 impl Error for Refusal {}
 
 /// What a code says: 0 that the call did its work, any other the refusal of that number. (Further codes of the
-/// fifteen calls are 100 of Advance and 102 to 106 of Compare, and no others.)
+/// sixteen calls are 100 of Advance and 102 to 106 of Compare, and no others.)
 pub(crate) fn did(code: u32) -> Result<(), Refusal> {
     if code == 0 {
         return Ok(());

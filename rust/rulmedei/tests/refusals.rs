@@ -5,7 +5,7 @@ use rulmedei::Refusal;
 const HEADER: &str = include_str!("../../../include/rulmedei.h");
 const EXAMPLE: &str = include_str!("../../../include/example.c");
 
-const REFUSALS: [Refusal; 13] = [
+const REFUSALS: [Refusal; 14] = [
     Refusal::SideUnknown,
     Refusal::GreysShort,
     Refusal::PyramidShort,
@@ -19,6 +19,7 @@ const REFUSALS: [Refusal; 13] = [
     Refusal::KnitUnknown,
     Refusal::GreyHigh,
     Refusal::PairFalls,
+    Refusal::SideSmall,
 ];
 
 /// The name, number and words of a line `#define RULMEDEI_NAME number /* words */`, where the number is a refusal's.
@@ -50,8 +51,8 @@ fn the_header_has_the_same_refusals() {
 }
 
 #[test]
-fn the_numbers_are_1_to_13() {
-    assert_eq!(REFUSALS.map(Refusal::number), [1, 2, 3, 4, 5, 6, 7, 8, 9, 10, 11, 12, 13]);
+fn the_numbers_are_1_to_14() {
+    assert_eq!(REFUSALS.map(Refusal::number), [1, 2, 3, 4, 5, 6, 7, 8, 9, 10, 11, 12, 13, 14]);
 }
 
 #[test]

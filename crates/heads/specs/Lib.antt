@@ -1,0 +1,2 @@
+pub mod TwoHeads
+pub mod Plates

@@ -1,0 +1,4 @@
+pub mod Asked
+pub mod Owing
+pub mod Clear
+pub mod Work

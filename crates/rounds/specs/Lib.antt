@@ -1,0 +1,3 @@
+pub mod Asked
+pub mod Round
+pub mod Run
