@@ -145,6 +145,9 @@ uint32_t rulmedei_load(uint32_t side,
  * an odd serial takes the first by row then column, and one with an even serial the last. What a hole is worth beyond
  * its cell's need goes to the neighbours on the map by their weights, in sums rounded down: over those at the corners
  * by row then column, then up, left, right and down. A sheet made by an earlier rule for either goes on by these.
+ *
+ * Every call tests the whole sheet first, which takes as long as a thousand holes or more at side 256. So ask for many
+ * holes in one call and take them from the order list one by one, rather than for one hole a call.
  */
 uint32_t rulmedei_advance(uint32_t side,
                           uint32_t dots,

@@ -3,7 +3,7 @@ use mathlib.Core.Path.{_≡_, refl, sym, ap, _∙_}
 use mathlib.Core.List.{List, [], _∷_, _++_, append-assoc}
 use Prim.Native.Nat.{ℕ, zero, suc, _+_, _-_, _/_, _%_, _^_, _<_, _≤_}
 use native.Mathlib.Decide.{decLt}
-use native.Mathlib.Nat.{add-assoc, add-suc, suc-add, add-zero, zero-add, pow-suc, div-lt-iff-lt-mul}
+use native.Mathlib.Nat.{add-assoc, add-suc, suc-add, add-zero, zero-add, pow-suc, one-le-pow, div-lt-iff-lt-mul}
 use native.Mathlib.Numerals.{add-one}
 use native.Mathlib.Omega.{arith}
 use lib.ListN.{length, drop, set, replicate, length-append, length-replicate, replicate-append-replicate}
@@ -55,11 +55,6 @@ wrote-length {l} {l₁} {a} {at} x = ap length (x .stored) ∙ length-sets l at 
 -- all of them, where the buffer has room from its first place on
 pub sets-front : (bytes l : List ℕ) → length bytes ≤ length l → sets l 0 bytes ≡ bytes ++ drop (length bytes) l
 sets-front bytes l h = sets-eq bytes l 0 (omega arith) ∙ rw (zero-add (length bytes))
-
--- a part lent of no places leaves the buffer as it is
-pub empty-front : (front l : List ℕ) → length front ≡ 0 → front ++ l ≡ l
-empty-front [] l z = refl
-empty-front (x ∷ front) l z = absurd (omega arith)
 
 -- ---- one byte
 pub byte-inside : (l : List ℕ) (at b : ℕ) → Wrote l at (b ∷ []) (at + 1) (set l at b)
@@ -117,6 +112,38 @@ length-decimal (suc digits) n p h =
     longer : (digits : ℕ) → (0 < digits → n / 10 < 10 ^ digits → length (decimal (n / 10)) ≤ digits) → n < 10 ^ suc digits → 10 ≤ n → length (decimal (n / 10)) + 1 ≤ suc digits
     longer zero ih h q = absurd (omega arith)
     longer (suc digits) ih h q = omega (arith, ih (omega arith) (div-lt-iff-lt-mul (omega arith) .1 (rw (pow-suc 10 (suc digits)) at h)))
+
+-- ---- how long a number is, to the digit: one below 10, and from there on one more than a tenth of it has
+pub length-below-ten : (n : ℕ) → n < 10 → 1 ≡ length (decimal n)
+length-below-ten n h = rw (decimal-below-ten n h)
+
+length-from-ten : (n : ℕ) → 10 ≤ n → length (decimal n) ≡ length (decimal (n / 10)) + 1
+length-from-ten n h = rw (decimal-from-ten n h) (length-append (decimal (n / 10)) ((48 + n % 10) ∷ []))
+
+-- k + 2 from the power k + 1 of ten up to the next
+pub length-between : (k n : ℕ) → 10 ^ suc k ≤ n → n < 10 ^ suc (suc k) → suc (suc k) ≡ length (decimal n)
+length-between zero n low high = omega (arith, length-from-ten n (omega arith), length-below-ten (n / 10) (omega arith))
+length-between (suc k) n low high =
+    let lower : 10 ^ suc k ≤ n / 10 = omega (arith, pow-suc 10 (suc k)) in
+    let higher : n / 10 < 10 ^ suc (suc k) = omega (arith, pow-suc 10 (suc (suc k))) in
+    omega (
+      arith,
+      length-from-ten n (omega (arith, one-le-pow (suc k) 10 (omega arith))),
+      length-between k (n / 10) lower higher,
+    )
+
+-- without its last five digits
+pub length-five-off : (n : ℕ) → 100000 ≤ n → length (decimal n) ≡ length (decimal (n / 100000)) + 5
+length-five-off n h =
+    let e : n / 10 / 10 / 10 / 10 / 10 ≡ n / 100000 = omega arith in
+    rw (← e) (omega (
+      arith,
+      length-from-ten n (omega arith),
+      length-from-ten (n / 10) (omega arith),
+      length-from-ten (n / 10 / 10) (omega arith),
+      length-from-ten (n / 10 / 10 / 10) (omega arith),
+      length-from-ten (n / 10 / 10 / 10 / 10) (omega arith),
+    ))
 
 pub length-right : (width n : ℕ) → length (rightAligned width n) ≡ width - length (decimal n) + length (decimal n)
 unfolding rightAligned

@@ -2,7 +2,7 @@
 ghost use mathlib.Core.Path.{_≡_};
 ghost use mathlib.Core.List.{[], _∷_};
 ghost use Prim.Native.Nat.{_+_, _-_, _^_, _<_, _≤_};
-ghost use lib.ListN.{drop, replicate};
+ghost use lib.ListN.{length, drop, replicate};
 ghost use Rattle.definition.specs.Text.{decimal, space, rightAligned, isDigit, digitsThen, fieldOf};
 ghost use Rattle.grammar.specs.Fields.{isNextDigit};
 ghost use Rattle.decimals.specs.Reading.{fieldIn};
@@ -145,4 +145,38 @@ pub fn put_field(out: &mut [u8], at: usize, n: u64, end: u8) -> usize
     ensures { λ next. ⌜ Wrote (now (out .entry)) at (fieldText n end) next (now (out .exit)) ⌝ }
 {
     put_column(out, at, 0, n, end)
+}
+
+// How many digits a number below 100,000 has.
+fn short_length(n: u64) -> usize
+    requires { ⌜ n < 100000 ⌝ }
+    ensures { λ digits. ⌜ digits ≡ length (decimal n) ⌝ }
+{
+    if n < 10 {
+        return 1;
+    }
+    if n < 100 {
+        return 2;
+    }
+    if n < 1000 {
+        return 3;
+    }
+    if n < 10000 {
+        return 4;
+    }
+    5
+}
+
+// How long a number is with the byte that ends it, without writing it. Five digits are taken off at a time, so that
+// comparisons alone tell it of a number that has no more.
+pub fn field_length(n: u64) -> usize
+    ensures { λ bytes. ⌜ (bytes ≡ length (decimal n) + 1) × (bytes ≤ 21) ⌝ }
+{
+    let mut rest = n;
+    let mut bytes: usize = 1;
+    while 100000 <= rest {
+        rest = rest / 100000;
+        bytes += 5;
+    }
+    bytes + short_length(rest)
 }

@@ -2,41 +2,43 @@
 use mathlib.Core.Path.{_≡_}
 use mathlib.Core.Bool.{Bool, cond}
 use mathlib.Core.List.{List}
-use Prim.Native.Nat.{ℕ, _+_, _*_, _^_, _≤_, _<_}
+use Prim.Native.Nat.{ℕ, _+_, _*_, _/_, _%_, _^_, _≤_, _<_}
 use lib.ListN.{length, getD}
 use lib.IntN.{ℤ, pos}
-use Rattle.definition.specs.Pyramid.{start, needed}
+use Rattle.definition.specs.Pyramid.{cellNumber, start, needed}
 use Rattle.definition.specs.Quarters.{interleaved}
 use Rattle.definition.specs.Descent as definition
 use Rattle.definition.specs.Descent.{ofEquals}
 use Rattle.pyramid.specs.Asked.{SmallPyramid}
 use Rattle.descent.specs.declared.Candidate.{Candidate}
 
--- a candidate of the code, as the definition has it
-abbrev pub shown : Candidate → definition.Candidate
-shown c = record { row = c .row; column = c .column; sum = c .sum }
+-- a candidate of the code among the four below entry (a, b), as the definition has it
+unfoldable pub shown : ℕ → ℕ → Candidate → definition.Candidate
+shown a b c = record { row = 2 * a + c .quarter / 2; column = 2 * b + c .quarter % 2; sum = c .sum }
 
--- the entry at a place; the better of two; the largest of the four below the entry at a place
-abbrev pub candidateAt : List ℤ → ℕ → ℕ → ℕ → Candidate
-candidateAt pyramid at a b = record { row = a; column = b; at = at; sum = getD pyramid at (pos 0) }
+-- one of the four entries from a place on; the better of two; the largest of the four
+abbrev pub candidateAt : List ℤ → ℕ → ℕ → Candidate
+candidateAt pyramid first quarter = record { quarter = quarter; sum = getD pyramid (first + quarter) (pos 0) }
 
 unfoldable pub betterOf : Bool → Candidate → Candidate → Candidate
 betterOf last best next = cond (ofEquals last (best .sum) (next .sum)) next best
 
-unfoldable pub largestOf : Bool → List ℤ → ℕ → ℕ → ℕ → Candidate
-largestOf last pyramid at a b =
-    let topLeft = candidateAt pyramid (4 * at + 1) (2 * a) (2 * b) in
-    let topRight = candidateAt pyramid (4 * at + 1 + 1) (2 * a) (2 * b + 1) in
-    let bottomLeft = candidateAt pyramid (4 * at + 1 + 2) (2 * a + 1) (2 * b) in
-    let bottomRight = candidateAt pyramid (4 * at + 1 + 3) (2 * a + 1) (2 * b + 1) in
-    betterOf last (betterOf last (betterOf last topLeft topRight) bottomLeft) bottomRight
+unfoldable pub largestOf : Bool → List ℤ → ℕ → Candidate
+largestOf last pyramid first =
+    betterOf last
+    (betterOf last (betterOf last (candidateAt pyramid first 0) (candidateAt pyramid first 1))
+    (candidateAt pyramid first 2))
+    (candidateAt pyramid first 3)
 
--- the four below the entry at a place lie in a pyramid of `len` entries; no number is large
-pub record FourAsked (len at a b : ℕ) : Type 0 where
-  pub room : 4 * at + 4 < len
-  pub few : at ≤ 21845
-  pub row : a ≤ 128
-  pub column : b ≤ 128
+-- four entries from a place on, in a pyramid whose entries are small
+pub record FourAsked (pyramid : List ℤ) (first : ℕ) : Type 0 where
+  pub room : first + 3 < length pyramid
+  pub small : SmallPyramid pyramid
+
+-- which of the four is a largest
+pub record Taken (last : Bool) (pyramid : List ℤ) (first quarter : ℕ) : Type 0 where
+  pub one : quarter < 4
+  pub is : quarter ≡ largestOf last pyramid first .quarter
 
 -- an entry (a, b) of level k to start from, at its place, in a pyramid of power r, of just the needed length
 pub record DescentAsked (pyramid : List ℤ) (r k at a b : ℕ) : Type 0 where
@@ -47,3 +49,7 @@ pub record DescentAsked (pyramid : List ℤ) (r k at a b : ℕ) : Type 0 where
   pub whole : length pyramid ≡ needed r
   pub small : SmallPyramid pyramid
   pub place : at ≡ start k + interleaved k a b
+
+-- the number of a cell, by row and column
+abbrev pub numberOf : ℕ → ℕ × ℕ → ℕ
+numberOf r cell = cellNumber r (cell .0) (cell .1)

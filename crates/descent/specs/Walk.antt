@@ -2,11 +2,11 @@
 use mathlib.Core.Path.{_≡_, refl, sym, ap, ap₂, _∙_}
 use mathlib.Core.Bool.{Bool, true, false, cond}
 use mathlib.Core.List.{List}
-use Prim.Native.Nat.{ℕ, suc, _+_, _*_, _-_, _^_, _≤_, _<_}
+use Prim.Native.Nat.{ℕ, zero, suc, _+_, _*_, _-_, _/_, _%_, _^_, _≤_, _<_}
 use native.Mathlib.Omega.{arith}
-use native.Mathlib.Nat.{pow-succ', add-zero}
+use native.Mathlib.Nat.{pow-succ', add-zero, mul-le-mul}
 use native.Mathlib.Numerals.{add-one}
-use lib.Pow.{pow-mono}
+use lib.Pow.{pow-pos, pow-mono}
 use lib.ListN.{length, take, getD}
 use lib.Seq.{take-all}
 use lib.IntN.{ℤ, pos, _+ℤ_}
@@ -14,28 +14,33 @@ use lib.Signed.{ltZ, leZ}
 use mir.Syntax.{w64}
 use mir.Val.{SFits, boolByte, toZ, ofZ}
 use mir.Facts.{toZ-ofZ}
-use Rattle.definition.specs.Pyramid.{start, needed, entry}
+use Rattle.definition.specs.Pyramid.{start, needed, placeIn, rowAt, columnAt, entry}
 use Rattle.definition.specs.Quarters.{interleaved, quarterEntry, rowsFrom}
 use Rattle.definition.specs.Descent.{candidate, firstOfEquals, lastOfEquals, ofEquals, better, largest, descend}
 use Rattle.integers.specs.Linear.{zz, ints}
 use Rattle.integers.specs.Tests.{same-test}
 use Rattle.integers.specs.Machine.{ltZ-back, words, machine}
-use Rattle.quadtree.specs.Levels.{start-thrice, start-suc, start-mono, quadruple}
+use Rattle.quadtree.specs.Levels.{start-thrice, start-suc, start-mono, quadruple, row-place, column-place}
 use Rattle.quadtree.specs.Guidance.{equals-fair, largest-quarter}
 use Rattle.layouts.specs.Interleaved.{quarter, interleaved-lt}
 use Rattle.layouts.specs.Relaid.{rows-entry}
-use Rattle.pyramid.specs.Asked.{Within, SmallPyramid}
+use Rattle.pyramid.specs.Asked.{Within}
 use Rattle.descent.specs.declared.Candidate.{Candidate}
-use Rattle.descent.specs.Asked.{shown, candidateAt, betterOf, largestOf, FourAsked, DescentAsked}
+use Rattle.descent.specs.Asked.{
+  shown,
+  candidateAt,
+  betterOf,
+  largestOf,
+  FourAsked,
+  Taken,
+  DescentAsked,
+  numberOf,
+}
 
--- ---- the entry at a place
-pub candidate-is : (pyramid : List ℤ) (at a b : ℕ) {sum : ℤ} → sum ≡ getD pyramid at (pos 0)
-    → record { row = a; column = b; at = at; sum = sum } ≡ candidateAt pyramid at a b
-candidate-is pyramid at a b e = rw e
-
-pub sum-small : (pyramid : List ℤ) (at a b : ℕ) (c : Candidate)
-    → SmallPyramid pyramid → c ≡ candidateAt pyramid at a b → Within (2 ^ 40) (c .sum)
-sum-small pyramid at a b c h e = rw (ap (λ (x : Candidate). x .sum) e) (h .small at)
+-- ---- one of the four entries
+pub candidate-is : (pyramid : List ℤ) (first quarter : ℕ) {sum : ℤ} → sum ≡ getD pyramid (first + quarter) (pos 0)
+    → record { quarter = quarter; sum = sum } ≡ candidateAt pyramid first quarter
+candidate-is pyramid first quarter e = rw e
 
 -- ---- the better of two: the best is below the later sum + tie just where the later one is taken
 tied : (last : Bool) (best next : ℤ) → ltZ best (next +ℤ pos (boolByte last)) ≡ ofEquals last best next
@@ -84,155 +89,201 @@ better-or P last best next p q = go (ofEquals last (best .sum) (next .sum))
     go true = q
     go false = p
 
-shown-better : (last : Bool) (best next : Candidate)
-    → shown (betterOf last best next) ≡ better (ofEquals last) (shown best) (shown next)
-unfolding betterOf better
-shown-better last best next = go (ofEquals last (best .sum) (next .sum))
+shown-better : (last : Bool) (a b : ℕ) (best next : Candidate)
+    → shown a b (betterOf last best next) ≡ better (ofEquals last) (shown a b best) (shown a b next)
+unfolding shown betterOf better
+shown-better last a b best next = go (ofEquals last (best .sum) (next .sum))
   where
-    go : (b : Bool) → shown (cond b next best) ≡ cond b (shown next) (shown best)
+    go : (t : Bool) → shown a b (cond t next best) ≡ cond t (shown a b next) (shown a b best)
     go true = refl
     go false = refl
 
+-- ---- the largest of four
+-- it is one of them
+pub taken-is : (last : Bool) (pyramid : List ℤ) (first : ℕ) {q : ℕ} → q ≡ largestOf last pyramid first .quarter
+    → Taken last pyramid first q
+unfolding largestOf
+taken-is last pyramid first e =
+    let P : Candidate → Type 0 = λ c. c .quarter < 4 in
+    record {
+      one =
+          rw e
+          (better-or P last _ _ (better-or P last _ _ (better-or P last _ _ (omega arith) (omega arith)) (omega arith))
+          (omega arith));
+      is = e;
+    }
+
+-- the sums are small
+module _ (pyramid : List ℤ) (first : ℕ) (h : FourAsked pyramid first) where
+  pub sum-small : (quarter : ℕ) (c : Candidate) → c ≡ candidateAt pyramid first quarter → Within (2 ^ 40) (c .sum)
+  sum-small quarter c e = rw (ap (λ (x : Candidate). x .sum) e) (h .small .small (first + quarter))
+
 -- ---- one level down
-module _ (last : Bool) where
-  -- the entry taken below (a, b) of level k is one of level k + 1
-  taken-in : (below : ℕ → ℕ → ℤ) (k a b : ℕ) → a < 2 ^ k → b < 2 ^ k
-      → (largest (ofEquals last) below a b .row < 2 ^ suc k)
-      × (largest (ofEquals last) below a b .column < 2 ^ suc k)
-  taken-in below k a b h l =
-      let q = largest-quarter (ofEquals last) (equals-fair last) below a b in
-      rw (pow-succ' 2 k) (omega (arith, q .row-high, q .column-high))
+start-four : (k : ℕ) → start (suc k) ≡ 4 * start k + 1
+start-four k = omega (arith, start-thrice k, start-thrice (suc k), quadruple k)
 
-  pub arrived : (pyramid : List ℤ) (r k a b : ℕ)
-      → k ≡ r → (a, b) ≡ descend (ofEquals last) pyramid (r - k) k a b
-  unfolding descend
-  arrived pyramid r k a b e = let n : r - k ≡ 0 = omega arith in rw n
+step : (last : Bool) (rows : List ℤ) (left k a b : ℕ)
+    → descend (ofEquals last) rows (suc left) k a b
+    ≡ descend (ofEquals last) rows left (suc k) (largest (ofEquals last) (entry rows (suc k)) a b .row)
+    (largest (ofEquals last) (entry rows (suc k)) a b .column)
+unfolding descend
+step last rows left k a b = refl
 
-  step : (pyramid : List ℤ) (left k a b : ℕ)
-      → descend (ofEquals last) pyramid (suc left) k a b
-      ≡ descend (ofEquals last) pyramid left (suc k) (largest (ofEquals last) (entry pyramid (suc k)) a b .row)
-      (largest (ofEquals last) (entry pyramid (suc k)) a b .column)
-  unfolding descend
-  step pyramid left k a b = refl
+-- the definition's descent ends at a cell of the map
+reached-in : (last : Bool) (rows : List ℤ) (left k r a b : ℕ) → left + k ≡ r → a < 2 ^ k → b < 2 ^ k
+    → (descend (ofEquals last) rows left k a b .0 < 2 ^ r) × (descend (ofEquals last) rows left k a b .1 < 2 ^ r)
+unfolding descend
+reached-in last rows zero k r a b e p q = let z : k ≡ r = omega arith in rw (← z) (p, q)
+reached-in last rows (suc left) k r a b e p q =
+    let below = entry rows (suc k) in
+    let is = largest-quarter (ofEquals last) (equals-fair last) below a b in
+    let next = largest (ofEquals last) below a b in
+    reached-in last rows left (suc k) r (next .row) (next .column) (omega arith)
+    (rw (pow-succ' 2 k) (omega (arith, is .row-high))) (rw (pow-succ' 2 k) (omega (arith, is .column-high)))
 
 module _ {pyramid : List ℤ} {r k at a b : ℕ} (h : DescentAsked pyramid r k at a b) where
-  pub arrived-at : k ≡ r → at ≡ start r + interleaved r a b
-  arrived-at e = h .place ∙ rw e
+  place-lt : at < start (suc k)
+  place-lt = omega (arith, h .place, interleaved-lt k a b, start-suc k)
 
-  start-four : start (suc k) ≡ 4 * start k + 1
-  start-four = omega (arith, start-thrice k, start-thrice (suc k), quadruple k)
+  module _ (more : k < r) where
+    -- the four below lie in the pyramid
+    below-room : 4 * at + 1 + 3 < length pyramid
+    below-room =
+        omega (arith, h .whole, place-lt, start-four (suc k), start-mono (suc (suc k)) (suc r) (omega arith))
 
-  -- the place of one of the four below
-  below-place : (i j : ℕ) → i < 2 → j < 2
-      → 4 * at + 1 + (2 * i + j) ≡ start (suc k) + interleaved (suc k) (2 * a + i) (2 * b + j)
-  below-place i j p q = omega (arith, h .place, start-four, quarter k a b i j p q)
-
-  -- the part lent on is the whole pyramid
-  module _ (n : ℕ) (en : n ≡ needed r) where
-    part-is : take n pyramid ≡ pyramid
-    part-is = take-all n pyramid (omega (arith, en, h .whole))
-
-    pub part-long : n ≡ length (take n pyramid)
-    part-long = rw part-is (omega (arith, en, h .whole))
-
-  module _ (ne : k ≡ r → ⊥) where
-    pub below-asked : FourAsked (length pyramid) at a b
-    below-asked =
-        let l = interleaved-lt k a b in
-        let u = start-mono (suc (suc k)) (suc r) (omega (arith, h .level)) in
-        let v = start-mono (suc k) 8 (omega (arith, h .level, h .most)) in
-        let w : 2 ^ k ≤ 2 ^ 7 = pow-mono {i = k} {j = 7} (omega (arith, h .level, h .most)) in
+    -- no number of an entry above the cells is large
+    pub few : (a < 128) × (b < 128) × (at < 21845)
+    few =
+        let w : 2 ^ k ≤ 2 ^ 7 = pow-mono {i = k} {j = 7} (omega (arith, h .most)) in
         let e : start 8 ≡ 21845 = unfold start in refl in
-        record {
-          room =
-              omega (
-                arith,
-                h .place,
-                h .whole,
-                l,
-                u,
-                start-suc (suc k),
-                start-four,
-                start-suc k,
-                quadruple k,
-                start-thrice k,
-              );
-          few = omega (arith, h .place, l, v, start-suc k, e);
-          row = omega (arith, h .row, w);
-          column = omega (arith, h .column, w);
-        }
+        let u = start-mono (suc k) 8 (omega (arith, h .most)) in
+        (omega (arith, h .row), omega (arith, h .column), omega (arith, place-lt))
+
+    module _ (q : ℕ) (lt : q < 4) where
+      below-place : 4 * at + 1 + q ≡ start (suc k) + interleaved (suc k) (2 * a + q / 2) (2 * b + q % 2)
+      below-place =
+          omega (arith, h .place, start-four k, quarter k a b (q / 2) (q % 2) (omega arith) (omega arith))
+
+      below-row : 2 * a + q / 2 < 2 ^ suc k
+      below-row = rw (pow-succ' 2 k) (omega (arith, h .row))
+
+      below-column : 2 * b + q % 2 < 2 ^ suc k
+      below-column = rw (pow-succ' 2 k) (omega (arith, h .column))
+
+      -- each of the four is an entry to go on from
+      below-asked : DescentAsked pyramid r (suc k) (4 * at + 1 + q) (2 * a + q / 2) (2 * b + q % 2)
+      below-asked =
+          record {
+            most = h .most;
+            level = omega arith;
+            row = below-row;
+            column = below-column;
+            whole = h .whole;
+            small = h .small;
+            place = below-place;
+          }
+
+      -- and the definition's, on the pyramid row after row
+      shown-at : shown a b (candidateAt pyramid (4 * at + 1) q)
+          ≡ candidate (entry (rowsFrom r pyramid) (suc k)) (2 * a + q / 2) (2 * b + q % 2)
+      unfolding shown candidate quarterEntry
+      shown-at =
+          ap (λ (z : ℤ). record { row = 2 * a + q / 2; column = 2 * b + q % 2; sum = z })
+          (ap (λ (m : ℕ). getD pyramid m (pos 0)) below-place
+          ∙ sym (rows-entry r pyramid (suc k) (2 * a + q / 2) (2 * b + q % 2) (omega arith) below-row below-column))
 
     module _ (last : Bool) where
-      abbrev rows : List ℤ
-      rows = rowsFrom r pyramid
+      abbrev below : ℕ → ℕ → ℤ
+      below = entry (rowsFrom r pyramid) (suc k)
 
-      -- one of the four, read at its place
-      shown-at : (i j n : ℕ) → i < 2 → j < 2 → n ≡ 4 * at + 1 + (2 * i + j)
-          → shown (candidateAt pyramid n (2 * a + i) (2 * b + j))
-          ≡ candidate (entry rows (suc k)) (2 * a + i) (2 * b + j)
-      unfolding candidate quarterEntry
-      shown-at i j n p q e =
-          let le : suc k ≤ r = omega (arith, h .level) in
-          let x : 2 * a + i < 2 ^ suc k = rw (pow-succ' 2 k) (omega (arith, h .row)) in
-          let y : 2 * b + j < 2 ^ suc k = rw (pow-succ' 2 k) (omega (arith, h .column)) in
-          ap (λ (z : ℤ). record { row = 2 * a + i; column = 2 * b + j; sum = z })
-          (ap (λ (m : ℕ). getD pyramid m (pos 0)) (e ∙ below-place i j p q)
-          ∙ sym (rows-entry r pyramid (suc k) (2 * a + i) (2 * b + j) le x y))
-
-      shown-largest : shown (largestOf last pyramid at a b) ≡ largest (ofEquals last) (entry rows (suc k)) a b
+      -- the largest is the definition's
+      shown-largest : shown a b (largestOf last pyramid (4 * at + 1)) ≡ largest (ofEquals last) below a b
       unfolding largestOf largest
       shown-largest =
-          let c₀ = candidateAt pyramid (4 * at + 1) (2 * a) (2 * b) in
-          let c₁ = candidateAt pyramid (4 * at + 1 + 1) (2 * a) (2 * b + 1) in
-          let c₂ = candidateAt pyramid (4 * at + 1 + 2) (2 * a + 1) (2 * b) in
-          let c₃ = candidateAt pyramid (4 * at + 1 + 3) (2 * a + 1) (2 * b + 1) in
-          let e₀ : shown c₀ ≡ candidate (entry rows (suc k)) (2 * a) (2 * b) =
-          simp add-zero at (shown-at 0 0 (4 * at + 1) (omega arith) (omega arith) (omega arith)) in
-          let e₁ : shown c₁ ≡ candidate (entry rows (suc k)) (2 * a) (2 * b + 1) =
-          simp add-zero at (shown-at 0 1 (4 * at + 1 + 1) (omega arith) (omega arith) (omega arith)) in
-          let e₂ : shown c₂ ≡ candidate (entry rows (suc k)) (2 * a + 1) (2 * b) =
-          simp add-zero at (shown-at 1 0 (4 * at + 1 + 2) (omega arith) (omega arith) (omega arith)) in
-          let e₃ = shown-at 1 1 (4 * at + 1 + 3) (omega arith) (omega arith) (omega arith) in
-          let two = shown-better last c₀ c₁ ∙ ap₂ (better (ofEquals last)) e₀ e₁ in
-          let three = shown-better last (betterOf last c₀ c₁) c₂ ∙ ap₂ (better (ofEquals last)) two e₂ in
-          shown-better last (betterOf last (betterOf last c₀ c₁) c₂) c₃
-          ∙ ap₂ (better (ofEquals last)) three e₃
+          rw (
+            shown-better,
+            shown-better,
+            shown-better,
+            shown-at 0 (omega arith),
+            shown-at 1 (omega arith),
+            shown-at 2 (omega arith),
+            shown-at 3 (omega arith),
+            add-zero (2 * a),
+            add-zero (2 * b),
+          )
 
-      -- the largest is at its place
-      abbrev AtPlace : Candidate → Type 0
-      AtPlace c = c .at ≡ start (suc k) + interleaved (suc k) (c .row) (c .column)
+      -- what is left to do from the one taken
+      one-down : (q : ℕ) → Taken last pyramid (4 * at + 1) q
+          → descend (ofEquals last) (rowsFrom r pyramid) (r - suc k) (suc k) (2 * a + q / 2) (2 * b + q % 2)
+          ≡ descend (ofEquals last) (rowsFrom r pyramid) (r - k) k a b
+      unfolding shown
+      one-down q t =
+          let n : r - k ≡ suc (r - suc k) = omega arith in
+          rw (n, step last (rowsFrom r pyramid) (r - suc k) k a b, ← shown-largest, t .is)
 
-      placed : AtPlace (largestOf last pyramid at a b)
-      unfolding largestOf
-      placed =
-          better-or AtPlace last _ _
-          (better-or AtPlace last _ _
-          (better-or AtPlace last _ _ (simp add-zero at (below-place 0 0 (omega arith) (omega arith)))
-          (simp add-zero at (below-place 0 1 (omega arith) (omega arith))))
-          (simp add-zero at (below-place 1 0 (omega arith) (omega arith))))
-          (below-place 1 1 (omega arith) (omega arith))
+-- ---- the calls
+-- arrived at a cell
+module _ {pyramid : List ℤ} {r k at a b : ℕ} (h : DescentAsked pyramid r k at a b) where
+  pub here : (last : Bool) → k ≡ r → (a, b) ≡ descend (ofEquals last) (rowsFrom r pyramid) (r - k) k a b
+  unfolding descend
+  here last e = let n : r - k ≡ 0 = omega (arith, e) in rw n
 
-      module _ (next : Candidate) (e : next ≡ largestOf last pyramid at a b) (n : ℕ) (en : n ≡ needed r) where
-        pub next-asked : DescentAsked (take n pyramid) r (k + 1) (next .at) (next .row) (next .column)
-        next-asked =
-            let q = taken-in last (entry rows (suc k)) k a b (h .row) (h .column) in
-            let z = rw (← shown-largest) at q in
-            rw (part-is n en, e, add-one k)
-            (record {
-              most = h .most;
-              level = omega (arith, h .level);
-              row = z .0;
-              column = z .1;
-              whole = h .whole;
-              small = h .small;
-              place = placed;
-            })
+  -- the number of an entry of level k, on a map of side 2^r
+  pub number-few : {side : ℕ} → side ≡ 2 ^ r → (a * side ≤ 65536) × (b * side ≤ 65536) × (a ≤ 256) × (b ≤ 256)
+  number-few {side} e =
+      let w : 2 ^ k ≤ 2 ^ 8 = pow-mono {i = k} {j = 8} (omega (arith, h .level, h .most)) in
+      let u : side ≤ 256 = rw e (pow-mono {i = r} {j = 8} (h .most)) in
+      let x : a ≤ 256 = omega (arith, h .row) in
+      let y : b ≤ 256 = omega (arith, h .column) in
+      (mul-le-mul x u, mul-le-mul y u, x, y)
 
-        pub one-down : {x y : ℕ}
-            → (x, y)
-            ≡ descend (ofEquals last) (rowsFrom r (take n pyramid)) (r - (k + 1)) (k + 1) (next .row) (next .column)
-            → (x, y) ≡ descend (ofEquals last) rows (r - k) k a b
-        one-down reached =
-            let m : r - k ≡ suc (r - (k + 1)) = omega (arith, h .level) in
-            rw (part-is n en) at reached
-            ∙ rw (m, step last rows (r - (k + 1)) k a b, ← shown-largest, e, add-one k)
+  pub number-here : (last : Bool) {side : ℕ} → k ≡ r → side ≡ 2 ^ r
+      → a * side + b ≡ numberOf r (descend (ofEquals last) (rowsFrom r pyramid) (r - k) k a b)
+  number-here last e es = rw (← here last e, es)
+
+  module _ (ne : k ≡ r → ⊥) where
+    more : k < r
+    more = omega (arith, h .level)
+
+    pub four-asked : {first : ℕ} → first ≤ 4 * at + 1 → FourAsked pyramid first
+    four-asked le = record { room = omega (arith, below-room h more); small = h .small }
+
+    -- no number on the way down is large
+    pub entry-few : (a < 128) × (b < 128) × (at < 21845) × (k < 8)
+    entry-few = let u = few h more in (u .0, u .1, u .2, omega (arith, h .most))
+
+    -- the part lent on is the whole pyramid
+    module _ {n : ℕ} (en : n ≡ needed r) where
+      part-is : take n pyramid ≡ pyramid
+      part-is = take-all n pyramid (omega (arith, en, h .whole))
+
+      pub part-long : n ≡ length (take n pyramid)
+      part-long = rw part-is (omega (arith, en, h .whole))
+
+      module _ {last : Bool} {q : ℕ} (t : Taken last pyramid (4 * at + 1) q) where
+        pub next-asked : DescentAsked (take n pyramid) r (k + 1) (4 * at + 1 + q) (2 * a + q / 2) (2 * b + q % 2)
+        next-asked = rw (part-is, add-one k) (below-asked h more q (t .one))
+
+        pub next-number : {m : ℕ}
+            → m
+            ≡ numberOf r
+            (descend (ofEquals last) (rowsFrom r (take n pyramid)) (r - (k + 1)) (k + 1)
+            (2 * a + q / 2) (2 * b + q % 2))
+            → m ≡ numberOf r (descend (ofEquals last) (rowsFrom r pyramid) (r - k) k a b)
+        next-number e = rw (part-is, add-one k, one-down h more last q t) at e
+
+  -- back from the number of the cell reached
+  module _ (last : Bool) where
+    abbrev reached : ℕ × ℕ
+    reached = descend (ofEquals last) (rowsFrom r pyramid) (r - k) k a b
+
+    pub cell-is : {n side : ℕ} → side ≡ 2 ^ r → n ≡ numberOf r reached → (n / side, n % side) ≡ reached
+    unfolding rowAt columnAt placeIn
+    cell-is es e =
+        let c = reached-in last (rowsFrom r pyramid) (r - k) k r a b (omega (arith, h .level)) (h .row) (h .column) in
+        rw (es, e)
+        (ap₂ (λ (x y : ℕ). (x, y)) (row-place r (reached .0) (reached .1) (c .1))
+        (column-place r (reached .0) (reached .1) (c .1)))
+
+pub side-some : (r : ℕ) {side : ℕ} → side ≡ 2 ^ r → 0 < side
+side-some r e = omega (arith, pow-pos r, e)

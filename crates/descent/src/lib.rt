@@ -3,37 +3,31 @@
 ghost use mathlib.Core.Path.{_≡_};
 ghost use Prim.Native.Nat.{_+_, _-_, _^_, _<_};
 ghost use lib.ListN.{length};
-ghost use Rattle.definition.specs.Pyramid.{start};
 ghost use Rattle.definition.specs.Descent.{ofEquals, descend};
-ghost use Rattle.definition.specs.Quarters.{interleaved, rowsFrom};
-ghost use Rattle.pyramid.specs.Asked.{Within, SmallPyramid};
-ghost use Rattle.descent.specs.Asked.{candidateAt, betterOf, largestOf, FourAsked, DescentAsked};
+ghost use Rattle.definition.specs.Quarters.{rowsFrom};
+ghost use Rattle.pyramid.specs.Asked.{Within};
+ghost use Rattle.descent.specs.Asked.{candidateAt, betterOf, FourAsked, Taken, DescentAsked, numberOf};
 
-// A cell of the map, and its place in the pyramid.
+// A cell of the map.
 pub struct Cell {
     pub row: usize,
     pub column: usize,
-    pub at: usize,
 }
 
-// An entry that may be taken, and its place in the pyramid.
+// One of the four entries below an entry, 0 to 3: the top two, then the bottom two; and its sum.
 struct Candidate {
-    row: usize,
-    column: usize,
-    at: usize,
+    quarter: usize,
     sum: i64,
 }
 
-// The entry at a place, which is entry (a, b) of its level.
-fn candidate_at(pyramid: &[i64], place: usize, a: usize, b: usize) -> Candidate
-    requires { ⌜ place < length (now pyramid) ⌝ }
-    ensures { λ c. ⌜ c ≡ candidateAt (now (pyramid .entry)) place a b ⌝ }
+// One of the four entries from place `first` on, as a candidate.
+fn candidate_at(pyramid: &[i64], first: usize, quarter: usize) -> Candidate
+    requires { ⌜ first + quarter < length (now pyramid) ⌝ }
+    ensures { λ c. ⌜ c ≡ candidateAt (now (pyramid .entry)) first quarter ⌝ }
 {
-    let sum = pyramid[place];
+    let sum = pyramid[first + quarter];
     Candidate {
-        row: a,
-        column: b,
-        at: place,
+        quarter: quarter,
         sum: sum,
     }
 }
@@ -49,26 +43,46 @@ fn better(best: Candidate, next: Candidate, last: bool) -> Candidate
     if most < sum { next } else { best }
 }
 
-// A largest of the four entries below the one at place `at`, which is entry (a, b) of its level.
-fn largest(pyramid: &[i64], at: usize, a: usize, b: usize, last: bool) -> Candidate
-    requires { ⌜ FourAsked (length (now pyramid)) at a b × SmallPyramid (now pyramid) ⌝ }
-    ensures { λ c. ⌜ c ≡ largestOf last (now (pyramid .entry)) at a b ⌝ }
+// Which of the four entries from place `first` on is a largest.
+fn largest(pyramid: &[i64], first: usize, last: bool) -> usize
+    requires { ⌜ FourAsked (now pyramid) first ⌝ }
+    ensures { λ q. ⌜ Taken last (now (pyramid .entry)) first q ⌝ }
 {
-    let first = 4 * at + 1;
-    let row = 2 * a;
-    let column = 2 * b;
-    let top_left = candidate_at(pyramid, first, row, column);
-    let top_right = candidate_at(pyramid, first + 1, row, column + 1);
-    let bottom_left = candidate_at(pyramid, first + 2, row + 1, column);
-    let bottom_right = candidate_at(pyramid, first + 3, row + 1, column + 1);
+    let top_left = candidate_at(pyramid, first, 0);
+    let top_right = candidate_at(pyramid, first, 1);
+    let bottom_left = candidate_at(pyramid, first, 2);
+    let bottom_right = candidate_at(pyramid, first, 3);
     let two = better(top_left, top_right, last);
     let three = better(two, bottom_left, last);
-    better(three, bottom_right, last)
+    let taken = better(three, bottom_right, last);
+    taken.quarter
 }
 
-// The cell that the descent reaches from entry (a, b) of level k, which is at place `at`, by the last of equals or by
-// the first. The pyramid has just the needed length and is lent on as a part of that length: then the compiled code
-// needn't store and reload the slice at each level.
+// The number of the cell that the descent reaches from entry (a, b) of level k, which is at place `at`, by the last of
+// equals or by the first. It returns one number, and the pyramid, which has just the needed length, is lent on as a
+// part of that length: then the compiled code needn't store and reload a struct or the slice at each level.
+fn walk(pyramid: &[i64], r: usize, k: usize, at: usize, a: usize, b: usize, last: bool) -> usize
+    requires { ⌜ DescentAsked (now pyramid) r k at a b ⌝ }
+    ensures { λ n. ⌜ n ≡ numberOf r (descend (ofEquals last) (rowsFrom r (now (pyramid .entry))) (r - k) k a b) ⌝ }
+{
+    if k == r {
+        return a * sizes::pow2(r) + b;
+    }
+    let first = 4 * at + 1;
+    let quarter = largest(pyramid, first, last);
+    let n = sizes::needed(r);
+    walk(
+        &pyramid[..n],
+        r,
+        k + 1,
+        first + quarter,
+        2 * a + quarter / 2,
+        2 * b + quarter % 2,
+        last,
+    )
+}
+
+// The cell that the descent reaches from entry (a, b) of level k, which is at place `at`.
 pub fn descend(
     pyramid: &[i64],
     r: usize,
@@ -80,22 +94,13 @@ pub fn descend(
 ) -> Cell
     requires { ⌜ DescentAsked (now pyramid) r k at a b ⌝ }
     ensures { λ c. ⌜
-        ((c .row, c .column) ≡ descend (ofEquals last) (rowsFrom r (now (pyramid .entry))) (r - k) k a b)
-        × (c .at ≡ start r + interleaved r (c .row) (c .column))
+        (c .row, c .column) ≡ descend (ofEquals last) (rowsFrom r (now (pyramid .entry))) (r - k) k a b
         ⌝ }
 {
-    if k == r {
-        return Cell {
-            row: a,
-            column: b,
-            at: at,
-        };
+    let number = walk(pyramid, r, k, at, a, b, last);
+    let side = sizes::pow2(r);
+    Cell {
+        row: number / side,
+        column: number % side,
     }
-    let below = k + 1;
-    let next = largest(pyramid, at, a, b, last);
-    let place = next.at;
-    let row = next.row;
-    let column = next.column;
-    let n = sizes::needed(r);
-    descend(&pyramid[..n], r, below, place, row, column, last)
 }

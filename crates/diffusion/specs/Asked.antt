@@ -1,11 +1,11 @@
--- What the functions of this crate are asked, and what one turn of the diffusion gives. The cells lie by quarters; how
--- large they are is asked of them written row after row.
+-- What the functions of this crate are asked, and what one turn of the diffusion and the smaller functions give. The
+-- cells lie by quarters; how large they are is asked of them written row after row.
 use mathlib.Core.Path.{_≡_}
 use mathlib.Core.Logic.{_≢_}
-use mathlib.Core.Bool.{true, false}
+use mathlib.Core.Bool.{Bool, true, false, _&&_}
 use mathlib.Core.List.{List}
-use Prim.Native.Nat.{ℕ, _-_, _^_, _≤_, _<_}
-use lib.Dec.{eqb}
+use Prim.Native.Nat.{ℕ, zero, suc, _+_, _-_, _^_, _≤_, _<_}
+use lib.Dec.{ltb, eqb}
 use lib.ListN.{length, getD, set}
 use lib.IntN.{ℤ, pos, _-ℤ_}
 use lib.Signed.{_≤ℤ_}
@@ -13,6 +13,8 @@ use Rattle.definition.specs.Pyramid.{oneDot, cellCount, placeIn, inLevel}
 use Rattle.definition.specs.Quarters.{interleaved}
 use Rattle.definition.specs.Diffusion.{rowNear, columnNear}
 use Rattle.layouts.specs.Cells.{rowsLevel}
+use Rattle.places.specs.declared.Parts.{Parts}
+use Rattle.places.specs.Parts.{partsAround}
 use Rattle.pyramid.specs.Asked.{Within}
 
 -- the cells with s taken off the neighbour at place p, if its weight w isn't 0
@@ -24,6 +26,16 @@ shareTaken r row column p w s cells =
       | true ↦ cells
       | false ↦ set cells (placeIn r x y) (inLevel r cells x y -ℤ pos s)
     ]
+
+-- whether a cell has a row above and below it, and a column left and right of it, on a map of power r
+unfoldable pub isInside : ℕ → ℕ → ℕ → Bool
+isInside r row column = ltb 0 row && ltb 0 column && ltb (row + 1) (2 ^ r) && ltb (column + 1) (2 ^ r)
+
+-- of three numbers the one at place x, counted from 0
+unfoldable pub oneOfThree : ℕ → ℕ → ℕ → ℕ → ℕ
+oneOfThree zero a b c = a
+oneOfThree (suc zero) a b c = b
+oneOfThree (suc (suc n)) a b c = c
 
 -- a cell of a map of power r
 pub record CellAsked (r row column : ℕ) : Type 0 where
@@ -49,6 +61,18 @@ pub record DiffuseAsked (cells : List ℤ) (r row column d : ℕ) : Type 0 where
   pub whole : length cells ≡ cellCount r
   pub small : (i : ℕ) → Within (2 ^ 40) (getD (rowsLevel r cells) i (pos 0))
   pub fair : d ≤ 2 ^ 41
+
+-- a share to take at a place of the cells, far from overflow
+pub record TakeAsked (cells : List ℤ) (at s : ℕ) : Type 0 where
+  pub place : at < length cells
+  pub small : Within (2 ^ 60) (getD cells at (pos 0))
+  pub fair : s ≤ 2 ^ 46
+
+-- d to take from the neighbours of a cell inside the map, around which the places have these parts
+pub record InsideAsked (cells : List ℤ) (p : Parts) (r row column d : ℕ) : Type 0 where
+  pub asked : DiffuseAsked cells r row column d
+  pub inside : isInside r row column ≡ true
+  pub parts : p ≡ partsAround (2 ^ r) row column
 
 -- a dot to place at a cell, at its place, whose residual is at most one dot's worth
 pub record PlaceAsked (cells : List ℤ) (r at row column : ℕ) : Type 0 where

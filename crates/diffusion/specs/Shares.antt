@@ -1,5 +1,5 @@
 -- A share, and what taking it off a neighbour does.
-use mathlib.Core.Path.{_≡_, sym, _∙_}
+use mathlib.Core.Path.{_≡_, sym, ap, _∙_}
 use mathlib.Core.Logic.{_≢_}
 use mathlib.Core.List.{List, [], _∷_}
 use Prim.Native.Nat.{ℕ, zero, suc, _+_, _*_, _-_, _/_, _%_, _^_, _≤_, _<_}
@@ -21,7 +21,7 @@ use Rattle.layouts.specs.Interleaved.{interleaved-any}
 use Rattle.layouts.specs.Cells.{rowsLevel}
 use Rattle.pyramid.specs.Asked.{Within}
 use Rattle.pyramid.specs.Four.{within-mono}
-use Rattle.diffusion.specs.Asked.{shareTaken, ShareAsked}
+use Rattle.diffusion.specs.Asked.{shareTaken, ShareAsked, TakeAsked}
 use Rattle.diffusion.specs.Places.{side-small, place-in, bytes-fit, read-there, stored-there}
 
 -- ---- a share
@@ -49,16 +49,37 @@ module _ (r row column p w s : ℕ) (cells : List ℤ) where
   unfolding shareTaken
   taken-none e = rw (eq-eqb w 0 e, shareTaken)
 
-  taken-some : w ≢ 0
+  pub taken-some : w ≢ 0
       → set cells (placeIn r x y) (inLevel r cells x y -ℤ pos s) ≡ shareTaken r row column p w s cells
   unfolding shareTaken
   taken-some ne = rw (ne-eqb w 0 ne, shareTaken)
 
--- ---- what taking a share off a neighbour rests on
-module _ {cells : List ℤ} {r row column p w s : ℕ} (h : ShareAsked cells r row column p w s) where
+-- ---- a share taken at a place, in machine words
+module _ {cells : List ℤ} {at s : ℕ} (h : TakeAsked cells at s) where
+  -- the residual there, as it is read; with the share off it, as it is stored
+  abbrev old : ℤ
+  old = toZ w64 (ofZ w64 (getD cells at (pos 0)))
+
+  abbrev new : ℤ
+  new = toZ w64 (ofZ w64 (old -ℤ toZ w64 s))
+
   cast : toZ w64 s ≡ pos s
   cast = of-bits s (omega (arith, h .fair))
 
+  old-fits : SFits w64 (getD cells at (pos 0))
+  old-fits = let b = h .small in simp words (omega machine)
+
+  new-fits : SFits w64 (getD cells at (pos 0) -ℤ pos s)
+  new-fits = let b = h .small in let f = h .fair in simp words (omega machine)
+
+  pub less-fits : SFits w64 (old -ℤ toZ w64 s)
+  less-fits = rw (toZ-ofZ old-fits, cast) new-fits
+
+  pub less-stored : set cells at new ≡ set cells at (getD cells at (pos 0) -ℤ pos s)
+  less-stored = rw (toZ-ofZ old-fits, cast, toZ-ofZ new-fits)
+
+-- ---- what taking a share off a neighbour rests on
+module _ {cells : List ℤ} {r row column p w s : ℕ} (h : ShareAsked cells r row column p w s) where
   module _ (ne : w ≡ 0 → ⊥) where
     pub near-up : 1 ≤ row + p / 3
     near-up = h .near ne .0
@@ -95,33 +116,29 @@ module _ {cells : List ℤ} {r row column p w s : ℕ} (h : ShareAsked cells r r
     unfolding inLevel
     bounds = rw (← read) (h .small (placeIn r x y))
 
-    -- in machine words
-    old-fits : SFits w64 (getD cells at (pos 0))
-    old-fits = let b = bounds in simp words (omega machine)
+    pub near-asked : TakeAsked cells at s
+    near-asked = record { place = near-in; small = bounds; fair = h .fair }
 
-    new-fits : SFits w64 (getD cells at (pos 0) -ℤ pos s)
-    new-fits = let b = bounds in let f = h .fair in simp words (omega machine)
-
-    pub less-fits : SFits w64 (toZ w64 (ofZ w64 (getD cells at (pos 0))) -ℤ toZ w64 s)
-    less-fits = rw (toZ-ofZ old-fits, cast) new-fits
-
-    less-stored :
-        rowsLevel r (set cells at (toZ w64 (ofZ w64 (toZ w64 (ofZ w64 (getD cells at (pos 0))) -ℤ toZ w64 s))))
+    -- with the share off it
+    pub near-stored : rowsLevel r (set cells at (getD cells at (pos 0) -ℤ pos s))
         ≡ set (rowsLevel r cells) (placeIn r x y) (inLevel r (rowsLevel r cells) x y -ℤ pos s)
-    less-stored =
-        rw (toZ-ofZ old-fits, cast, toZ-ofZ new-fits, ← read) (stored-there r x y at at-is cells a b (h .whole) _)
+    near-stored = rw (← read) (stored-there r x y at at-is cells a b (h .whole) _)
 
   pub share-taken : (w ≡ 0 → ⊥) → (at : ℕ) → at ≡ interleaved 8 (row + p / 3 - 1) (column + p % 3 - 1)
       → rowsLevel r (set cells at (toZ w64 (ofZ w64 (toZ w64 (ofZ w64 (getD cells at (pos 0))) -ℤ toZ w64 s))))
       ≡ shareTaken r row column p w s (rowsLevel r cells)
   share-taken ne at e =
-      less-stored (row + p / 3 - 1) (column + p % 3 - 1) at e (near-row ne) (near-column ne)
+      let x = row + p / 3 - 1 in
+      let y = column + p % 3 - 1 in
+      ap (rowsLevel r) (less-stored (near-asked x y at e (near-row ne) (near-column ne)))
+      ∙ near-stored x y at e (near-row ne) (near-column ne)
       ∙ taken-some r row column p w s (rowsLevel r cells) ne
 
-pub ruleset nearby = (near-up, near-left, near-row, near-column, served, near-in, near-bytes)
+pub ruleset nearby = (near-up, near-left, near-row, near-column, served, near-in, near-bytes, near-asked)
 
 -- ---- sizes
-pub set-within : (B : ℕ) (l : List ℤ) (k : ℕ) (v : ℤ) → ((i : ℕ) → Within B (getD l i (pos 0))) → Within B v → (i : ℕ) → Within B (getD (set l k v) i (pos 0))
+pub set-within : (B : ℕ) (l : List ℤ) (k : ℕ) (v : ℤ) → ((i : ℕ) → Within B (getD l i (pos 0))) → Within B v
+    → (i : ℕ) → Within B (getD (set l k v) i (pos 0))
 set-within B [] k v h q i = h i
 set-within B (x ∷ l) zero v h q zero = q
 set-within B (x ∷ l) zero v h q (suc i) = h (suc i)

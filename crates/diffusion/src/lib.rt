@@ -1,16 +1,28 @@
 // Diffusion: what a dot lacks of its worth is taken from the neighbours of its cell, each its share. The cells lie by
 // quarters; what becomes of them is said of the cells written row after row.
+use places::Parts;
 ghost use mathlib.Core.Path.{_≡_};
 ghost use Prim.Native.Nat.{_*_, _/_, _^_, _<_, _≤_};
 ghost use lib.ListN.{getD, set};
-ghost use lib.IntN.{pos};
+ghost use lib.IntN.{pos, _-ℤ_};
 ghost use Rattle.definition.specs.Lists.{sumTo};
 ghost use Rattle.definition.specs.Pyramid.{placeIn, inLevel};
 ghost use Rattle.definition.specs.Model.{missing};
 ghost use Rattle.definition.specs.Diffusion.{weightsOf, placesInTurn, kernelOf, weightAt, diffuse};
 ghost use Rattle.layouts.specs.Cells.{rowsLevel};
 ghost use Rattle.places.specs.Table.{places};
-ghost use Rattle.diffusion.specs.Asked.{shareTaken, CellAsked, ShareAsked, DiffuseAsked, PlaceAsked};
+ghost use Rattle.places.specs.Parts.{partsAround};
+ghost use Rattle.diffusion.specs.Asked.{
+  shareTaken,
+  isInside,
+  oneOfThree,
+  CellAsked,
+  ShareAsked,
+  DiffuseAsked,
+  TakeAsked,
+  InsideAsked,
+  PlaceAsked,
+};
 
 // The nine places in the order of the spread, a hexadecimal digit each, from the lowest digit up: the diagonals by row
 // and column (0, 2, 6, 8), then up, left, right and down (1, 3, 5, 7); last the cell itself (4), which weighs nothing.
@@ -147,11 +159,147 @@ pub fn diffuse(
     }
 }
 
+// Whether all eight neighbours of a cell lie on the map, as those of nearly every cell do.
+fn is_inside(r: usize, row: usize, column: usize) -> bool
+    requires { ⌜ r ≤ 8 ⌝ }
+    ensures { λ b. ⌜ b ≡ isInside r row column ⌝ }
+{
+    let last = sizes::pow2(r) - 1;
+    if row == 0 {
+        return false;
+    }
+    if column == 0 {
+        return false;
+    }
+    if last <= row {
+        return false;
+    }
+    column < last
+}
+
+// Of the three rows around a cell the part of row x: above, here, below.
+fn row_at(p: Parts, x: usize) -> usize
+    ensures { λ n. ⌜ n ≡ oneOfThree x (p .above) (p .row) (p .below) ⌝ }
+{
+    match x {
+        0 => p.above,
+        1 => p.row,
+        _ => p.below,
+    }
+}
+
+// Of the three columns around a cell the part of column y: left, here, right.
+fn column_at(p: Parts, y: usize) -> usize
+    ensures { λ n. ⌜ n ≡ oneOfThree y (p .left) (p .column) (p .right) ⌝ }
+{
+    match y {
+        0 => p.left,
+        1 => p.column,
+        _ => p.right,
+    }
+}
+
+// Takes a share off the residual at a place.
+fn take(cells: &mut [i64], at: usize, s: usize)
+    requires { ⌜ TakeAsked (now cells) at s ⌝ }
+    ensures { λ _. ⌜
+        now (cells .exit) ≡ set (now (cells .entry)) at (getD (now (cells .entry)) at (pos 0) -ℤ pos s)
+        ⌝ }
+{
+    let z = cells[at];
+    cells[at] = z - (s as i64);
+}
+
+// What `diffuse` does, for a cell inside the map, whose weights sum to `all`: no rim cuts a weight off, and a
+// neighbour's place is the sum of its row's part and its column's. From the cell itself, which comes last, nothing is
+// taken. Only the contract has a use for r, row and column.
+fn spread(
+    cells: &mut [i64],
+    p: Parts,
+    knit: u32,
+    all: usize,
+    r: usize,
+    row: usize,
+    column: usize,
+    d: usize,
+)
+    requires { ⌜ InsideAsked (now cells) p r row column d ⌝ }
+    requires { ⌜ all ≡ sumTo 9 (weightAt (kernelOf knit) r row column) ⌝ }
+    ensures { λ _. ⌜
+        rowsLevel r (now (cells .exit))
+        ≡ diffuse (kernelOf knit) r row column d 9 (rowsLevel r (now (cells .entry)))
+        ⌝ }
+{
+    let mut sum = 0;
+    let mut given = 0;
+    let mut n = 0;
+    while n < 9 {
+        let q = turn(n);
+        sum += knit_weight(knit, q);
+        let up_to = part(d, sum, all);
+        take(cells, row_at(p, q / 3) + column_at(p, q % 3), up_to - given);
+        given = up_to;
+        n += 1;
+    }
+}
+
+// The same for any knit. Both calls name the knit and the sum of its weights, 12 on plain cloth and 4 on ribbed: the
+// compiled code then knows every weight, and multiplies where it would divide.
+fn spread_inside(
+    cells: &mut [i64],
+    p: Parts,
+    knit: u32,
+    r: usize,
+    row: usize,
+    column: usize,
+    d: usize,
+)
+    requires { ⌜ InsideAsked (now cells) p r row column d ⌝ }
+    ensures { λ _. ⌜
+        rowsLevel r (now (cells .exit))
+        ≡ diffuse (kernelOf knit) r row column d 9 (rowsLevel r (now (cells .entry)))
+        ⌝ }
+{
+    if knit == 0 {
+        spread(cells, p, 0, 12, r, row, column, d);
+        return;
+    }
+    spread(cells, p, 1, 4, r, row, column, d);
+}
+
+// Takes d off the residuals of the neighbours of any cell: the quick way inside the map, else as at the rim. The parts
+// are those of the places around the cell.
+fn diffuse_at(
+    cells: &mut [i64],
+    table: &[u16; 1024],
+    p: Parts,
+    knit: u32,
+    r: usize,
+    row: usize,
+    column: usize,
+    d: usize,
+)
+    requires { ⌜ DiffuseAsked (now cells) r row column d ⌝ }
+    requires { ⌜ now table ≡ places ⌝ }
+    requires { ⌜ p ≡ partsAround (2 ^ r) row column ⌝ }
+    ensures { λ _. ⌜
+        rowsLevel r (now (cells .exit))
+        ≡ diffuse (kernelOf knit) r row column d 9 (rowsLevel r (now (cells .entry)))
+        ⌝ }
+{
+    if is_inside(r, row, column) {
+        spread_inside(cells, p, knit, r, row, column, d);
+        return;
+    }
+    diffuse(cells, table, knit, r, row, column, d);
+}
+
 // Places a dot at a cell, which lies at place `at` of the cells: its residual becomes 0, and what it lacks of a whole
-// dot is taken from its neighbours.
+// dot is taken from its neighbours. The parts are those of the places around the cell.
 pub fn place(
     cells: &mut [i64],
     table: &[u16; 1024],
+    p: Parts,
     knit: u32,
     r: usize,
     at: usize,
@@ -160,6 +308,7 @@ pub fn place(
 )
     requires { ⌜ PlaceAsked (now cells) r at row column ⌝ }
     requires { ⌜ now table ≡ places ⌝ }
+    requires { ⌜ p ≡ partsAround (2 ^ r) row column ⌝ }
     ensures { λ _. ⌜
         rowsLevel r (now (cells .exit))
         ≡ diffuse (kernelOf knit) r row column
@@ -169,5 +318,5 @@ pub fn place(
 {
     let d = DOT - cells[at];
     cells[at] = 0;
-    diffuse(cells, table, knit, r, row, column, d as usize);
+    diffuse_at(cells, table, p, knit, r, row, column, d as usize);
 }

@@ -27,14 +27,17 @@ use Rattle.quadtree.specs.Renewal.{Changed, renewed-right}
 use Rattle.shares.specs.Kernels.{knit-fit}
 use Rattle.dots.specs.Kept.{sound-summed, after-sound, after-away}
 use Rattle.dots.specs.Steps.{Sheet, target, step-made, row-in, column-in, owes}
-use Rattle.layouts.specs.Interleaved.{interleaved-lt}
+use Rattle.layouts.specs.Interleaved.{interleaved-lt, interleaved-any}
 use Rattle.layouts.specs.Cells.{rowsLevel, length-rows-level, rows-in, rows-cells, rows-replaced}
+use Rattle.places.specs.declared.Parts.{Parts}
+use Rattle.places.specs.Parts.{partsAround, AroundAsked, place-parts}
 use Rattle.pyramid.specs.Asked.{Within, Whole, SmallPyramid}
 use Rattle.pyramid.specs.Four.{within-mono}
 use Rattle.pyramid.specs.Small.{take-within, append-within}
 use Rattle.pyramid.specs.Turn.{tail-lent, tail-back}
 use Rattle.descent.specs.Asked.{DescentAsked}
 use Rattle.diffusion.specs.Asked.{PlaceAsked}
+use Rattle.renewal.specs.Asked.{RenewAsked}
 use Rattle.dot.specs.Asked.{DotAsked, PlaceAtAsked, NoteAsked}
 use Rattle.dot.specs.Small.{mostResidual, sound-small, places-small, rows-small, all-small}
 
@@ -92,6 +95,38 @@ module _ (r : ℕ) (p : List ℤ) (ss o : List ℕ) (dots row column : ℕ)
     unfolding placeDot
     dots' = refl
 
+  -- the parts of the places around the cell
+  module _ {side : ℕ} (es : side ≡ 2 ^ r) where
+    pub around-asked : AroundAsked side row column
+    around-asked =
+        rw es (record { most = pow-mono {i = r} {j = 8} (h .small); above = h .above; left = h .left })
+
+    pub parts-are : {parts : Parts} → parts ≡ partsAround side row column → parts ≡ partsAround (2 ^ r) row column
+    parts-are e = rw es at e
+
+  module _ {parts : Parts} (ep : parts ≡ partsAround (2 ^ r) row column) where
+    own-row : parts .row ≡ interleaved 8 row 0
+    own-row = ap (λ (p : Parts). p .row) ep ∙ unfold partsAround in refl
+
+    own-column : parts .column ≡ interleaved 8 0 column
+    own-column = ap (λ (p : Parts). p .column) ep ∙ unfold partsAround in refl
+
+    pub own-few : (parts .row < 65536) × (parts .column < 65536)
+    own-few = (
+      omega (arith, own-row, interleaved-lt 8 row 0),
+      omega (arith, own-column, interleaved-lt 8 0 column),
+    )
+
+    own-place : parts .row + parts .column ≡ interleaved r row column
+    own-place =
+        omega (
+          arith,
+          own-row,
+          own-column,
+          place-parts 8 row column,
+          interleaved-any r row column (h .small) (h .above) (h .left),
+        )
+
   -- where the cells begin
   module _ (off : ℕ) (eo : off ≡ start r) where
     pub off-in : off ≤ length p
@@ -118,8 +153,9 @@ module _ (r : ℕ) (p : List ℤ) (ss o : List ℕ) (dots row column : ℕ)
         rows-small r mostResidual (rowsLevel r lent) (length-rows-level r lent)
         (λ x y a b. rw (lent-rows, entry-drop rows r x y) (sound-small r s (h .sheet .sound) x y a b))
 
-    pub place-asked : (at : ℕ) → at ≡ start r + interleaved r row column → PlaceAsked lent r (at - off) row column
-    place-asked at ea =
+    pub place-asked : {parts : Parts} → parts ≡ partsAround (2 ^ r) row column
+        → PlaceAsked lent r (parts .row + parts .column) row column
+    place-asked ep =
         record {
           cell = record { least = h .power; most = h .small; above = h .above; left = h .left };
           whole = lent-long;
@@ -127,7 +163,7 @@ module _ (r : ℕ) (p : List ℤ) (ss o : List ℕ) (dots row column : ℕ)
           owed =
               rw (lent-rows, entry-drop rows r row column)
               (h .sheet .sound .at-most row column (h .above) (h .left));
-          place = omega (arith, ea, eo);
+          place = own-place ep;
         }
 
     -- the cells come back as e, as many as before
@@ -144,7 +180,7 @@ module _ (r : ℕ) (p : List ℤ) (ss o : List ℕ) (dots row column : ℕ)
       head-long : length (take off p) ≡ start r
       head-long = length-take-le off p off-in ∙ eo
 
-      pub back-whole : Whole back r
+      back-whole : Whole back r
       back-whole =
           rw back-is
           (record {
@@ -173,7 +209,7 @@ module _ (r : ℕ) (p : List ℤ) (ss o : List ℕ) (dots row column : ℕ)
             rw (over-e, pyramid-cells r (rowsLevel r e) x y, rows-in r e x y a b) at
             (sound-small r (after knit) (sound' knit) x y a b))
 
-        pub back-small : SmallPyramid back
+        back-small : SmallPyramid back
         back-small =
             rw back-is
             (record {
@@ -182,6 +218,18 @@ module _ (r : ℕ) (p : List ℤ) (ss o : List ℕ) (dots row column : ℕ)
                   (take-within (2 ^ 40) off p (pyramid-small r p s (h .small) (h .sheet) refl needed-long .small))
                   (λ i. within-mono mostResidual (2 ^ 40) _ (omega arith) (e-small i));
             })
+
+        pub renew-asked : {parts : Parts} → parts ≡ partsAround (2 ^ r) row column
+            → RenewAsked back r parts row column
+        renew-asked ep =
+            record {
+              whole = back-whole;
+              small = back-small;
+              some = h .power;
+              above = h .above;
+              left = h .left;
+              parts-are = ep;
+            }
 
         changed : Changed r (isNear row column) rows (rowsLevel r e)
         changed =
@@ -205,27 +253,25 @@ module _ (r : ℕ) (p : List ℤ) (ss o : List ℕ) (dots row column : ℕ)
         unfolding placeDot
         placed side es ez e₁ e₂ = rw (ez, renewed-is, e₁, e₂, es, q, lent-rows, add-one dots)
 
-  -- the number of the cell
-  module _ (side : ℕ) (es : side ≡ 2 ^ r) where
-    cell-in : row * side + column < 65536
-    cell-in = rw es (omega (arith, cell-lt (2 ^ r) row column (h .above) (h .left), cells-few r (h .small)))
+  -- the number of the cell, by row and by column
+  pub numbers-few : {side : ℕ} → side ≡ 2 ^ r
+      → (row * side + column < cellCount r) × (column * side + row < cellCount r)
+  numbers-few es =
+      rw es (cell-lt (2 ^ r) row column (h .above) (h .left), cell-lt (2 ^ r) column row (h .left) (h .above))
 
-    pub side-fits : Fits w64 (row * side)
-    side-fits = record { fits = omega (arith, cell-in) }
+  pub cells-fit : cellCount r ≤ 65536
+  cells-fit = cells-few r (h .small)
 
-    pub cell-fits : Fits w64 (row * side + column)
-    cell-fits = record { fits = omega (arith, cell-in) }
-
-    -- no knit leaves other marks: here 0 stands for them all
-    pub note-asked : NoteAsked (length ss) (length o) (row * side + column) dots
-    note-asked =
-        let room : dots < cellCount r = omega (arith, sound' 0 .few-dots, dots' 0) in
-        record {
-          at-in = rw es (omega (arith, cell-lt (2 ^ r) row column (h .above) (h .left), h .sheet .sized .serials));
-          dots-in = omega (arith, room, h .sheet .sized .order);
-          at-most = cell-in;
-          dots-most = omega (arith, room, cells-few r (h .small));
-        }
+  -- no knit leaves other marks: here 0 stands for them all
+  pub note-asked : (at : ℕ) → at < cellCount r → NoteAsked (length ss) (length o) at dots
+  note-asked at lt =
+      let room : dots < cellCount r = omega (arith, sound' 0 .few-dots, dots' 0) in
+      record {
+        at-in = omega (arith, h .sheet .sized .serials);
+        dots-in = omega (arith, room, h .sheet .sized .order);
+        at-most = omega (arith, cells-fit);
+        dots-most = omega (arith, room, cells-fit);
+      }
 
 -- ---- the walk to the cell of the next dot
 -- after an odd number of dots the next serial is even

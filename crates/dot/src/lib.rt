@@ -3,8 +3,8 @@
 ghost use mathlib.Core.Path.{_≡_};
 ghost use Prim.Native.Nat.{_+_};
 ghost use lib.ListN.{length, set};
-ghost use Rattle.definition.specs.Pyramid.{start, needed};
-ghost use Rattle.definition.specs.Quarters.{interleaved, rowsFrom};
+ghost use Rattle.definition.specs.Pyramid.{needed};
+ghost use Rattle.definition.specs.Quarters.{rowsFrom};
 ghost use Rattle.definition.specs.Diffusion.{kernelOf};
 ghost use Rattle.definition.specs.Model.{placeDot, step};
 ghost use Rattle.places.specs.Table.{places};
@@ -23,7 +23,7 @@ fn note(serials: &mut [u32], order: &mut [u32], at: usize, dots: u32)
 }
 
 // Makes the next dot on cloth of a knit at a cell that owes something, on a sound sheet of just the needed lengths. The
-// table has the places, and the cell's own is that in the whole pyramid.
+// table has the places.
 pub fn place_at(
     pyramid: &mut [i64],
     serials: &mut [u32],
@@ -41,7 +41,6 @@ pub fn place_at(
         ⌝ }
     requires { ⌜ length (now pyramid) ≡ needed r ⌝ }
     requires { ⌜ now table ≡ places ⌝ }
-    requires { ⌜ cell .at ≡ start r + interleaved r (cell .row) (cell .column) ⌝ }
     ensures { λ _. ⌜
         record {
           pyramid = rowsFrom r (now (pyramid .exit));
@@ -61,11 +60,12 @@ pub fn place_at(
 {
     let row = cell.row;
     let column = cell.column;
-    let cells = sizes::level_start(r);
-    let at = cell.at - cells;
-    diffusion::place(&mut pyramid[cells..], table, knit, r, at, row, column);
-    renewal::renew(pyramid, table, r, row, column);
     let side = sizes::pow2(r);
+    let p = places::parts_around(table, side, row, column);
+    let cells = sizes::level_start(r);
+    let at = p.row + p.column;
+    diffusion::place(&mut pyramid[cells..], table, p, knit, r, at, row, column);
+    renewal::renew(pyramid, r, p, row, column);
     note(serials, order, row * side + column, dots);
 }
 

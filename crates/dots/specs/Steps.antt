@@ -39,6 +39,23 @@ top-entry pyramid = refl
 pub top-area : (r : ℕ) (pyramid : List ℤ) → Summed r pyramid → topOf pyramid ≡ areaZ 0 0 (2 ^ r) (entry pyramid r)
 top-area r pyramid h = top-entry pyramid ∙ simp zero-mul at (entry-area r pyramid h r 0 0 0 (omega arith) (omega arith) (omega arith))
 
+-- a dot at a cell that owes something takes one dot's worth from the top
+pub dot-top : (kernel : Kernel) (fit : Fit kernel) (r : ℕ) (big : 2 ≤ 2 ^ r) (s : Halftone) → Sheet r s
+    → (row column : ℕ) → row < 2 ^ r → column < 2 ^ r → pos 0 <ℤ entry (s .pyramid) r row column
+    → topOf (placeDot kernel r s (row, column) .pyramid) ≡ topOf (s .pyramid) -ℤ pos oneDot
+dot-top kernel fit r big s sheet row column i j due =
+    let size = sheet .sized in
+    let sound = sheet .sound in
+    let took′ = took kernel fit r big s size sound row column i j due in
+    let after = placeDot kernel r s (row, column) .pyramid in
+    top-area r after (sound-summed (after-sound kernel fit r big s size sound row column i j due))
+    ∙ areaZ-ext 0 0 (2 ^ r) (entry after r) (λ x y. entry (s .pyramid) r x y -ℤ pos (took′ x y))
+    (λ x y p q. after-falls kernel fit r big s size sound row column i j due x y (omega arith) (omega arith))
+    ∙ areaZ-fall 0 0 (2 ^ r) (entry (s .pyramid) r) took′
+    ∙ ap₂ (λ (z : ℤ) (n : ℕ). z -ℤ pos n) (sym (top-area r (s .pyramid) (sound-summed sound)))
+    (fall-whole kernel r row column fit big i j (owed kernel fit r big s size sound row column i j due)
+    (owed-most kernel fit r big s size sound row column i j due))
+
 -- the dots due, without the test
 pub due-is : (t : ℤ) → dotsDue t ≡ (up t + halfDot) / oneDot
 unfolding dotsDue
@@ -114,13 +131,7 @@ module _ (kernel : Kernel) (fit : Fit kernel) (r : ℕ) (big : 2 ≤ 2 ^ r) wher
     next-away = after-away kernel fit r big s (sheet .sized) (sheet .sound) (target kernel r s .0) (target kernel r s .1) row-in column-in owes
 
     pub next-top : topOf (next .pyramid) ≡ topOf (s .pyramid) -ℤ pos oneDot
-    next-top =
-        top-area r (next .pyramid) (sound-summed (next-sheet .sound))
-        ∙ next-area 0 0 (2 ^ r) (omega arith) (omega arith)
-        ∙ ap₂ (λ (z : ℤ) (n : ℕ). z -ℤ pos n) (sym (top-area r (s .pyramid) (sound-summed (sheet .sound))))
-        (fall-whole kernel r (target kernel r s .0) (target kernel r s .1) fit big row-in column-in
-        (owed kernel fit r big s (sheet .sized) (sheet .sound) (target kernel r s .0) (target kernel r s .1) row-in column-in owes)
-        (owed-most kernel fit r big s (sheet .sized) (sheet .sound) (target kernel r s .0) (target kernel r s .1) row-in column-in owes))
+    next-top = dot-top kernel fit r big s sheet (target kernel r s .0) (target kernel r s .1) row-in column-in owes
 
     pub next-dots : next .dots ≡ suc (s .dots)
     next-dots = after-dots kernel fit r big s (sheet .sized) (sheet .sound) (target kernel r s .0) (target kernel r s .1) row-in column-in owes

@@ -1,13 +1,13 @@
 -- The list written line by line, and into a buffer that has room for it or not.
-use mathlib.Core.Path.{_≡_, sym, ap, _∙_}
+use mathlib.Core.Path.{_≡_, refl, sym, ap, _∙_}
 use mathlib.Core.List.{List, [], _∷_, _++_, append-assoc, append-nil}
-use Prim.Native.Nat.{ℕ, suc, _+_, _/_, _%_, _^_, _<_, _≤_}
+use Prim.Native.Nat.{ℕ, suc, _+_, _-_, _/_, _%_, _^_, _<_, _≤_}
 use native.Mathlib.Nat.{zero-add, add-zero, div-le-self, mod-le}
 use native.Mathlib.Numerals.{add-one}
 use native.Mathlib.Omega.{arith}
 use borrow.Author.Tests.{lt-ltb, le-ltb}
 use lib.Pow.{pow-pos, pow-mono}
-use lib.ListN.{length, getD, take, drop, length-append}
+use lib.ListN.{length, getD, take, length-append}
 use lib.Seq.{take-suc, length-take-le, append-snoc}
 use Rattle.definition.specs.Answers.{textSays, numberOf}
 use Rattle.definition.specs.Refusals.{outputShort, lowest}
@@ -15,7 +15,7 @@ use Rattle.definition.specs.Text.{comma, newline, decimal, line, TextOutcome, t
 use Rattle.definition.specs.DrillList.{dotLines}
 use Rattle.definition.specs.declared.Refusal.the-variants.{OutputShort}
 use Rattle.definition.specs.declared.TextAnswer.the-variants.{Length, Refused}
-use Rattle.decimals.specs.Writing.{fieldText, length-number, Wrote, wrote-none, wrote-append, wrote-length, sets-front, empty-front}
+use Rattle.decimals.specs.Writing.{fieldText, length-number, Wrote, wrote-none, wrote-append, sets-front}
 
 -- the list of the first `dots` cells of an order list
 unfoldable pub listText : ℕ → ℕ → List ℕ → List ℕ
@@ -66,18 +66,21 @@ pub no-dots : {l : List ℕ} {at : ℕ} (r : ℕ) → Wrote l at (dotLines r 1 [
 unfolding dotLines
 no-dots r = wrote-none
 
-module _ {l l₁ l₂ : List ℕ} {at a b : ℕ} (r : ℕ) (order : List ℕ) (j : ℕ) (h : j < length order) where
-  pub one-more-dot : Wrote l at (dotLines r 1 (take j order)) a l₁ → Wrote l₁ a (line ((j + 1) ∷ getD order j 0 / 2 ^ r ∷ getD order j 0 % 2 ^ r ∷ [])) b l₂
+module _ (r : ℕ) (order : List ℕ) (j : ℕ) (h : j < length order) where
+  -- one dot more: its line behind those of the first j
+  taken : dotLines r 1 (take (j + 1) order)
+      ≡ dotLines r 1 (take j order) ++ line ((j + 1) ∷ getD order j 0 / 2 ^ r ∷ getD order j 0 % 2 ^ r ∷ [])
+  taken =
+      let e : 1 + j ≡ j + 1 = omega arith in
+      ap (λ (k : ℕ). dotLines r 1 (take k order)) (add-one j)
+      ∙ ap (dotLines r 1) (take-suc order j 0 h)
+      ∙ dotLines-snoc r 1 (take j order) (getD order j 0)
+      ∙ rw (length-take-le j order (omega arith), e)
+
+  pub one-more-dot : {l l₁ l₂ : List ℕ} {at a b : ℕ} → Wrote l at (dotLines r 1 (take j order)) a l₁
+      → Wrote l₁ a (line ((j + 1) ∷ getD order j 0 / 2 ^ r ∷ getD order j 0 % 2 ^ r ∷ [])) b l₂
       → Wrote l at (dotLines r 1 (take (j + 1) order)) b l₂
   one-more-dot x y = rw taken (wrote-append x y)
-    where
-      taken : dotLines r 1 (take (j + 1) order) ≡ dotLines r 1 (take j order) ++ line ((j + 1) ∷ getD order j 0 / 2 ^ r ∷ getD order j 0 % 2 ^ r ∷ [])
-      taken =
-          let e : 1 + j ≡ j + 1 = omega arith in
-          ap (λ (k : ℕ). dotLines r 1 (take k order)) (add-one j)
-          ∙ ap (dotLines r 1) (take-suc order j 0 h)
-          ∙ dotLines-snoc r 1 (take j order) (getD order j 0)
-          ∙ rw (length-take-le j order (omega arith), e)
 
 -- ---- how long a line is, and where it ends
 pub length-two : (a b : ℕ) → length (line (a ∷ b ∷ [])) ≡ length (decimal a) + length (decimal b) + 2
@@ -106,28 +109,53 @@ module _ {l l₁ : List ℕ} {at next : ℕ} (r : ℕ) where
         length-number column (omega (arith, mod-le cell (2 ^ r))),
       )
 
+-- ---- lengths that are added up, each a number's digits and one byte more
+module _ {side : ℕ} (r : ℕ) (e : side ≡ 2 ^ r) {a b : ℕ} where
+  pub head-adds : (dots : ℕ) → a ≡ length (decimal dots) + 1 → b ≡ length (decimal side) + 1
+      → a + b ≡ length (line (dots ∷ 2 ^ r ∷ []))
+  head-adds dots x y = rw (← e, length-two dots side) (omega arith)
+
+  pub dot-adds : {c : ℕ} (serial cell : ℕ) → a ≡ length (decimal serial) + 1 → b ≡ length (decimal (cell / side)) + 1
+      → c ≡ length (decimal (cell % side)) + 1 → a + b + c ≡ length (line (serial ∷ cell / 2 ^ r ∷ cell % 2 ^ r ∷ []))
+  dot-adds serial cell x y z = rw (← e, length-three serial (cell / side) (cell % side)) (omega arith)
+
+pub no-dots-add : (r : ℕ) → 0 ≡ length (dotLines r 1 [])
+unfolding dotLines
+no-dots-add r = refl
+
+-- the dot with a serial stands one place before it
+module _ (r : ℕ) (order : List ℕ) (serial : ℕ) (some : 0 < serial) (h : serial ≤ length order) {a b : ℕ} where
+  pub one-more-adds : a ≡ length (dotLines r 1 (take (serial - 1) order))
+      → b ≡ length (line (serial ∷ getD order (serial - 1) 0 / 2 ^ r ∷ getD order (serial - 1) 0 % 2 ^ r ∷ []))
+      → a + b ≡ length (dotLines r 1 (take (serial + 1 - 1) order))
+  one-more-adds x y =
+      let next : serial + 1 - 1 ≡ serial - 1 + 1 = omega arith in
+      let here : serial - 1 + 1 ≡ serial = omega arith in
+      rw (next, taken r order (serial - 1) (omega arith), here, length-append) (omega arith)
+
+pub list-adds : {a b : ℕ} (r dots : ℕ) (order : List ℕ) → a ≡ length (line (dots ∷ 2 ^ r ∷ []))
+    → b ≡ length (dotLines r 1 (take dots order))
+    → a + b ≡ length (listText r dots order)
+unfolding listText
+list-adds r dots order x y = rw length-append (omega arith)
+
 -- ---- the whole list
 pub list-wrote : {l l₁ l₂ : List ℕ} {a b : ℕ} (r dots : ℕ) (order : List ℕ) → Wrote l 0 (line (dots ∷ 2 ^ r ∷ [])) a l₁ → Wrote l₁ a (dotLines r 1 (take dots order)) b l₂
     → Wrote l 0 (listText r dots order) b l₂
 unfolding listText
 list-wrote r dots order x y = wrote-append x y
 
--- first into none of the buffer's places, which tells its length; then into all of them
-module _ (list output : List ℕ) {n : ℕ} {part : List ℕ} (w : Wrote (take 0 output) 0 list n part) where
-  untouched : part ++ drop 0 output ≡ output
-  untouched = empty-front part output (wrote-length w)
-
-  long : n ≡ length list
-  long = w .place ∙ zero-add (length list)
-
-  pub list-short : length (part ++ drop 0 output) < n
-      → record { said = textSays (Refused OutputShort); output = part ++ drop 0 output } ≡ listedIn list output
+-- n is its length, worked out before: it says whether there is room
+module _ (list output : List ℕ) {n : ℕ} (long : n ≡ length list) where
+  pub list-short : length output < n
+      → record { said = textSays (Refused OutputShort); output = output } ≡ listedIn list output
   unfolding textInto lowest textSays numberOf
-  list-short h = rw (untouched, lt-ltb (length output) (length list) (omega (arith, long, ap length untouched)))
+  list-short h = rw (lt-ltb (length output) (length list) (omega arith))
 
-  pub list-written : n ≤ length (part ++ drop 0 output) → {m : ℕ} {after : List ℕ} → Wrote (part ++ drop 0 output) 0 list m after
+  pub list-written : n ≤ length output → {m : ℕ} {after : List ℕ} → Wrote output 0 list m after
       → record { said = textSays (Length m); output = after } ≡ listedIn list output
   unfolding textInto lowest textSays
-  list-written h v =
-      let room : length list ≤ length output = omega (arith, long, ap length untouched) in
-      rw (v .stored, untouched, sets-front list output room, v .place, zero-add (length list), le-ltb (length output) (length list) room)
+  list-written h w =
+      let room : length list ≤ length output = omega arith in
+      let fits = le-ltb (length output) (length list) room in
+      rw (w .stored, sets-front list output room, w .place, zero-add (length list), fits)

@@ -5,7 +5,7 @@ use definition::Refusal;
 use definition::TextAnswer;
 ghost use mathlib.Core.Path.{_≡_};
 ghost use mathlib.Core.List.{[], _∷_};
-ghost use Prim.Native.Nat.{_/_, _%_, _^_, _≤_};
+ghost use Prim.Native.Nat.{_*_, _/_, _%_, _^_, _≤_};
 ghost use lib.ListN.{length, take};
 ghost use Rattle.definition.specs.Answers.{textSays};
 ghost use Rattle.definition.specs.Text.{line};
@@ -58,12 +58,54 @@ fn put_list(out: &mut [u8], order: &[u32], dots: usize, r: usize) -> usize
     put_dots(out, at, order, dots, r)
 }
 
+// How long the first line is.
+fn head_length(dots: u64, r: usize) -> usize
+    requires { ⌜ r ≤ 8 ⌝ }
+    ensures { λ bytes. ⌜ (bytes ≡ length (line (dots ∷ 2 ^ r ∷ []))) × (bytes ≤ 42) ⌝ }
+{
+    let side = sizes::pow2(r) as u64;
+    decimals::field_length(dots) + decimals::field_length(side)
+}
+
+// How long the line of one dot is.
+fn dot_length(serial: u64, cell: u64, r: usize) -> usize
+    requires { ⌜ r ≤ 8 ⌝ }
+    ensures { λ bytes. ⌜ (bytes ≡ length (line (serial ∷ cell / 2 ^ r ∷ cell % 2 ^ r ∷ []))) × (bytes ≤ 63) ⌝ }
+{
+    let side = sizes::pow2(r) as u64;
+    decimals::field_length(serial)
+        + decimals::field_length(cell / side)
+        + decimals::field_length(cell % side)
+}
+
+// How long the lines of the first `dots` cells of the order list are.
+fn dots_length(order: &[u32], dots: usize, r: usize) -> usize
+    requires { ⌜ ListAsked r dots (length (now order)) ⌝ }
+    ensures { λ bytes. ⌜ (bytes ≡ length (dotLines r 1 (take dots (now (order .entry))))) × (bytes ≤ 63 * dots) ⌝ }
+{
+    let mut bytes: usize = 0;
+    let mut serial = 1;
+    while serial <= dots {
+        bytes += dot_length(serial as u64, order[serial - 1] as u64, r);
+        serial += 1;
+    }
+    bytes
+}
+
+// How long the whole list is, by counting digits: nothing is written.
+fn list_length(order: &[u32], dots: usize, r: usize) -> usize
+    requires { ⌜ ListAsked r dots (length (now order)) ⌝ }
+    ensures { λ bytes. ⌜ bytes ≡ length (listText r dots (now (order .entry))) ⌝ }
+{
+    head_length(dots as u64, r) + dots_length(order, dots, r)
+}
+
 // Works out the list's length, then writes it where there is room.
 fn write_list(out: &mut [u8], order: &[u32], dots: usize, r: usize) -> TextAnswer
     requires { ⌜ ListAsked r dots (length (now order)) ⌝ }
     ensures { λ a. ⌜ record { said = textSays a; output = now (out .exit) } ≡ listedIn (listText r dots (now (order .entry))) (now (out .entry)) ⌝ }
 {
-    let length = put_list(&mut out[..0], order, dots, r);
+    let length = list_length(order, dots, r);
     if out.len() < length {
         return TextAnswer::Refused(Refusal::OutputShort);
     }

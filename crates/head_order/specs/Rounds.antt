@@ -1,16 +1,16 @@
 -- Rounds, as a loop makes them: what a run keeps (`State`, with `start-state` and `next-state`), one round more
 -- (`rounds-on`), the end (`rounds-over`), and that a run ends only where no round makes a hole (`runs`).
-use mathlib.Core.Path.{_≡_, refl, sym, ap, ap₂, _∙_}
+use mathlib.Core.Path.{_≡_, refl, sym, ap, _∙_}
 use mathlib.Core.Logic.{_⊎_, inl, inr}
 use mathlib.Core.Bool.{Bool, true, false, cond}
 use mathlib.Core.List.{List, [], _∷_}
-use Prim.Native.Nat.{ℕ, zero, suc, _+_, _*_, _-_, _/_, _%_, _^_, _≤_, _<_}
+use Prim.Native.Nat.{ℕ, zero, suc, _+_, _*_, _-_, _/_, _%_, _≤_, _<_}
 use native.Mathlib.Omega.{arith}
 use native.Mathlib.Decide.{ℕ-discrete}
 use lib.Dec.{leb, eqb}
 use lib.IntN.{ℤ, pos, _+ℤ_, _-ℤ_}
 use borrow.Author.Tests.{eq-eqb, ne-eqb, leb-true, leb-false, le-leb, lt-leb}
-use Rattle.definition.specs.Pyramid.{oneDot, cellCount, entry}
+use Rattle.definition.specs.Pyramid.{oneDot, cellCount}
 use Rattle.definition.specs.Blocks.{greyTotal}
 use Rattle.definition.specs.Diffusion.{Kernel}
 use Rattle.definition.specs.Model.{Halftone, topOf, modelStart, placeDot}
@@ -26,13 +26,9 @@ use Rattle.heads.specs.TwoHeads.{
   rounds,
   mostRounds,
 }
-use Rattle.integers.specs.Linear.{zz, ints, up}
-use Rattle.quadtree.specs.Residues.{areaZ-ext, areaZ-fall}
+use Rattle.integers.specs.Linear.{zz, ints}
 use Rattle.shares.specs.Kernels.{Fit}
-use Rattle.shares.specs.Neighbours.{fall}
-use Rattle.shares.specs.Outflow.{fall-whole}
-use Rattle.dots.specs.Kept.{sound-summed, owed-most}
-use Rattle.dots.specs.Steps.{Sheet, top-area}
+use Rattle.dots.specs.Steps.{Sheet, dot-top}
 use Rattle.guarantee.specs.Demand3.{Each}
 use Rattle.guarantee.specs.Start.{start-sheet, start-capped}
 use Rattle.head_order.specs.Promise.{Fits}
@@ -41,8 +37,6 @@ use Rattle.head_order.specs.Working.{
   cell-row,
   cell-column,
   cell-owes,
-  burned-sheet,
-  burned-falls,
   burned-dots,
   work-keeps,
   work-sheet,
@@ -94,19 +88,8 @@ module _ (kernel : Kernel) (fit : Fit kernel) (r : ℕ) (four≤ : 4 ≤ r) wher
       → topOf (placeDot kernel r s (wanted r (s .pyramid) m) .pyramid) ≡ topOf (s .pyramid) -ℤ pos oneDot
   burned-top s sheet m fits b =
       let c = wanted r (s .pyramid) m in
-      let i = cell-row kernel fit r four≤ s sheet m fits b in
-      let j = cell-column kernel fit r four≤ s sheet m fits b in
-      let due = cell-owes kernel fit r four≤ s sheet m fits b in
-      let w = up (entry (s .pyramid) r (c .0) (c .1)) in
-      let most = owed-most kernel fit r (big r four≤) s (sheet .sized) (sheet .sound) (c .0) (c .1) i j due in
-      let after = burned-sheet kernel fit r four≤ s sheet m fits b in
-      top-area r (placeDot kernel r s c .pyramid) (sound-summed (after .sound))
-      ∙ areaZ-ext 0 0 (2 ^ r) (entry (placeDot kernel r s c .pyramid) r)
-      (λ x y. entry (s .pyramid) r x y -ℤ pos (fall kernel r (c .0) (c .1) w x y))
-      (λ x y p q. burned-falls kernel fit r four≤ s sheet m fits b x y (omega arith) (omega arith))
-      ∙ areaZ-fall 0 0 (2 ^ r) (entry (s .pyramid) r) (fall kernel r (c .0) (c .1) w)
-      ∙ ap₂ (λ (z : ℤ) (n : ℕ). z -ℤ pos n) (sym (top-area r (s .pyramid) (sound-summed (sheet .sound))))
-      (fall-whole kernel r (c .0) (c .1) fit (big r four≤) i j w most)
+      dot-top kernel fit r (big r four≤) s sheet (c .0) (c .1) (cell-row kernel fit r four≤ s sheet m fits b)
+      (cell-column kernel fit r four≤ s sheet m fits b) (cell-owes kernel fit r four≤ s sheet m fits b)
 
   -- the holes' worth and the debt
   abbrev pub Balance : ℤ → Halftone → Type 0

@@ -91,14 +91,6 @@ sumTo-rows (suc m) n f = rw suc-mul (omega (arith, sumTo-split (m * n) n f, sumT
 
 -- ════ integers
 
-pub sumZTo-none : (f : ℕ → ℤ) → sumZTo 0 f ≡ pos 0
-unfolding sumZTo
-sumZTo-none f = refl
-
-pub sumZTo-suc : (n : ℕ) (f : ℕ → ℤ) → sumZTo (suc n) f ≡ sumZTo n f +ℤ f n
-unfolding sumZTo
-sumZTo-suc n f = refl
-
 pub sumZTo-pos : (n : ℕ) (f : ℕ → ℕ) → sumZTo n (λ m. pos (f m)) ≡ pos (sumTo n f)
 unfolding sumTo sumZTo
 sumZTo-pos zero f = refl
@@ -118,9 +110,6 @@ pub sumZTo-ext< : (n : ℕ) (f g : ℕ → ℤ) → ((m : ℕ) → m < n → f m
 unfolding sumZTo
 sumZTo-ext< zero f g h = refl
 sumZTo-ext< (suc n) f g h = rw (sumZTo-ext< n f g (λ m k. h m (omega arith)), h n (omega arith))
-
-pub sumZTo-ext : (n : ℕ) (f g : ℕ → ℤ) → ((m : ℕ) → f m ≡ g m) → sumZTo n f ≡ sumZTo n g
-sumZTo-ext n f g h = ap (sumZTo n) (fun-ext h)
 
 pub sumZTo-split : (m n : ℕ) (f : ℕ → ℤ) → sumZTo (m + n) f ≡ sumZTo m f +ℤ sumZTo n (λ i. f (m + i))
 unfolding sumZTo

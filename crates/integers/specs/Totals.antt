@@ -1,5 +1,6 @@
--- What a loop adds up: a sum f 0 + .. + f (n − 1) with a bound, so that the next addend fits. `none` is the loop's start, `turn` one turn of it,
--- `whole` its end; with Z the same of integers, of which a machine word holds the bits: they fit (`fit`), and the number is read back (`read`).
+-- What a loop adds up: a sum f 0 + .. + f (n − 1) with a bound, so that the next addend fits. `none` is the loop's
+-- start, `turn` one turn of it, `whole` its end. An integer with a bound (`TotalZ`), of which a machine word holds the
+-- bits: they fit (`fit`), and the number is read back (`read`).
 use mathlib.Core.Path.{_≡_}
 use Prim.Native.Nat.{ℕ, _+_, _*_, _^_, _≤_, _<_}
 use native.Mathlib.Numerals.{add-one}
@@ -11,11 +12,11 @@ use lib.Signed.{_≤ℤ_, nonNeg}
 use mir.Syntax.{w64}
 use mir.Val.{Fits, SFits, toZ, ofZ}
 use mir.Facts.{toZ-ofZ}
-use Rattle.definition.specs.Lists.{sumTo, sumZTo}
+use Rattle.definition.specs.Lists.{sumTo}
 use Rattle.definition.specs.Survey.{squared}
 use Rattle.integers.specs.Linear.{add-is, natAbs-is, up-or-dn, square-natAbs, ints}
 use Rattle.integers.specs.Machine.{natAbs-fits, mul-fits, cast-asks64}
-use Rattle.integers.specs.Sums.{sumTo-none, sumTo-suc, sumZTo-none, sumZTo-suc}
+use Rattle.integers.specs.Sums.{sumTo-none, sumTo-suc}
 
 -- n is the value, and at most `most`
 pub record Total (value most n : ℕ) : Type 0 where
@@ -44,6 +45,10 @@ pub record TotalZ (value : ℤ) (most : ℕ) (z : ℤ) : Type 0 where
 natAbs-add : (x y : ℤ) → natAbs (x +ℤ y) ≤ natAbs x + natAbs y
 natAbs-add x y = omega (arith, add-is x y, natAbs-is x, natAbs-is y, natAbs-is (x +ℤ y), up-or-dn (x +ℤ y))
 
+-- the sum of two
+pub addZ : {a b : ℤ} {m n : ℕ} {x y : ℤ} → TotalZ a m x → TotalZ b n y → TotalZ (a +ℤ b) (m + n) (x +ℤ y)
+addZ {x = x} {y = y} h k = record { is = rw (h .is, k .is); small = omega (arith, natAbs-add x y, h .small, k .small) }
+
 module _ {a : ℤ} {m : ℕ} {z : ℤ} (h : TotalZ a m z) (p : m < 2 ^ 63) where
   pub fit : SFits w64 z
   fit = natAbs-fits z (omega (arith, h .small))
@@ -65,16 +70,3 @@ module _ {a : ℤ} {m : ℕ} {z : ℤ} (h : TotalZ a m z) (t : T (ltb (m * m) (2
   pub square-read : Total (squared a) (m * m) (natAbs (toZ w64 (ofZ w64 (z *ℤ z))))
   unfolding squared
   square-read = rw (toZ-ofZ square-fits, square-natAbs z) (record { is = rw (h .is); small = mul-le-mul (h .small) (h .small) })
-
-module _ (f : ℕ → ℤ) where
-  pub noneZ : (m : ℕ) → TotalZ (sumZTo 0 f) (0 * m) (pos 0)
-  noneZ m = record { is = rw (sumZTo-none f); small = omega arith }
-
-  pub turnZ : (n m : ℕ) {acc v : ℤ} → TotalZ (sumZTo n f) (n * m) acc → TotalZ (f n) m v → TotalZ (sumZTo (n + 1) f) ((n + 1) * m) (acc +ℤ v)
-  turnZ n m {acc} {v} h k = record { is = rw (h .is, k .is, add-one n, sumZTo-suc n f); small = omega (arith, natAbs-add acc v, h .small, k .small) }
-
-  pub wholeZ : (n m count : ℕ) {most : ℕ} {acc : ℤ} → n ≤ count → count ≤ n → count * m ≤ most → TotalZ (sumZTo n f) (n * m) acc → TotalZ (sumZTo count f) most acc
-  wholeZ n m count {acc = acc} p q r h =
-      let e : n ≡ count = omega arith in
-      let t : TotalZ (sumZTo count f) (count * m) acc = rw e at h in
-      record { is = t .is; small = omega (arith, t .small) }

@@ -1,8 +1,9 @@
 // Where the entries of a pyramid by quarters lie within their level.
 ghost use mathlib.Core.Path.{_≡_};
-ghost use Prim.Native.Nat.{_<_};
+ghost use Prim.Native.Nat.{_+_, _-_, _<_, min};
 ghost use Rattle.definition.specs.Quarters.{interleaved};
 ghost use Rattle.places.specs.Table.{places};
+ghost use Rattle.places.specs.Parts.{partsAround, AroundAsked};
 
 // The places of 32 by 32 entries, by row then column.
 const PLACES: [u16; 1024] = [
@@ -1056,4 +1057,69 @@ pub fn place(table: &[u16; 1024], a: usize, b: usize) -> usize
     let far = small_place(table, a / 32, b / 32);
     let near = small_place(table, a % 32, b % 32);
     1024 * far + near
+}
+
+// The row's part of a place: the place of entry (a, 0) of any level.
+pub fn row_part(table: &[u16; 1024], a: usize) -> usize
+    requires { ⌜ (now table ≡ places) × (a < 256) ⌝ }
+    ensures { λ p. ⌜ p ≡ interleaved 8 a 0 ⌝ }
+{
+    place(table, a, 0)
+}
+
+// The column's part of a place: the place of entry (0, b) of any level.
+pub fn column_part(table: &[u16; 1024], b: usize) -> usize
+    requires { ⌜ (now table ≡ places) × (b < 256) ⌝ }
+    ensures { λ p. ⌜ p ≡ interleaved 8 0 b ⌝ }
+{
+    place(table, 0, b)
+}
+
+// The row or column before x, or x where it is the first.
+pub fn before(x: usize) -> usize
+    ensures { λ n. ⌜ n ≡ x - 1 ⌝ }
+{
+    if x == 0 {
+        return 0;
+    }
+    x - 1
+}
+
+// The row or column after x, or x where it is the last of `side`.
+pub fn after(x: usize, side: usize) -> usize
+    requires { ⌜ x < side ⌝ }
+    ensures { λ n. ⌜ n ≡ min (x + 1) (side - 1) ⌝ }
+{
+    if x + 1 == side {
+        return x;
+    }
+    x + 1
+}
+
+// The parts of places around a cell: of the rows above, here and below, and of the columns left, here and right. The
+// place of a cell is its row's part and its column's, added. Where the map ends, the row or column there stands for the
+// one beyond.
+pub struct Parts {
+    pub above: usize,
+    pub row: usize,
+    pub below: usize,
+    pub left: usize,
+    pub column: usize,
+    pub right: usize,
+}
+
+// The parts around cell (row, column) of a map of side `side`.
+pub fn parts_around(table: &[u16; 1024], side: usize, row: usize, column: usize) -> Parts
+    requires { ⌜ now table ≡ places ⌝ }
+    requires { ⌜ AroundAsked side row column ⌝ }
+    ensures { λ p. ⌜ p ≡ partsAround side row column ⌝ }
+{
+    Parts {
+        above: row_part(table, before(row)),
+        row: row_part(table, row),
+        below: row_part(table, after(row, side)),
+        left: column_part(table, before(column)),
+        column: column_part(table, column),
+        right: column_part(table, after(column, side)),
+    }
 }

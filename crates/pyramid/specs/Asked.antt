@@ -7,8 +7,14 @@ use lib.IntN.{ℤ, pos, negℤ, _+ℤ_}
 use lib.Signed.{_≤ℤ_}
 use Rattle.definition.specs.Pyramid.{cellCount, needed, start, levelOf, pyramidOver}
 use Rattle.definition.specs.Blocks.{greyAt}
+use Rattle.definition.specs.Quarters.{interleaved}
+use Rattle.layouts.specs.Filling.{Filling}
 
--- the residual of a cell at the start, and the pyramid that a map starts with, row after row
+-- the residual of a cell at the start, by its number and by its row and column, and the pyramid that a map starts with,
+-- row after row
+abbrev pub residualOf : List ℕ → ℕ → ℤ
+residualOf greys i = pos (256 * getD greys i 0)
+
 abbrev pub residualAt : ℕ → List ℕ → ℕ → ℕ → ℤ
 residualAt r greys row column = pos (256 * greyAt r greys row column)
 
@@ -61,6 +67,27 @@ pub record CellsAsked (part : List ℤ) (greys r : ℕ) : Type 0 where
   pub most : r ≤ 8
   pub whole : length part ≡ cellCount r
   pub enough : cellCount r ≤ greys
+
+-- a list of the columns' parts in the places of the cells of a map of side `side`
+pub record ColumnParts (side : ℕ) (columns : List ℕ) : Type 0 where
+  pub is : (b : ℕ) → b < side → getD columns b 0 ≡ interleaved 8 0 b
+
+-- the lengths `part` and `greys` of the same, the columns' parts in the places of cells, and a row whose part is
+-- `first`
+pub record RowAsked (part : ℕ) (columns : List ℕ) (greys first row r : ℕ) : Type 0 where
+  pub most : r ≤ 8
+  pub whole : part ≡ cellCount r
+  pub enough : cellCount r ≤ greys
+  pub across : ColumnParts (2 ^ r) columns
+  pub begins : first ≡ interleaved 8 row 0
+  pub down : row < 2 ^ r
+
+-- the cells of level r from number i to j filled: a level whose first i cells have got their residuals, whatever it was
+-- before they did, now has the first j so
+pub record MoreFilled (r : ℕ) (greys : List ℕ) (i j : ℕ) (before after : List ℤ) : Type 0 where
+  pub long : length after ≡ cellCount r
+  pub more : (first : List ℤ) → Filling r (residualOf greys) first i before
+      → Filling r (residualOf greys) first j after
 
 -- a pyramid of just the needed length, and greys enough
 pub record FillAsked (part : List ℤ) (greys r : ℕ) : Type 0 where

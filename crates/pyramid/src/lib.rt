@@ -2,7 +2,7 @@
 // renewal and the test for a sound sheet take its sums of four.
 ghost use mathlib.Core.Path.{_≡_};
 ghost use mathlib.Core.List.{_++_};
-ghost use Prim.Native.Nat.{_*_, _<_, _≤_};
+ghost use Prim.Native.Nat.{_+_, _*_, _^_, _<_, _≤_};
 ghost use lib.ListN.{length, drop};
 ghost use lib.IntN.{pos};
 ghost use Rattle.definition.specs.Pyramid.{start, cellCount};
@@ -11,6 +11,7 @@ ghost use Rattle.layouts.specs.Sums.{fourFrom, coarserFrom, quartersOver};
 ghost use Rattle.places.specs.Table.{places};
 ghost use Rattle.pyramid.specs.Asked.{residualAt, fourAt, freshPyramid};
 ghost use Rattle.pyramid.specs.Asked.{FourAsked, SumsAsked, Whole, SmallCells, CellsAsked, FillAsked};
+ghost use Rattle.pyramid.specs.Asked.{ColumnParts, RowAsked, MoreFilled};
 
 // A cell's residual at the start: 256 x grey.
 fn residual(grey: u8) -> i64
@@ -19,20 +20,61 @@ fn residual(grey: u8) -> i64
     256 * (grey as i64)
 }
 
-// Fills level r, which is the whole part, with the residuals of the greys, each at the place of its cell.
+// The columns' parts in the places of the cells of a map of side `side`, found once for all rows: a cell's place is its
+// row's part and its column's, added.
+fn column_parts(table: &[u16; 1024], side: usize) -> [usize; 256]
+    requires { ⌜ side ≤ 256 ⌝ }
+    requires { ⌜ now table ≡ places ⌝ }
+    ensures { λ l. ⌜ ColumnParts side l ⌝ }
+{
+    let mut columns = [0; 256];
+    let mut b = 0;
+    while b < side {
+        columns[b] = places::column_part(table, b);
+        b += 1;
+    }
+    columns
+}
+
+// Fills one row of level r, which is the whole part, with the residuals of its greys. `first` is the row's part in the
+// places of its cells.
+fn fill_row(
+    part: &mut [i64],
+    columns: &[usize; 256],
+    greys: &[u8],
+    first: usize,
+    row: usize,
+    r: usize,
+)
+    requires { ⌜ RowAsked (length (now part)) (now columns) (length (now greys)) first row r ⌝ }
+    ensures { λ _. ⌜
+        MoreFilled r (now (greys .entry)) (row * 2 ^ r) (row * 2 ^ r + 2 ^ r) (now (part .entry)) (now (part .exit))
+        ⌝ }
+{
+    let side = sizes::pow2(r);
+    let mut column = 0;
+    while column < side {
+        let z = residual(greys[row * side + column]);
+        let at = first + columns[column];
+        part[at] = z;
+        column += 1;
+    }
+}
+
+// Fills level r, which is the whole part, with the residuals of the greys, each at the place of its cell: row after
+// row.
 fn fill_cells(part: &mut [i64], table: &[u16; 1024], greys: &[u8], r: usize)
     requires { ⌜ CellsAsked (now part) (length (now greys)) r ⌝ }
     requires { ⌜ now table ≡ places ⌝ }
     ensures { λ _. ⌜ now (part .exit) ≡ quarterLevel r (residualAt r (now (greys .entry))) ⌝ }
 {
     let side = sizes::pow2(r);
-    let count = sizes::cell_count(r);
-    let mut i = 0;
-    while i < count {
-        let z = residual(greys[i]);
-        let at = places::place(table, i / side, i % side);
-        part[at] = z;
-        i += 1;
+    let columns = column_parts(table, side);
+    let mut row = 0;
+    while row < side {
+        let first = places::row_part(table, row);
+        fill_row(part, &columns, greys, first, row, r);
+        row += 1;
     }
 }
 

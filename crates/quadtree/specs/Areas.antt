@@ -2,6 +2,7 @@
 -- at the cells of the square, and by quarters. A block of the definitions is such a square.
 use mathlib.Core.Path.{_≡_, refl, ap, _∙_}
 use Prim.Native.Nat.{ℕ, _+_, _*_, _≤_, _<_}
+use native.Mathlib.Nat.{add-zero, zero-add}
 use native.Mathlib.Omega.{arith}
 use Rattle.definition.specs.Lists.{sumTo}
 use Rattle.definition.specs.Blocks.{blockSide, blockSum}
@@ -83,6 +84,10 @@ module _ (p q n : ℕ) where
     where
       halves : (m : ℕ) → span m n (λ x. span q (n + n) (f x)) ≡ span m n (λ x. span q n (f x)) + span m n (λ x. span (q + n) n (f x))
       halves m = span-ext m n _ _ (λ x i. span-halves q n (f x)) ∙ span-add m n (λ x. span q n (f x)) (λ x. span (q + n) n (f x))
+
+pub area-one : (p q : ℕ) (f : ℕ → ℕ → ℕ) → area p q 1 f ≡ f p q
+unfolding area span sumTo
+area-one p q f = simp (add-zero, zero-add)
 
 -- a block of the definitions is the square at (a s, b s)
 pub block-area : (r : ℕ) (f : ℕ → ℕ → ℕ) (k a b : ℕ) → blockSum r f k a b ≡ area (a * blockSide r k) (b * blockSide r k) (blockSide r k) f

@@ -2,26 +2,31 @@
 use mathlib.Core.Path.{_≡_, refl, sym, ap, ap₂, _∙_}
 use mathlib.Core.Logic.{_⊎_, inl, inr}
 use mathlib.Core.Bool.{Bool, true, false, cond, _&&_, _||_}
-use mathlib.Core.List.{List, _++_}
-use Prim.Native.Nat.{ℕ, zero, suc, _+_, _*_, _-_, _^_, _≤_, _<_, min}
+use mathlib.Core.List.{List, [], _++_, append-nil}
+use Prim.Native.Nat.{ℕ, zero, suc, _+_, _*_, _-_, _/_, _^_, _≤_, _<_, min}
 use native.Mathlib.Omega.{arith}
-use native.Mathlib.Nat.{pow-succ'}
+use native.Mathlib.Nat.{pow-succ', mul-le-mul}
 use native.Mathlib.Numerals.{add-one}
 use native.Mathlib.Decide.{ℕ-discrete}
 use lib.Pow.{pow-mono}
 use lib.Dec.{T, leb, eqb}
-use lib.ListN.{take, drop}
+use lib.ListN.{length, take, drop}
+use lib.Seq.{take-all, drop-length}
 use lib.IntN.{ℤ}
 use Rattle.definition.specs.Pyramid.{start, levelOf, inLevel, entry, four}
 use Rattle.definition.specs.Quarters.{interleaved, rowOf, columnOf, rowsFrom}
 use Rattle.definition.specs.Renewal.{isNear, overThese, renewed}
 use Rattle.integers.specs.Tests.{tests, T-and, and-T, T-or, or-T, same-test}
-use Rattle.quadtree.specs.Levels.{cells-few}
+use Rattle.quadtree.specs.Levels.{start-thrice, start-mono}
 use Rattle.quadtree.specs.Renewal.{level-ext, renewed-ext}
-use Rattle.layouts.specs.Interleaved.{interleaved-any, row-interleaved, column-interleaved}
+use Rattle.layouts.specs.Interleaved.{interleaved-lt, interleaved-any, row-interleaved, column-interleaved}
 use Rattle.layouts.specs.Renewed.{quartersRenewed, Chosen, rows-renewed}
-use Rattle.pyramid.specs.Asked.{Whole, SmallPyramid}
-use Rattle.renewal.specs.Asked.{eitherOf, chosenOf, atCorners, Corners, SmallEntries, OnMap}
+use Rattle.places.specs.declared.Parts.{Parts}
+use Rattle.places.specs.Parts.{partsAround, place-parts}
+use Rattle.renewal.specs.Asked.{eitherOf, chosenOf, atCorners, over, madeUp, fourMadeUp}
+use Rattle.renewal.specs.Asked.{Corners, Rising, RenewAsked}
+use Rattle.renewal.specs.Chosen.{start-four, start-one, over-four, corners-up}
+use Rattle.renewal.specs.Made.{all-made}
 
 -- ---- rows, or columns
 -- whether x is c or one beside it
@@ -169,10 +174,6 @@ same-place r a b x y p q s t =
     let e : interleaved r a b ≡ interleaved r x y = ap₂ (interleaved r) u v in
     omega tests)
 
-four-same : {p q s t w x y z : ℕ} → p ≡ w → q ≡ x → s ≡ y → t ≡ z → (i : ℕ)
-    → chosenOf p q s t i ≡ chosenOf w x y z i
-four-same a b c d i = rw (a, b, c, d)
-
 module _ (r top low left right : ℕ) (p : top < 2 ^ r) (q : low < 2 ^ r) (s : left < 2 ^ r) (t : right < 2 ^ r) where
   corners-chosen :
       Chosen r
@@ -187,48 +188,145 @@ module _ (r top low left right : ℕ) (p : top < 2 ^ r) (q : low < 2 ^ r) (s : l
       ∙ either-and (eqb a top) (eqb a low) (eqb b left || eqb b right)))
 
 -- ---- as the code names them
-pub small-entries : (l : List ℤ) (r : ℕ) → Whole l r → SmallPyramid l → SmallEntries l r
-small-entries l r w h = record { bound = 2 ^ 40; small = h .small; room = omega (arith, cells-few r (w .most)) }
+room-first : (m : ℕ) → m ≤ 7 → 4 * 2 ^ 40 * (2 ^ m * 2 ^ m) ≤ 2 ^ 58
+room-first m le =
+    let w : 2 ^ m ≤ 2 ^ 7 = pow-mono {i = m} {j = 7} le in
+    let n : 2 ^ m * 2 ^ m ≤ 2 ^ 7 * 2 ^ 7 = mul-le-mul w w in
+    omega arith
 
--- a row or column of level r is below 256
-pub below-256 : (pyramid : List ℤ) (r x : ℕ) → Whole pyramid r → x < 2 ^ r → x < 256
-below-256 pyramid r x w lt = omega (arith, pow-mono {i = r} {j = 8} (w .most))
+module _ {pyramid : List ℤ} {r : ℕ} {parts : Parts} {row column : ℕ} (h : RenewAsked pyramid r parts row column)
+  where
+    abbrev top : ℕ
+    top = row - 1
 
-module _ (pyramid : List ℤ) (r top low left right nw ne sw se : ℕ) (w : Whole pyramid r)
-    (on : OnMap (2 ^ r) top low left right)
-    (e₁ : nw ≡ interleaved 8 top left) (e₂ : ne ≡ interleaved 8 top right)
-    (e₃ : sw ≡ interleaved 8 low left) (e₄ : se ≡ interleaved 8 low right) where
-  pub corners-are : Corners r nw ne sw se
-  corners-are =
-      record {
-        top = top;
-        low = low;
-        left = left;
-        right = right;
-        top-in = on .first-row;
-        low-in = on .second-row;
-        first = e₁ ∙ interleaved-any r top left (w .most) (on .first-row) (on .first-column);
-        second = e₂ ∙ interleaved-any r top right (w .most) (on .first-row) (on .second-column);
-        third = e₃ ∙ interleaved-any r low left (w .most) (on .second-row) (on .first-column);
-        fourth = e₄ ∙ interleaved-any r low right (w .most) (on .second-row) (on .second-column);
-      }
+    abbrev low : ℕ
+    low = min (row + 1) (2 ^ r - 1)
 
-  chosen-are : Chosen r (chosenOf nw ne sw se) (atCorners top low left right)
-  unfolding corners-are
-  chosen-are a b u v =
-      let c = corners-are in
-      four-same (c .first) (c .second) (c .third) (c .fourth) (interleaved r a b)
-      ∙ corners-chosen r top low left right (on .first-row) (on .second-row) (on .first-column) (on .second-column)
-      a b u v
+    abbrev left : ℕ
+    left = column - 1
 
-  pub corners-renewed : {z : List ℤ} → z ≡ quartersRenewed r (chosenOf nw ne sw se) pyramid
-      → rowsFrom r z ≡ renewed r (atCorners top low left right) (rowsFrom r pyramid)
-  corners-renewed e =
-      ap (rowsFrom r) e ∙ rows-renewed r _ _ pyramid chosen-are (w .long ∙ ap start (add-one r))
+    abbrev right : ℕ
+    right = min (column + 1) (2 ^ r - 1)
 
-pub renewed-around : (pyramid : List ℤ) (r side row column top low left right : ℕ) → side ≡ 2 ^ r
-    → row < 2 ^ r → column < 2 ^ r → top ≡ row - 1 → low ≡ min (row + 1) (side - 1) → left ≡ column - 1
-    → right ≡ min (column + 1) (side - 1) → {z : List ℤ}
-    → z ≡ renewed r (atCorners top low left right) pyramid → z ≡ renewed r (isNear row column) pyramid
-renewed-around pyramid r side row column top low left right es i j d₁ d₂ d₃ d₄ e =
-    e ∙ rw (d₁, d₂, d₃, d₄, es) (renewed-near r row column pyramid i j)
+    above-is : parts .above ≡ interleaved 8 top 0
+    above-is = ap (λ (p : Parts). p .above) (h .parts-are) ∙ unfold partsAround in refl
+
+    below-is : parts .below ≡ interleaved 8 low 0
+    below-is = ap (λ (p : Parts). p .below) (h .parts-are) ∙ unfold partsAround in refl
+
+    left-is : parts .left ≡ interleaved 8 0 left
+    left-is = ap (λ (p : Parts). p .left) (h .parts-are) ∙ unfold partsAround in refl
+
+    right-is : parts .right ≡ interleaved 8 0 right
+    right-is = ap (λ (p : Parts). p .right) (h .parts-are) ∙ unfold partsAround in refl
+
+    -- no number is large, and none is 0
+    pub parts-few : {cells : ℕ} → cells ≡ start r
+        → (1 ≤ cells) × (cells ≤ 21845) × (parts .above < 65536) × (parts .below < 65536) × (parts .left < 65536)
+        × (parts .right < 65536)
+    parts-few ec = (
+      omega (arith, ec, start-one r (h .some)),
+      omega (arith, ec, start-mono r 8 (h .whole .most), start-thrice 8),
+      omega (arith, above-is, interleaved-lt 8 top 0),
+      omega (arith, below-is, interleaved-lt 8 low 0),
+      omega (arith, left-is, interleaved-lt 8 0 left),
+      omega (arith, right-is, interleaved-lt 8 0 right),
+    )
+
+    pub rises : Rising pyramid (r - 1)
+    rises =
+        let n : suc (suc (r - 1)) ≡ r + 1 = omega (arith, h .some) in
+        record {
+          most = omega (arith, h .whole .most);
+          room = rw (n, h .whole .long) (omega arith);
+          bound = 2 ^ 40;
+          small = h .small .small;
+          spare = room-first (r - 1) (omega (arith, h .whole .most));
+        }
+
+    corner : (a b : ℕ) → a < 2 ^ r → b < 2 ^ r → {cells x y : ℕ} → cells ≡ start r
+        → x ≡ interleaved 8 a 0 → y ≡ interleaved 8 0 b → cells + x + y ≡ start r + interleaved r a b
+    corner a b l m ec ex ey = omega (arith, ec, ex, ey, place-parts 8 a b, interleaved-any r a b (h .whole .most) l m)
+
+    module _ {cells : ℕ} (ec : cells ≡ start r) where
+      abbrev nw : ℕ
+      nw = cells + parts .above + parts .left
+
+      abbrev ne : ℕ
+      ne = cells + parts .above + parts .right
+
+      abbrev sw : ℕ
+      sw = cells + parts .below + parts .left
+
+      abbrev se : ℕ
+      se = cells + parts .below + parts .right
+
+      corners-are : Corners r nw ne sw se
+      corners-are =
+          record {
+            top = top;
+            low = low;
+            left = left;
+            right = right;
+            top-in = omega (arith, h .above);
+            low-in = omega (arith, h .above);
+            left-in = omega (arith, h .left);
+            right-in = omega (arith, h .left);
+            nw-is = corner top left (omega (arith, h .above)) (omega (arith, h .left)) ec above-is left-is;
+            ne-is = corner top right (omega (arith, h .above)) (omega (arith, h .left)) ec above-is right-is;
+            sw-is = corner low left (omega (arith, h .above)) (omega (arith, h .left)) ec below-is left-is;
+            se-is = corner low right (omega (arith, h .above)) (omega (arith, h .left)) ec below-is right-is;
+          }
+
+      pub corners-over : Corners (r - 1) (over nw) (over ne) (over sw) (over se)
+      corners-over =
+          let n : r ≡ suc (r - 1) = omega (arith, h .some) in
+          let c : Corners (suc (r - 1)) nw ne sw se = rw n at corners-are in
+          corners-up (r - 1) c
+
+      abbrev chosen : ℕ → Bool
+      chosen =
+          chosenOf (interleaved r top left) (interleaved r top right) (interleaved r low left) (interleaved r low right)
+
+      -- a corner's place within the level of the cells, and a quarter of it
+      within : (a b : ℕ) {x : ℕ} → x ≡ start r + interleaved r a b → over x - start (r - 1) ≡ interleaved r a b / 4
+      within a b ex =
+          let n : r ≡ suc (r - 1) = omega (arith, h .some) in
+          omega (arith, ex, ap start n, start-four (r - 1))
+
+      renewed-all :
+          fourMadeUp (r - 1) (over nw) (over ne) (over sw) (over se) pyramid ≡ quartersRenewed r chosen pyramid
+      unfolding corners-are
+      renewed-all =
+          let c = corners-are in
+          let n : r ≡ suc (r - 1) = omega (arith, h .some) in
+          let l : length pyramid ≡ start (suc (suc (r - 1))) =
+          h .whole .long ∙ ap start (let m : r + 1 ≡ suc (suc (r - 1)) = omega (arith, h .some) in m) in
+          let whole = take-all (start (suc (suc (r - 1)))) pyramid (omega (arith, l)) in
+          let up =
+          over-four (interleaved r top left) (interleaved r top right) (interleaved r low left)
+          (interleaved r low right) in
+          rw (
+            within top left (c .nw-is),
+            within top right (c .ne-is),
+            within low left (c .sw-is),
+            within low right (c .se-is),
+          )
+          (ap (λ (f : ℕ → Bool). madeUp (r - 1) f pyramid) (sym up))
+          ∙ sym (all-made (r - 1) chosen pyramid (omega (arith, l)))
+          ∙ ap₂ _++_ (ap (quartersRenewed (suc (r - 1)) chosen) whole) (drop-all l)
+          ∙ append-nil (quartersRenewed (suc (r - 1)) chosen pyramid)
+          ∙ ap (λ (k : ℕ). quartersRenewed k chosen pyramid) (sym n)
+        where
+          drop-all : length pyramid ≡ start (suc (suc (r - 1))) → drop (start (suc (suc (r - 1)))) pyramid ≡ []
+          drop-all l = ap (λ (k : ℕ). drop k pyramid) (sym l) ∙ drop-length pyramid
+
+      pub renewed-around : {z : List ℤ} → z ≡ fourMadeUp (r - 1) (over nw) (over ne) (over sw) (over se) pyramid
+          → rowsFrom r z ≡ renewed r (isNear row column) (rowsFrom r pyramid)
+      renewed-around ez =
+          ap (rowsFrom r) (ez ∙ renewed-all)
+          ∙ rows-renewed r chosen (atCorners top low left right) pyramid
+          (corners-chosen r top low left right (omega (arith, h .above)) (omega (arith, h .above))
+          (omega (arith, h .left)) (omega (arith, h .left)))
+          (h .whole .long ∙ ap start (add-one r))
+          ∙ renewed-near r row column (rowsFrom r pyramid) (h .above) (h .left)

@@ -2,16 +2,18 @@
 use mathlib.Core.Path.{_≡_, refl, sym, ap, ap₂, _∙_, fun-ext}
 use mathlib.Core.Logic.{_⊎_, inl, inr}
 use mathlib.Core.Bool.{Bool, true, false, _||_}
-use Prim.Native.Nat.{ℕ, suc, _+_, _*_, _-_, _/_, _%_, _^_, _<_}
+use Prim.Native.Nat.{ℕ, suc, _+_, _*_, _-_, _/_, _%_, _≤_, _<_}
 use native.Mathlib.Omega.{arith}
 use native.Mathlib.Nat.{pow-succ'}
 use native.Mathlib.Decide.{ℕ-discrete}
 use lib.Dec.{T, eqb}
-use Rattle.definition.specs.Quarters.{interleaved, rowOf}
+use Rattle.definition.specs.Pyramid.{start}
+use Rattle.definition.specs.Quarters.{interleaved, rowOf, columnOf}
 use Rattle.integers.specs.Tests.{tests, T-or, or-T, same-test}
-use Rattle.layouts.specs.Interleaved.{interleaved-lt, row-interleaved}
+use Rattle.quadtree.specs.Levels.{start-thrice, start-suc, start-mono, quadruple}
+use Rattle.layouts.specs.Interleaved.{interleaved-lt, row-interleaved, column-interleaved}
 use Rattle.layouts.specs.Renewed.{overChosen}
-use Rattle.renewal.specs.Asked.{eitherOf, chosenOf, Four, Corners}
+use Rattle.renewal.specs.Asked.{eitherOf, chosenOf, over, Corners, InLevel}
 
 -- ---- places over places
 module _ (p i : ℕ) where
@@ -82,45 +84,72 @@ over-four nw ne sw se =
     fun-ext (λ i.
     over-or (eitherOf nw ne) (eitherOf sw se) i ∙ ap₂ _||_ (over-either nw ne i) (over-either sw se i))
 
--- ---- corners
+-- ---- corners, by places of the whole pyramid
+pub start-four : (k : ℕ) → start (suc k) ≡ 4 * start k + 1
+start-four k = omega (arith, start-thrice k, start-thrice (suc k), quadruple k)
+
+pub start-one : (k : ℕ) → 0 < k → 1 ≤ start k
+start-one k lt = omega (arith, start-mono 1 k lt, start-thrice 1)
+
 quartered : (k a b : ℕ) → interleaved (suc k) a b / 4 ≡ interleaved k (a / 2) (b / 2)
 unfolding interleaved
 quartered k a b = omega arith
 
-pub corners-above : (k nw ne sw se : ℕ) → 0 < k → Corners k nw ne sw se
-    → Corners (k - 1) (nw / 4) (ne / 4) (sw / 4) (se / 4)
-corners-above k nw ne sw se some h =
-    let z : k ≡ suc (k - 1) = omega arith in
-    let two : 2 ^ k ≡ 2 * 2 ^ (k - 1) = ap (λ (n : ℕ). 2 ^ n) z ∙ pow-succ' 2 (k - 1) in
+in-level : (k a b : ℕ) {x : ℕ} → x ≡ start k + interleaved k a b → InLevel k x
+in-level k a b e = record { from = omega arith; to = omega (arith, interleaved-lt k a b, start-suc k) }
+
+one-up : (k a b : ℕ) {x : ℕ} → x ≡ start (suc k) + interleaved (suc k) a b
+    → over x ≡ start k + interleaved k (a / 2) (b / 2)
+one-up k a b e = omega (arith, e, start-four k, quartered k a b)
+
+pub corners-up : (k : ℕ) {nw ne sw se : ℕ} → Corners (suc k) nw ne sw se
+    → Corners k (over nw) (over ne) (over sw) (over se)
+corners-up k h =
     record {
       top = h .top / 2;
       low = h .low / 2;
       left = h .left / 2;
       right = h .right / 2;
-      top-in = omega (arith, h .top-in);
-      low-in = omega (arith, h .low-in);
-      first = over z (h .top) (h .left) (h .first);
-      second = over z (h .top) (h .right) (h .second);
-      third = over z (h .low) (h .left) (h .third);
-      fourth = over z (h .low) (h .right) (h .fourth);
+      top-in = omega (arith, h .top-in, pow-succ' 2 k);
+      low-in = omega (arith, h .low-in, pow-succ' 2 k);
+      left-in = omega (arith, h .left-in, pow-succ' 2 k);
+      right-in = omega (arith, h .right-in, pow-succ' 2 k);
+      nw-is = one-up k (h .top) (h .left) (h .nw-is);
+      ne-is = one-up k (h .top) (h .right) (h .ne-is);
+      sw-is = one-up k (h .low) (h .left) (h .sw-is);
+      se-is = one-up k (h .low) (h .right) (h .se-is);
     }
-  where
-    over : k ≡ suc (k - 1) → (a b : ℕ) {p : ℕ} → p ≡ interleaved k a b
-        → p / 4 ≡ interleaved (k - 1) (a / 2) (b / 2)
-    over z a b e =
-        ap (λ (n : ℕ). n / 4) (e ∙ ap (λ (n : ℕ). interleaved n a b) z) ∙ quartered (k - 1) a b
 
-pub corners-four : (k nw ne sw se : ℕ) → Corners k nw ne sw se → Four (2 ^ k * 2 ^ k) nw ne sw se
-corners-four k nw ne sw se h =
-    record {
-      first = omega (arith, h .first, interleaved-lt k (h .top) (h .left));
-      second = omega (arith, h .second, interleaved-lt k (h .top) (h .right));
-      third = omega (arith, h .third, interleaved-lt k (h .low) (h .left));
-      fourth = omega (arith, h .fourth, interleaved-lt k (h .low) (h .right));
-      one-row = λ e.
-          let same : h .top ≡ h .low =
-          sym (row-interleaved k (h .top) (h .left) (h .top-in))
-          ∙ ap (rowOf k) (sym (h .first) ∙ e ∙ h .third)
-          ∙ row-interleaved k (h .low) (h .left) (h .low-in) in
-          h .second ∙ ap (λ (a : ℕ). interleaved k a (h .right)) same ∙ sym (h .fourth);
-    }
+module _ {k nw ne sw se : ℕ} (h : Corners k nw ne sw se) where
+  pub nw-at : InLevel k nw
+  nw-at = in-level k (h .top) (h .left) (h .nw-is)
+
+  pub ne-at : InLevel k ne
+  ne-at = in-level k (h .top) (h .right) (h .ne-is)
+
+  pub sw-at : InLevel k sw
+  sw-at = in-level k (h .low) (h .left) (h .sw-is)
+
+  pub se-at : InLevel k se
+  se-at = in-level k (h .low) (h .right) (h .se-is)
+
+  -- where the first is the last, all four are one
+  module _ (e : nw ≡ se) where
+    same-place : interleaved k (h .top) (h .left) ≡ interleaved k (h .low) (h .right)
+    same-place = omega (arith, h .nw-is, h .se-is)
+
+    same-row : h .top ≡ h .low
+    same-row =
+        sym (row-interleaved k (h .top) (h .left) (h .top-in)) ∙ ap (rowOf k) same-place
+        ∙ row-interleaved k (h .low) (h .right) (h .low-in)
+
+    same-column : h .left ≡ h .right
+    same-column =
+        sym (column-interleaved k (h .top) (h .left) (h .left-in)) ∙ ap (columnOf k) same-place
+        ∙ column-interleaved k (h .low) (h .right) (h .right-in)
+
+    pub joined-ne : ne ≡ nw
+    joined-ne = h .ne-is ∙ ap (λ (b : ℕ). start k + interleaved k (h .top) b) (sym same-column) ∙ sym (h .nw-is)
+
+    pub joined-sw : sw ≡ nw
+    joined-sw = h .sw-is ∙ ap (λ (a : ℕ). start k + interleaved k a (h .left)) (sym same-row) ∙ sym (h .nw-is)

@@ -9,6 +9,7 @@ use native.Mathlib.Decide.{ℕ-discrete, decLt}
 use lib.Dec.{T, leb, ltb, eqb}
 use lib.ListN.{length, getD, take, drop, List·getD-eq-default}
 use lib.Seq.{length-take-le, getD-take}
+use lib.Pow.{pow-mono}
 use lib.IntN.{ℤ, pos, negsuc, negℤ}
 use lib.Signed.{leZ, ltZ}
 use mir.Syntax.{w64}
@@ -27,8 +28,11 @@ use Rattle.quadtree.specs.Levels.{start-thrice, start-suc, start-mono, place-lt
 use Rattle.layouts.specs.Interleaved.{interleaved-lt, interleaved-of, row-of-lt, column-of-lt}
 use Rattle.layouts.specs.Relaid.{rows-entry, length-rows, quarters-back}
 use Rattle.layouts.specs.Lent.{rows-length, rows-take, rows-drop, rows-taken, as-quarters-part, quarters-rows}
+use Rattle.places.specs.declared.Parts.{Parts}
+use Rattle.places.specs.Parts.{partsAround, AroundAsked}
 use Rattle.pyramid.specs.Asked.{Within, Whole, SmallPyramid}
 use Rattle.pyramid.specs.Small.{zero-within}
+use Rattle.renewal.specs.Asked.{RenewAsked}
 
 module _ (z : ℤ) (fits : SFits w64 z) where
   abbrev least : Bool
@@ -265,13 +269,13 @@ module _ (side row column : ℕ) (pyramid : List ℤ) where
     pub length-part : n ≡ length (take n pyramid)
     length-part = sym (length-take-le n pyramid part-in)
 
-    pub part-whole : Whole (take n pyramid) p
+    part-whole : Whole (take n pyramid) p
     part-whole = record { most = power-small side ep; long = sym length-part ∙ en ∙ ap start (sym (add-one p)) }
 
-    pub row-on-map : row < 2 ^ p
+    row-on-map : row < 2 ^ p
     row-on-map = omega (arith, found .above, side-pow side (found .power), ap (λ (k : ℕ). 2 ^ k) ep)
 
-    pub column-on-map : column < 2 ^ p
+    column-on-map : column < 2 ^ p
     column-on-map = omega (arith, found .left, side-pow side (found .power), ap (λ (k : ℕ). 2 ^ k) ep)
 
     small-at : (i : ℕ) → Dec (i < n) → Within (2 ^ 40) (getD (take n pyramid) i (pos 0))
@@ -282,8 +286,30 @@ module _ (side row column : ℕ) (pyramid : List ℤ) where
         (unfold entriesSmall in (found .small)) i (rw n-is at lt)))
     small-at i (no ge) = rw (List·getD-eq-default (take n pyramid) (pos 0) {n = i} (omega (arith, length-part))) (zero-within (2 ^ 40))
 
-    pub part-small : SmallPyramid (take n pyramid)
+    part-small : SmallPyramid (take n pyramid)
     part-small = record { small = λ i. small-at i (decLt i n) }
+
+    -- the parts around the cell, and all that the renewal asks
+    pub around-asked : {length-side : ℕ} → length-side ≡ 2 ^ p → AroundAsked length-side row column
+    around-asked es =
+        rw es
+        (record {
+          most = pow-mono {i = p} {j = 8} (power-small side ep);
+          above = row-on-map;
+          left = column-on-map;
+        })
+
+    pub renew-asked : {length-side : ℕ} {parts : Parts} → length-side ≡ 2 ^ p
+        → parts ≡ partsAround length-side row column → RenewAsked (take n pyramid) p parts row column
+    renew-asked es eq =
+        record {
+          whole = part-whole;
+          small = part-small;
+          some = omega (arith, ep, found .power);
+          above = row-on-map;
+          left = column-on-map;
+          parts-are = rw es at eq;
+        }
 
     -- the part as it comes back, and the rest
     module _ (z : List ℤ) (ez : length z ≡ length (take n pyramid))

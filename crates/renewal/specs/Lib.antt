@@ -1,6 +1,8 @@
 pub mod Asked
-pub mod Level
+pub mod Places
+pub mod Steps
 pub mod Chosen
+pub mod Made
 pub mod Upward
 pub mod Around
 pub mod Lent

@@ -1,130 +1,118 @@
 // Renewal, as step 2 of report 265 counts it: after a dot the coarser sums over its cell and each neighbour are made
-// again, on every level up to the top. These cells are the rows `top` to `low` of the columns `left` to `right`. Three
-// rows side by side lie under two rows, or one, of every coarser level, and columns likewise: so the entries over all
-// nine cells are those over the four at the corners. The pyramid lies by quarters: only places are counted with, the
-// one over place i is i / 4, and its four lie side by side. Each entry is renewed once, level by level.
+// again, on every level up to the top. These cells lie between four corners. Three rows side by side lie under two
+// rows, or one, of every coarser level, and columns likewise: so the entries over all nine cells are those over the
+// corners. The pyramid lies by quarters: over the entry at place i of the whole pyramid is the one at (i - 1) / 4.
+use places::Parts;
 ghost use mathlib.Core.Path.{_≡_};
-ghost use Prim.Native.Nat.{_+_, _-_, _^_, _≤_, _<_, min};
-ghost use lib.ListN.{length, set, drop};
+ghost use Prim.Native.Nat.{_≤_};
+ghost use lib.ListN.{length, set};
 ghost use Rattle.definition.specs.Refusals.{powerOf};
 ghost use Rattle.definition.specs.Renewal.{isNear, renewed, isSmall, entriesSmall, renewable};
 ghost use Rattle.definition.specs.Quarters.{rowsFrom};
 ghost use Rattle.definition.specs.ByQuarters.{renewalByQuarters};
-ghost use Rattle.layouts.specs.Sums.{fourFrom};
-ghost use Rattle.layouts.specs.Renewed.{quartersRenewed};
-ghost use Rattle.places.specs.Table.{places};
-ghost use Rattle.pyramid.specs.Asked.{Whole, SmallPyramid};
-ghost use Rattle.renewal.specs.Asked.{eitherOf, chosenOf, levelRenewed, LevelGiven, Four, Corners};
-ghost use Rattle.renewal.specs.Asked.{SmallEntries, OnMap, atCorners};
+ghost use Rattle.renewal.specs.Asked.{below, over, fourMadeUp, fourRenewed, AtAsked, FourPlaces, CarryAsked};
+ghost use Rattle.renewal.specs.Asked.{Rising, InLevel, Corners, RenewAsked};
 
-// Renews the entry at place i of the level of `size` entries with which the part begins: it becomes the sum of its four
-// in the next finer level, with which the part goes on.
-fn renew_entry(part: &mut [i64], size: usize, i: usize)
-    requires { ⌜ LevelGiven (now part) size × (i < size) ⌝ }
-    ensures { λ _. ⌜
-        now (part .exit) ≡ set (now (part .entry)) i (fourFrom (drop size (now (part .entry))) i)
+// The sum of the four entries below the one at place i.
+fn four_below(pyramid: &[i64], i: usize) -> i64
+    requires { ⌜ AtAsked (now pyramid) i ⌝ }
+    ensures { λ z. ⌜ z ≡ below (now (pyramid .entry)) i ⌝ }
+{
+    pyramid::sum_of_four(pyramid, 4 * i + 1, 2)
+}
+
+// Renews the entries at four places of one level, of which some may be the same: each becomes the sum of the four below
+// it. They are named by where they lie: north west, north east, south west, south east. All are added up before one is
+// stored, so that no sum waits for a store.
+fn renew_four(pyramid: &mut [i64], nw: usize, ne: usize, sw: usize, se: usize)
+    requires { ⌜ FourPlaces (now pyramid) nw ne sw se ⌝ }
+    ensures { λ _. ⌜ now (pyramid .exit) ≡ fourRenewed (now (pyramid .entry)) nw ne sw se ⌝ }
+{
+    let first = four_below(pyramid, nw);
+    let second = four_below(pyramid, ne);
+    let third = four_below(pyramid, sw);
+    let fourth = four_below(pyramid, se);
+    pyramid[nw] = first;
+    pyramid[ne] = second;
+    pyramid[sw] = third;
+    pyramid[se] = fourth;
+}
+
+// Stores an entry's new sum, and returns that of the entry over it: the sum of its four as they were, less what the
+// entry was, and its new sum. So the levels' sums are read side by side, and only this one number goes from level to
+// level.
+fn carry(pyramid: &mut [i64], i: usize, sum: i64) -> i64
+    requires { ⌜ CarryAsked (now pyramid) i sum ⌝ }
+    ensures { λ z. ⌜
+        (now (pyramid .exit) ≡ set (now (pyramid .entry)) i sum)
+        × (z ≡ below (set (now (pyramid .entry)) i sum) (over i))
         ⌝ }
 {
-    let sum = pyramid::sum_of_four(part, size + 4 * i, 2);
-    part[i] = sum;
+    let four = four_below(pyramid, (i - 1) / 4);
+    let old = pyramid[i];
+    pyramid[i] = sum;
+    four - old + sum
 }
 
-// Renews the entries at two places, which may be one.
-fn renew_two(part: &mut [i64], size: usize, left: usize, right: usize)
-    requires { ⌜ LevelGiven (now part) size × (left < size) × (right < size) ⌝ }
-    ensures { λ _. ⌜ now (part .exit) ≡ levelRenewed size (eitherOf left right) (now (part .entry)) ⌝ }
+// Renews one entry of a level and every entry over it, up to the top.
+fn carry_up(pyramid: &mut [i64], level: usize, place: usize)
+    requires { ⌜ Rising (now pyramid) level × InLevel level place ⌝ }
+    ensures { λ _. ⌜ now (pyramid .exit) ≡ fourMadeUp level place place place place (now (pyramid .entry)) ⌝ }
 {
-    renew_entry(part, size, left);
-    if left != right {
-        renew_entry(part, size, right);
+    let mut k = level;
+    let mut i = place;
+    let mut sum = four_below(pyramid, i);
+    while 0 < k {
+        sum = carry(pyramid, i, sum);
+        i = (i - 1) / 4;
+        k -= 1;
     }
+    pyramid[0] = sum;
 }
 
-// Renews the entries at four places, two of a row and two of another, which may be the same row. They are named by
-// where they lie: north west, north east, south west, south east.
-fn renew_level(part: &mut [i64], size: usize, nw: usize, ne: usize, sw: usize, se: usize)
-    requires { ⌜ LevelGiven (now part) size × Four size nw ne sw se ⌝ }
-    ensures { λ _. ⌜ now (part .exit) ≡ levelRenewed size (chosenOf nw ne sw se) (now (part .entry)) ⌝ }
+// Renews four entries of a level, in two rows and two columns, and every entry over them, up to the top. From where
+// they are one entry on, that is one path.
+fn renew_up(pyramid: &mut [i64], level: usize, a: usize, b: usize, c: usize, d: usize)
+    requires { ⌜ Rising (now pyramid) level × Corners level a b c d ⌝ }
+    ensures { λ _. ⌜ now (pyramid .exit) ≡ fourMadeUp level a b c d (now (pyramid .entry)) ⌝ }
 {
-    renew_two(part, size, nw, ne);
-    if nw != sw {
-        renew_two(part, size, sw, se);
+    let mut k = level;
+    let mut nw = a;
+    let mut ne = b;
+    let mut sw = c;
+    let mut se = d;
+    while nw != se {
+        renew_four(pyramid, nw, ne, sw, se);
+        nw = (nw - 1) / 4;
+        ne = (ne - 1) / 4;
+        sw = (sw - 1) / 4;
+        se = (se - 1) / 4;
+        k -= 1;
     }
+    carry_up(pyramid, k, nw);
 }
 
-// Renews all levels over level k, with which the part ends, where the entries at four places of that level have
-// changed.
-fn renew_above(part: &mut [i64], k: usize, nw: usize, ne: usize, sw: usize, se: usize)
-    requires { ⌜ Whole (now part) k × SmallEntries (now part) k × Corners k nw ne sw se ⌝ }
-    ensures { λ _. ⌜ now (part .exit) ≡ quartersRenewed k (chosenOf nw ne sw se) (now (part .entry)) ⌝ }
-{
-    if 0 < k {
-        let up = sizes::level_start(k - 1);
-        let off = sizes::level_start(k);
-        renew_level(&mut part[up..], off - up, nw / 4, ne / 4, sw / 4, se / 4);
-        renew_above(&mut part[..off], k - 1, nw / 4, ne / 4, sw / 4, se / 4);
-    }
-}
-
-// Renews the coarser sums over the four cells in two rows and two columns, in a pyramid of just the needed length.
-fn renew_corners(
-    pyramid: &mut [i64],
-    table: &[u16; 1024],
-    r: usize,
-    top: usize,
-    low: usize,
-    left: usize,
-    right: usize,
-)
-    requires { ⌜ Whole (now pyramid) r × SmallPyramid (now pyramid) × OnMap (2 ^ r) top low left right ⌝ }
-    requires { ⌜ now table ≡ places ⌝ }
-    ensures { λ _. ⌜
-        rowsFrom r (now (pyramid .exit))
-        ≡ renewed r (atCorners top low left right) (rowsFrom r (now (pyramid .entry)))
-        ⌝ }
-{
-    let nw = places::place(table, top, left);
-    let ne = places::place(table, top, right);
-    let sw = places::place(table, low, left);
-    let se = places::place(table, low, right);
-    renew_above(pyramid, r, nw, ne, sw, se);
-}
-
-// The row or column before x, or x where it is the first.
-fn before(x: usize) -> usize
-    ensures { λ n. ⌜ n ≡ x - 1 ⌝ }
-{
-    if x == 0 {
-        return 0;
-    }
-    x - 1
-}
-
-// The row or column after x, or x where it is the last of `side`.
-fn after(x: usize, side: usize) -> usize
-    requires { ⌜ x < side ⌝ }
-    ensures { λ n. ⌜ n ≡ min (x + 1) (side - 1) ⌝ }
-{
-    if x + 1 == side {
-        return x;
-    }
-    x + 1
-}
-
-// Renews the coarser sums over a cell and its neighbours, in a pyramid of just the needed length.
-pub fn renew(pyramid: &mut [i64], table: &[u16; 1024], r: usize, row: usize, column: usize)
-    requires { ⌜ Whole (now pyramid) r × SmallPyramid (now pyramid) × (row < 2 ^ r) × (column < 2 ^ r) ⌝ }
-    requires { ⌜ now table ≡ places ⌝ }
+// Renews the coarser sums over a cell and its neighbours, in a pyramid of just the needed length. The parts are those
+// of the places around the cell; only the contract has a use for its row and column.
+pub fn renew(pyramid: &mut [i64], r: usize, p: Parts, row: usize, column: usize)
+    requires { ⌜ RenewAsked (now pyramid) r p row column ⌝ }
     ensures { λ _. ⌜
         rowsFrom r (now (pyramid .exit)) ≡ renewed r (isNear row column) (rowsFrom r (now (pyramid .entry)))
         ⌝ }
 {
-    let side = sizes::pow2(r);
-    let top = before(row);
-    let low = after(row, side);
-    let left = before(column);
-    let right = after(column, side);
-    renew_corners(pyramid, table, r, top, low, left, right);
+    let cells = sizes::level_start(r);
+    let nw = cells + p.above + p.left;
+    let ne = cells + p.above + p.right;
+    let sw = cells + p.below + p.left;
+    let se = cells + p.below + p.right;
+    renew_up(
+        pyramid,
+        r - 1,
+        (nw - 1) / 4,
+        (ne - 1) / 4,
+        (sw - 1) / 4,
+        (se - 1) / 4,
+    );
 }
 
 // -2^40 and 2^40: a pyramid may be lent with entries from the one to the other.
@@ -188,12 +176,9 @@ pub fn renew_lent(side: u32, row: u32, column: u32, pyramid: &mut [i64]) -> bool
     }
     let needed = sizes::needed(r);
     let table = places::table();
-    renew(
-        &mut pyramid[..needed],
-        &table,
-        r,
-        row as usize,
-        column as usize,
-    );
+    let x = row as usize;
+    let y = column as usize;
+    let p = places::parts_around(&table, sizes::pow2(r), x, y);
+    renew(&mut pyramid[..needed], r, p, x, y);
     true
 }

@@ -7,7 +7,7 @@ use lib.Dec.{leb, ltb, eqb}
 use lib.ListN.{length, getD}
 use lib.IntN.{ℤ, pos, negℤ}
 use lib.Signed.{leZ}
-use Rattle.definition.specs.Lists.{sumTo, eqZ}
+use Rattle.definition.specs.Lists.{sumTo, allTo, eqZ}
 use Rattle.definition.specs.Pyramid.{oneDot, cellCount, needed, start, entry, four}
 use Rattle.definition.specs.Blocks.{burnt}
 use Rattle.definition.specs.Diffusion.{rowNear, columnNear}
@@ -26,16 +26,25 @@ unfoldable pub entryIn : Bool → List ℤ → ℕ → ℕ → ℕ → ℤ
 entryIn true pyramid k a b = entry pyramid k a b
 entryIn false pyramid k a b = quarterEntry pyramid k a b
 
--- the place of cell i of a map of side `side`, within the level of the cells
-unfoldable pub cellPlace : Bool → ℕ → ℕ → ℕ
-cellPlace true side i = i
-cellPlace false side i = interleaved 8 (i / side) (i % side)
+-- the place of a cell within the level of the cells is the sum of two parts: that of row a of a map of side `side`,
+-- and that of column b
+unfoldable pub rowPlace : Bool → ℕ → ℕ → ℕ
+rowPlace true side a = a * side
+rowPlace false side a = interleaved 8 a 0
 
--- a cell of a map of side `side`
-pub record PlaceAsked (side i : ℕ) : Type 0 where
-  pub some : 0 < side
+unfoldable pub columnPlace : Bool → ℕ → ℕ
+columnPlace true b = b
+columnPlace false b = interleaved 8 0 b
+
+-- a row of a map of side `side`
+pub record LineAsked (side a : ℕ) : Type 0 where
   pub small : side ≤ 256
-  pub within : i < side * side
+  pub within : a < side
+
+-- a list of the parts of the first n columns
+pub record ColumnPlaces (rows : Bool) (n : ℕ) (columns : List ℕ) : Type 0 where
+  pub long : length columns ≡ 256
+  pub is : (b : ℕ) → b < n → getD columns b 0 ≡ columnPlace rows b
 
 -- ════ serials and order
 
@@ -83,12 +92,9 @@ pub record GridAsked (r pyramid serials : ℕ) : Type 0 where
 abbrev pub boundedCell : ℤ → ℕ → Bool
 boundedCell residual serial = leZ residual (pos oneDot) && (eqb (burnt serial) 0 || leZ residual (pos 0))
 
--- so for cell i, whose residual is at place `at`; and for each cell, the cells beginning at place `off`
+-- so for cell i, whose residual is at place `at`
 abbrev pub boundedAt : List ℤ → List ℕ → ℕ → ℕ → Bool
 boundedAt pyramid serials at i = boundedCell (getD pyramid at (pos 0)) (getD serials i 0)
-
-abbrev pub boundedIn : Bool → ℕ → ℕ → List ℤ → List ℕ → ℕ → Bool
-boundedIn rows side off pyramid serials i = boundedAt pyramid serials (off + cellPlace rows side i) i
 
 pub record CellAsked (at pyramid serials i : ℕ) : Type 0 where
   pub residual : at < pyramid
@@ -126,19 +132,41 @@ pub record NearPlace (side serials x y : ℕ) : Type 0 where
 abbrev pub owingCell : ℤ → ℕ → Bool
 owingCell residual near = leZ (negℤ (pos (oneDot * near))) residual
 
-abbrev pub owingAt : ℕ → List ℤ → List ℕ → ℕ → ℕ → Bool
-owingAt side pyramid serials at i =
-    owingCell (getD pyramid at (pos 0)) (sumTo 9 (nearAt side serials (i / side) (i % side)))
+abbrev pub owingAt : ℕ → List ℤ → List ℕ → ℕ → ℕ → ℕ → Bool
+owingAt side pyramid serials at row column =
+    owingCell (getD pyramid at (pos 0)) (sumTo 9 (nearAt side serials row column))
 
-abbrev pub owingIn : Bool → ℕ → ℕ → List ℤ → List ℕ → ℕ → Bool
-owingIn rows side off pyramid serials i = owingAt side pyramid serials (off + cellPlace rows side i) i
-
-pub record OwingAsked (side at pyramid serials i : ℕ) : Type 0 where
-  pub some : 0 < side
+pub record OwingAsked (side at pyramid serials row column : ℕ) : Type 0 where
   pub small : side ≤ 256
   pub cells : serials ≡ side * side
   pub residual : at < pyramid
-  pub within : i < side * side
+  pub down : row < side
+  pub across : column < side
+
+-- both bounds hold of a cell, whose residual is at place `at`; then of one whose residual is at its column's part from
+-- place `first` on; and of each such cell of a row
+unfoldable pub heldAt : ℕ → List ℤ → List ℕ → ℕ → ℕ → ℕ → Bool
+heldAt side pyramid serials at row column =
+    boundedAt pyramid serials at (row * side + column) && owingAt side pyramid serials at row column
+
+abbrev pub heldIn : ℕ → ℕ → List ℕ → List ℤ → List ℕ → ℕ → ℕ → Bool
+heldIn side first columns pyramid serials row column =
+    heldAt side pyramid serials (first + getD columns column 0) row column
+
+unfoldable pub rowHeld : ℕ → ℕ → List ℕ → List ℤ → List ℕ → ℕ → Bool
+rowHeld side first columns pyramid serials row = allTo side (heldIn side first columns pyramid serials row)
+
+-- the same of a row of a map whose cells begin at place `off`
+abbrev pub heldRow : Bool → ℕ → ℕ → List ℕ → List ℤ → List ℕ → ℕ → Bool
+heldRow rows side off columns pyramid serials row =
+    rowHeld side (off + rowPlace rows side row) columns pyramid serials row
+
+pub record RowAsked (side first : ℕ) (columns : List ℕ) (pyramid serials row : ℕ) : Type 0 where
+  pub small : side ≤ 256
+  pub cells : serials ≡ side * side
+  pub down : row < side
+  pub few : pyramid ≤ 2 ^ 20
+  pub residuals : (b : ℕ) → b < side → first + getD columns b 0 < pyramid
 
 -- ════ sums
 

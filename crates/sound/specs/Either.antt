@@ -3,7 +3,7 @@
 use mathlib.Core.Path.{_≡_, refl, sym, ap, _∙_}
 use mathlib.Core.Bool.{Bool, true, false}
 use mathlib.Core.List.{List}
-use Prim.Native.Nat.{ℕ, zero, suc, _+_, _*_, _/_, _%_, _^_, _≤_, _<_}
+use Prim.Native.Nat.{ℕ, zero, suc, _+_, _*_, _^_, _≤_, _<_}
 use native.Mathlib.Omega.{arith}
 use lib.ListN.{getD}
 use lib.IntN.{ℤ, pos}
@@ -12,10 +12,10 @@ use Rattle.definition.specs.Pyramid.{start, placeIn, rowAt, columnAt, entry}
 use Rattle.definition.specs.Quarters.{interleaved, rowOf, columnOf, quarterEntry}
 use Rattle.definition.specs.Sound.{everyEntry}
 use Rattle.integers.specs.Tests.{allTo-at, allTo-all, everyEntry-at, everyEntry-all, same-test}
-use Rattle.quadtree.specs.Levels.{place-row-column, row-lt, column-lt}
+use Rattle.places.specs.Parts.{place-parts}
 use Rattle.layouts.specs.Interleaved.{interleaved-any}
 use Rattle.layouts.specs.Relaid.{Layout, by-rows, by-quarters, rows-entry}
-use Rattle.sound.specs.Asked.{inRows, entryIn, cellPlace}
+use Rattle.sound.specs.Asked.{inRows, entryIn, rowPlace, columnPlace}
 
 -- ════ places
 
@@ -48,12 +48,6 @@ every-in rows k test =
     (λ t. everyEntry-all k test (λ a b p q.
     rw (l .row-back k a b p q, l .column-back k a b p q)
     at (allTo-at (2 ^ k * 2 ^ k) at t (placeOf rows k a b) (l .in-level k a b p q))))
-
--- so row after row
-pub every-place : (k : ℕ) (test : ℕ → ℕ → Bool)
-    → everyEntry k test ≡ allTo (2 ^ k * 2 ^ k) (λ i. test (rowAt k i) (columnAt k i))
-unfolding rowIn columnIn
-every-place k test = every-in true k test
 
 -- tests that agree at the places asked, and at the entries asked
 pub allTo-ext : (n : ℕ) (f g : ℕ → Bool) → ((i : ℕ) → i < n → f i ≡ g i) → allTo n f ≡ allTo n g
@@ -89,24 +83,22 @@ in-rows false r pyramid k a b h p q = rows-entry r pyramid k a b h p q
 
 -- ════ cells
 
-module _ (rows : Bool) (r : ℕ) (most : r ≤ 8) (i : ℕ) (lt : i < 2 ^ r * 2 ^ r) where
-  cell-place : cellPlace rows (2 ^ r) i ≡ placeOf rows r (rowAt r i) (columnAt r i)
-  cell-place = go rows
+module _ (rows : Bool) (r : ℕ) (most : r ≤ 8) (a b : ℕ) (p : a < 2 ^ r) (q : b < 2 ^ r) where
+  two-parts : rowPlace rows (2 ^ r) a + columnPlace rows b ≡ placeOf rows r a b
+  two-parts = go rows
     where
-      go : (rows : Bool) → cellPlace rows (2 ^ r) i ≡ placeOf rows r (rowAt r i) (columnAt r i)
-      go true = unfold cellPlace placeOf in sym (place-row-column r i)
+      go : (rows : Bool) → rowPlace rows (2 ^ r) a + columnPlace rows b ≡ placeOf rows r a b
+      go true = unfold rowPlace columnPlace placeOf placeIn in refl
       go false =
-          unfold cellPlace placeOf rowAt columnAt in
-          interleaved-any r (i / 2 ^ r) (i % 2 ^ r) most (unfold rowAt in row-lt r i lt)
-          (unfold columnAt in column-lt r i)
+          unfold rowPlace columnPlace placeOf in (sym (place-parts 8 a b) ∙ interleaved-any r a b most p q)
 
-  pub cell-place-lt : cellPlace rows (2 ^ r) i < 2 ^ r * 2 ^ r
-  cell-place-lt = rw cell-place (layout rows .in-level r _ _ (row-lt r i lt) (column-lt r i))
+  pub two-parts-lt : rowPlace rows (2 ^ r) a + columnPlace rows b < 2 ^ r * 2 ^ r
+  two-parts-lt = rw two-parts (layout rows .in-level r a b p q)
 
   pub cell-entry : (pyramid : List ℤ)
-      → entry (inRows rows r pyramid) r (rowAt r i) (columnAt r i)
-      ≡ getD pyramid (start r + cellPlace rows (2 ^ r) i) (pos 0)
+      → entry (inRows rows r pyramid) r a b
+      ≡ getD pyramid (start r + rowPlace rows (2 ^ r) a + columnPlace rows b) (pos 0)
   cell-entry pyramid =
-      in-rows rows r pyramid r (rowAt r i) (columnAt r i) (omega arith) (row-lt r i lt) (column-lt r i)
-      ∙ entry-placed rows pyramid r (rowAt r i) (columnAt r i)
-      ∙ ap (λ (n : ℕ). getD pyramid (start r + n) (pos 0)) (sym cell-place)
+      in-rows rows r pyramid r a b (omega arith) p q
+      ∙ entry-placed rows pyramid r a b
+      ∙ ap (λ (n : ℕ). getD pyramid n (pos 0)) (omega (arith, two-parts))

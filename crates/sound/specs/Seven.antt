@@ -1,5 +1,5 @@
 -- The seven tests together: which of them are asked after which, and what one that fails, or all, say of the sheet.
-use mathlib.Core.Path.{_≡_, _∙_}
+use mathlib.Core.Path.{_≡_, refl, _∙_}
 use mathlib.Core.Bool.{Bool, true, false, not, _&&_, _||_}
 use mathlib.Core.List.{List}
 use Prim.Native.Nat.{ℕ, _*_, _^_, _≤_, _<_}
@@ -41,20 +41,27 @@ module _ (r : ℕ) (pyramid : List ℤ) (serials : List ℕ) where
       let spent = eqb (burntAt r serials x y) 0 || leZ (entry pyramid r x y) (pos 0) in
       cell-within (entry pyramid r x y) (burntNear r serials x y) (burntNear-most r serials x y) (T-and high spent (everyEntry-at r _ s x y p q) .0) (everyEntry-at r _ t x y p q)
 
-pub summed-asked : (rows : Bool) (r : ℕ) (pyramid : List ℤ) (serials : List ℕ) {order : ℕ} {a b : Bool}
+pub summed-asked : (rows : Bool) (r : ℕ) (pyramid : List ℤ) (serials : List ℕ) {order : ℕ} {b : Bool}
     → SoundAsked r (length pyramid) (length serials) order
-    → a ≡ bounded r (inRows rows r pyramid) serials → not a ≡ false
-    → b ≡ owing r (inRows rows r pyramid) serials → not b ≡ false → SummedAsked rows pyramid r
-summed-asked rows r pyramid serials h e f g k =
+    → b ≡ (bounded r (inRows rows r pyramid) serials && owing r (inRows rows r pyramid) serials) → not b ≡ false
+    → SummedAsked rows pyramid r
+summed-asked rows r pyramid serials h e f =
+    let cells = inRows rows r pyramid in
+    let t = T-and (bounded r cells serials) (owing r cells serials) (T-true _ (held e f)) in
     record {
       most = h .most;
       whole = h .whole;
       small = λ x y p q.
           rw (← in-rows rows r pyramid r x y (omega arith) p q)
-          (cells-within r (inRows rows r pyramid) serials (T-true _ (held e f)) (T-true _ (held g k)) x y p q);
+          (cells-within r cells serials (t .0) (t .1) x y p q);
     }
 
 -- ════ one test fails, or none
+
+-- the two bounds come last in the definition, so they are tested as one
+and-assoc : (a b c : Bool) → (a && b && c) ≡ (a && (b && c))
+and-assoc true b c = refl
+and-assoc false b c = refl
 
 module _ (r : ℕ) (s : Halftone) where
   pub few-no : fewDots r (s .dots) ≡ false → false ≡ isSound r s
@@ -73,15 +80,16 @@ module _ (r : ℕ) (s : Halftone) where
   unfolding isSound
   unused-no e = rw (e, and-false)
 
-  pub bounded-no : bounded r (s .pyramid) (s .serials) ≡ false → false ≡ isSound r s
+  pub cells-no : (bounded r (s .pyramid) (s .serials) && owing r (s .pyramid) (s .serials)) ≡ false
+      → false ≡ isSound r s
   unfolding isSound
-  bounded-no e = rw (e, and-false)
+  cells-no e = rw (and-assoc _ (bounded r (s .pyramid) (s .serials)), e, and-false)
 
-  pub owing-no : owing r (s .pyramid) (s .serials) ≡ false → false ≡ isSound r s
+  pub all-but-sums : {b : Bool} → fewDots r (s .dots) ≡ true → numbered r (s .serials) (s .order) (s .dots) ≡ true
+      → counted r (s .serials) (s .dots) ≡ true → unused r (s .order) (s .dots) ≡ true
+      → (bounded r (s .pyramid) (s .serials) && owing r (s .pyramid) (s .serials)) ≡ true
+      → b ≡ summed r (s .pyramid) → b ≡ isSound r s
   unfolding isSound
-  owing-no e = rw (e, and-false)
-
-  pub all-but-sums : {b : Bool} → fewDots r (s .dots) ≡ true → numbered r (s .serials) (s .order) (s .dots) ≡ true → counted r (s .serials) (s .dots) ≡ true → unused r (s .order) (s .dots) ≡ true
-      → bounded r (s .pyramid) (s .serials) ≡ true → owing r (s .pyramid) (s .serials) ≡ true → b ≡ summed r (s .pyramid) → b ≡ isSound r s
-  unfolding isSound
-  all-but-sums e₁ e₂ e₃ e₄ e₆ e₇ e = rw (e₁, e₂, e₃, e₄, e₆, e₇) (e ∙ and-true (summed r (s .pyramid)) ∙ and-true (summed r (s .pyramid) && true))
+  all-but-sums e₁ e₂ e₃ e₄ e₅ e =
+      rw (and-assoc _ (bounded r (s .pyramid) (s .serials)), e₁, e₂, e₃, e₄, e₅)
+      (e ∙ and-true (summed r (s .pyramid)))

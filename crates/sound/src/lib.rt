@@ -1,18 +1,20 @@
 // Whether a sheet is sound: document 01's seven tests, for any contents of the three buffers, in either layout of the
 // pyramid.
 ghost use mathlib.Core.Path.{_≡_};
+ghost use mathlib.Core.Bool.{_&&_};
 ghost use Prim.Native.Nat.{_≤_, _<_, _+_, _*_, _-_};
 ghost use lib.ListN.{length, getD};
 ghost use Rattle.definition.specs.Lists.{sumTo};
 ghost use Rattle.definition.specs.Blocks.{burnt};
-ghost use Rattle.definition.specs.Sound.{fewDots, numbered, counted, unused, summed, bounded, owing, isSound, everyEntry};
+ghost use Rattle.definition.specs.Sound.{fewDots, numbered, counted, unused, summed, bounded, owing, isSound};
+ghost use Rattle.definition.specs.Sound.{everyEntry};
 ghost use Rattle.integers.specs.Totals.{Total};
 ghost use Rattle.places.specs.Table.{places};
 ghost use Rattle.sound.specs.Asked.{inRows, SoundAsked, CellsAsked, NumberedAsked, NextAsked, nextAt, freeAt};
-ghost use Rattle.sound.specs.Asked.{PlaceAsked, cellPlace, CellAsked, boundedAt, GridAsked};
-ghost use Rattle.sound.specs.Asked.{onSide, NearPlace, NearAsked, nearAt, owingCell, OwingAsked, owingAt};
+ghost use Rattle.sound.specs.Asked.{LineAsked, rowPlace, columnPlace, ColumnPlaces, CellAsked, boundedAt};
+ghost use Rattle.sound.specs.Asked.{onSide, NearPlace, NearAsked, nearAt, owingCell, OwingAsked, owingAt, heldAt};
 ghost use Rattle.sound.specs.Asked.{SumAsked, sumHolds, SidesAsked, rowSumAt, sumAt, LevelAsked, levelSummed};
-ghost use Rattle.sound.specs.Asked.{SummedAsked};
+ghost use Rattle.sound.specs.Asked.{GridAsked, RowAsked, rowHeld, SummedAsked};
 
 // What one dot is worth.
 const DOT: i64 = 65280;
@@ -96,17 +98,44 @@ fn unused(r: usize, order: &[u32], dots: u32) -> bool
     true
 }
 
-// The place of cell i of a map of side `side` within the level of the cells: the i-th one row after row, and by
-// quarters where the table has it.
-fn cell_place(rows: bool, table: &[u16; 1024], side: usize, i: usize) -> usize
-    requires { ⌜ PlaceAsked side i ⌝ }
+// The part of row a, of a map of side `side`, in the places of its cells within their level. A place is its row's part
+// and its column's, added, in either layout: so a row's part is found once for all its cells.
+fn row_place(rows: bool, table: &[u16; 1024], side: usize, a: usize) -> usize
+    requires { ⌜ LineAsked side a ⌝ }
     requires { ⌜ now table ≡ places ⌝ }
-    ensures { λ p. ⌜ p ≡ cellPlace rows side i ⌝ }
+    ensures { λ p. ⌜ p ≡ rowPlace rows side a ⌝ }
 {
     if rows {
-        return i;
+        return a * side;
     }
-    places::place(table, i / side, i % side)
+    places::row_part(table, a)
+}
+
+// The part of column b in them.
+fn column_place(rows: bool, table: &[u16; 1024], b: usize) -> usize
+    requires { ⌜ b < 256 ⌝ }
+    requires { ⌜ now table ≡ places ⌝ }
+    ensures { λ p. ⌜ p ≡ columnPlace rows b ⌝ }
+{
+    if rows {
+        return b;
+    }
+    places::column_part(table, b)
+}
+
+// The parts of all columns of a map of side `side`, found once for all rows.
+fn column_places(rows: bool, table: &[u16; 1024], side: usize) -> [usize; 256]
+    requires { ⌜ side ≤ 256 ⌝ }
+    requires { ⌜ now table ≡ places ⌝ }
+    ensures { λ l. ⌜ ColumnPlaces rows side l ⌝ }
+{
+    let mut columns = [0; 256];
+    let mut b = 0;
+    while b < side {
+        columns[b] = column_place(rows, table, b);
+        b += 1;
+    }
+    columns
 }
 
 // Whether the residual of cell i, which is at place `at`, is at most one dot, and at most 0 if the cell is burnt.
@@ -119,26 +148,6 @@ fn cell_bounded(at: usize, pyramid: &[i64], serials: &[u32], i: usize) -> bool
         return residual <= DOT;
     }
     residual <= 0
-}
-
-// Whether this holds of every cell.
-fn bounded(r: usize, rows: bool, table: &[u16; 1024], pyramid: &[i64], serials: &[u32]) -> bool
-    requires { ⌜ GridAsked r (length (now pyramid)) (length (now serials)) ⌝ }
-    requires { ⌜ now table ≡ places ⌝ }
-    ensures { λ b. ⌜ b ≡ bounded r (inRows rows r (now (pyramid .entry))) (now (serials .entry)) ⌝ }
-{
-    let side = sizes::pow2(r);
-    let cells = sizes::cell_count(r);
-    let off = sizes::level_start(r);
-    let mut i = 0;
-    while i < cells {
-        let at = off + cell_place(rows, table, side, i);
-        if !cell_bounded(at, pyramid, serials, i) {
-            return false;
-        }
-        i += 1;
-    }
-    true
 }
 
 // Whether a row or column, counted from one before the map, lies on the map.
@@ -201,31 +210,90 @@ fn is_owing(residual: i64, near: u32) -> bool
     0 - DOT * (near as i64) <= residual
 }
 
-// Whether this holds of cell i, whose residual is at place `at`.
-fn cell_owing(side: usize, at: usize, pyramid: &[i64], serials: &[u32], i: usize) -> bool
-    requires { ⌜ OwingAsked side at (length (now pyramid)) (length (now serials)) i ⌝ }
-    ensures { λ b. ⌜ b ≡ owingAt side (now (pyramid .entry)) (now (serials .entry)) at i ⌝ }
+// Whether this holds of a cell, whose residual is at place `at`. From 0 on it does, whatever is burnt: so neighbours
+// are counted only for a residual below 0.
+fn cell_owing(
+    side: usize,
+    at: usize,
+    pyramid: &[i64],
+    serials: &[u32],
+    row: usize,
+    column: usize,
+) -> bool
+    requires { ⌜ OwingAsked side at (length (now pyramid)) (length (now serials)) row column ⌝ }
+    ensures { λ b. ⌜ b ≡ owingAt side (now (pyramid .entry)) (now (serials .entry)) at row column ⌝ }
 {
-    let near = burnt_near(side, serials, i / side, i % side);
-    is_owing(pyramid[at], near)
+    let residual = pyramid[at];
+    if 0 <= residual {
+        return true;
+    }
+    let near = burnt_near(side, serials, row, column);
+    is_owing(residual, near)
 }
 
-// Whether it holds of every cell.
-fn owing(r: usize, rows: bool, table: &[u16; 1024], pyramid: &[i64], serials: &[u32]) -> bool
-    requires { ⌜ GridAsked r (length (now pyramid)) (length (now serials)) ⌝ }
-    requires { ⌜ now table ≡ places ⌝ }
-    ensures { λ b. ⌜ b ≡ owing r (inRows rows r (now (pyramid .entry))) (now (serials .entry)) ⌝ }
+// Whether both bounds hold of a cell, whose residual is at place `at`.
+fn cell_held(
+    side: usize,
+    at: usize,
+    pyramid: &[i64],
+    serials: &[u32],
+    row: usize,
+    column: usize,
+) -> bool
+    requires { ⌜ OwingAsked side at (length (now pyramid)) (length (now serials)) row column ⌝ }
+    ensures { λ b. ⌜ b ≡ heldAt side (now (pyramid .entry)) (now (serials .entry)) at row column ⌝ }
 {
-    let side = sizes::pow2(r);
-    let cells = sizes::cell_count(r);
-    let off = sizes::level_start(r);
-    let mut i = 0;
-    while i < cells {
-        let at = off + cell_place(rows, table, side, i);
-        if !cell_owing(side, at, pyramid, serials, i) {
+    if !cell_bounded(at, pyramid, serials, row * side + column) {
+        return false;
+    }
+    cell_owing(side, at, pyramid, serials, row, column)
+}
+
+// Whether they hold of every cell of a row. The residual of a cell is at the column's part from place `first` on.
+fn row_held(
+    side: usize,
+    first: usize,
+    columns: &[usize; 256],
+    pyramid: &[i64],
+    serials: &[u32],
+    row: usize,
+) -> bool
+    requires { ⌜ RowAsked side first (now columns) (length (now pyramid)) (length (now serials)) row ⌝ }
+    ensures { λ b. ⌜
+        b ≡ rowHeld side first (now (columns .entry)) (now (pyramid .entry)) (now (serials .entry)) row
+        ⌝ }
+{
+    let mut column = 0;
+    while column < side {
+        let at = first + columns[column];
+        if !cell_held(side, at, pyramid, serials, row, column) {
             return false;
         }
-        i += 1;
+        column += 1;
+    }
+    true
+}
+
+// Whether they hold of every cell, row after row.
+fn cells_held(r: usize, rows: bool, table: &[u16; 1024], pyramid: &[i64], serials: &[u32]) -> bool
+    requires { ⌜ GridAsked r (length (now pyramid)) (length (now serials)) ⌝ }
+    requires { ⌜ now table ≡ places ⌝ }
+    ensures { λ b. ⌜
+        b
+        ≡ (bounded r (inRows rows r (now (pyramid .entry))) (now (serials .entry))
+        && owing r (inRows rows r (now (pyramid .entry))) (now (serials .entry)))
+        ⌝ }
+{
+    let side = sizes::pow2(r);
+    let off = sizes::level_start(r);
+    let columns = column_places(rows, table, side);
+    let mut row = 0;
+    while row < side {
+        let first = off + row_place(rows, table, side, row);
+        if !row_held(side, first, &columns, pyramid, serials, row) {
+            return false;
+        }
+        row += 1;
     }
     true
 }
@@ -335,10 +403,7 @@ pub fn is_sound(
     if !unused(r, order, dots) {
         return false;
     }
-    if !bounded(r, rows, table, pyramid, serials) {
-        return false;
-    }
-    if !owing(r, rows, table, pyramid, serials) {
+    if !cells_held(r, rows, table, pyramid, serials) {
         return false;
     }
     summed(r, rows, pyramid)

@@ -1,5 +1,6 @@
+pub mod Within
 pub mod Asked
 pub mod Errors
+pub mod Walk
 pub mod Levels
-pub mod Nine
 pub mod Calls

@@ -1,57 +1,67 @@
-//! Two heads beside one: the processor time that the library needs for Two Heads, and for Load and one Advance to the
-//! end, on the same greys.
+//! Two heads beside one: the library's Two Heads, and its Load and Advance to the end, on the same greys and on plain
+//! cloth. What they leave isn't the same, so either is compared with what another made: the reference for two heads,
+//! and `plain` for one.
 
-use crate::{median_of, Buffers, RUNS, SIDE};
-use rulmedei::PLAIN;
+use crate::buffers::Buffers;
+use crate::clock::{timed, Time};
+use crate::engines::{Engine, LIBRARY, PLAIN};
+use crate::table::{grouped, Row, MILLISECONDS};
+use crate::turns::{in_turn, Runner};
+use crate::{sampled, PLAIN_CLOTH, POWER, SIDE};
 
-extern "C" {
-    /// C's own: the processor time of this process so far, on Linux in microseconds.
-    fn clock() -> std::ffi::c_long;
+pub fn rows() -> Vec<Row> {
+    let greys = sampled(POWER);
+    vec![row("seed 1", &greys), row("all greys 240", &vec![240; greys.len()])]
 }
 
-fn processor_seconds() -> f64 {
-    // SAFETY: it takes no arguments and asks nothing of its caller.
-    unsafe { clock() as f64 / 1_000_000.0 }
-}
-
-/// The medians of runs that alternate, every buffer cleared before each, and their ratio, on plain cloth.
-pub fn measure(name: &str, greys: &[u8]) {
-    let (mut one, mut two) = (Vec::new(), Vec::new());
-    let mut holes = [0, 0];
-    for _ in 0..RUNS {
-        let (seconds, made) = timed(|b| one_head(greys, b));
-        one.push(seconds);
-        holes[0] = made;
-        let (seconds, made) = timed(|b| two_heads(greys, b));
-        two.push(seconds);
-        holes[1] = made;
-    }
-    let [one, two] = [one, two].map(median_of);
-    println!(
-        "two heads, plain, {name}: {:.3} ms of processor time and {} holes, one head: {:.3} ms and {} holes, ratio {:.2}",
-        1000.0 * two,
-        holes[1],
-        1000.0 * one,
-        holes[0],
-        two / one
+fn row(name: &str, greys: &[u8]) -> Row {
+    let expected = [by_reference(greys), one_head(PLAIN, greys).1];
+    let checked = |heads: usize, (time, made): (Time, Made)| {
+        assert!(made == expected[heads], "{name}: the library has burnt something else");
+        ([time], ())
+    };
+    let (times, ()) = in_turn(
+        Runner { name: "two heads", run: &|| checked(0, two_heads(greys)) },
+        &[Runner { name: "one head", run: &|| checked(1, one_head(LIBRARY, greys)) }],
     );
+    let holes = expected.map(|made| grouped(made.holes as usize));
+    Row {
+        what: format!("Two Heads, {name}, {} holes", holes[0]),
+        unit: MILLISECONDS,
+        library: times[0][0],
+        beside: format!("library, one head, {} holes", holes[1]),
+        other: times[1][0],
+    }
 }
 
-/// The processor time of something that is done on cleared buffers, and the holes that it makes.
-fn timed(done: impl Fn(&mut Buffers) -> u32) -> (f64, u32) {
-    let mut buffers = Buffers::cleared();
-    let start = processor_seconds();
-    let holes = done(&mut buffers);
-    (processor_seconds() - start, holes)
+/// The holes made, and the buffers then.
+#[derive(PartialEq)]
+struct Made {
+    holes: u32,
+    buffers: Buffers,
 }
 
-fn one_head(greys: &[u8], b: &mut Buffers) -> u32 {
-    let loaded = rulmedei::load(SIDE, PLAIN, greys, &mut b.pyramid, &mut b.serials, &mut b.order).expect("load");
-    let end = rulmedei::advance(loaded, u32::MAX, &mut b.pyramid, &mut b.serials, &mut b.order).expect("advance");
-    end.progress.dots
+fn one_head(engine: Engine, greys: &[u8]) -> (Time, Made) {
+    let mut buffers = Buffers::cleared(POWER);
+    let (time, holes) = timed(|| {
+        (engine.load)(POWER, PLAIN_CLOTH, greys, &mut buffers);
+        (engine.advance)(POWER, PLAIN_CLOTH, 0, u32::MAX, &mut buffers)
+    });
+    (time, Made { holes, buffers })
 }
 
-fn two_heads(greys: &[u8], b: &mut Buffers) -> u32 {
-    let end = rulmedei::two_heads(SIDE, PLAIN, greys, &mut b.pyramid, &mut b.serials, &mut b.order).expect("two heads");
-    end.holes
+fn two_heads(greys: &[u8]) -> (Time, Made) {
+    let mut buffers = Buffers::cleared(POWER);
+    let b = &mut buffers;
+    let (time, end) =
+        timed(|| rulmedei::two_heads(SIDE, rulmedei::PLAIN, greys, &mut b.pyramid, &mut b.serials, &mut b.order));
+    (time, Made { holes: end.expect("two heads").holes, buffers })
+}
+
+fn by_reference(greys: &[u8]) -> Made {
+    let mut buffers = Buffers::cleared(POWER);
+    let b = &mut buffers;
+    let end = reference::two_heads(SIDE, reference::PLAIN, greys, &mut b.pyramid, &mut b.serials, &mut b.order);
+    assert_eq!(end.status, Ok(()));
+    Made { holes: end.holes, buffers }
 }

@@ -168,6 +168,8 @@ pub fn load(
 /// an even serial to the last. The record's knit says what the cells around a hole bear, and stays. What does not
 /// divide evenly among them follows from sums rounded down: over the corners by row then column, then up, left, right,
 /// down.
+/// Every call tests the whole sheet first, which takes as long as a thousand holes or more at side 256: so ask for many
+/// holes in one call and take them from the order list one by one, rather than for one hole a call.
 /// Refusals: 1, 11, 3, 4, 5.
 pub fn advance(
     progress: Progress,

@@ -11,6 +11,7 @@ candidate-at-spec =
     (tie.spec
     (λ c. search needs)
     (λ c. search needs)
+    (λ c. search needs)
     (λ c.
     let g = c .before .args in
-    candidate-is (g .pyramid .now) (g .place) (g .a) (g .b) (back64 _ (c .sum .given))))
+    candidate-is (g .pyramid .now) (g .first) (g .quarter) (back64 _ (c .sum .given))))

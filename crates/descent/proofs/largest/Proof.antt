@@ -1,7 +1,7 @@
 -- `descent::largest`.
 use borrow.Author.Needs.{needs}
 use Rattle.descent.specs.Asked.{largestOf}
-use Rattle.descent.specs.Walk.{sum-small}
+use Rattle.descent.specs.Walk.{taken-is, sum-small}
 use Rattle.descent.proofs.largest.Statement.{statement}
 use Rattle.descent.proofs.largest.Tie as tie
 
@@ -10,22 +10,11 @@ unfolding largestOf
 largest-spec =
     tie.close
     (tie.spec
-    (λ c. search needs)
-    (λ c. search needs)
-    (λ c. search needs)
-    (λ c. search needs)
     (λ c κs. search needs)
-    (λ c. search needs)
-    (λ c. search needs)
     (λ c κs. search needs)
-    (λ c. search needs)
-    (λ c. search needs)
     (λ c κs. search needs)
-    (λ c. search needs)
-    (λ c. search needs)
-    (λ c. search needs)
     (λ c κs. search needs)
     (λ c κs. search (sum-small, needs))
     (λ c κs. search (sum-small, needs))
     (λ c κs. search (sum-small, needs))
-    (λ c. cc))
+    (λ c. taken-is _ _ _ (cc)))

@@ -25,5 +25,5 @@ place-spec =
     (λ c. search (cell-in, needs))
     (λ c. (search (lack-sign, needs), search (lack-word, needs)))
     (λ c κs. (search (lack-asked, needs), search needs))
-    (λ c. c .before .diffuse .kept .0 ∙ simp length-set)
+    (λ c. c .before .diffuse-at .kept .0 ∙ simp length-set)
     (λ c. search (burnt, needs)))

@@ -6,7 +6,7 @@ use Rattle.dot.proofs.place_dot.Tie as tie
 
 -- the walk ends at the cell that the definition's step takes, by the turn of the serial
 reached : tie.Need-place-at-requires
-reached c κs = (search (reached-asked, needs), (search needs, (search needs, search needs)))
+reached c κs = (search (reached-asked, needs), (search needs, search needs))
 
 -- the sheet is the one that the definition's step leaves
 stepped : tie.Need-returns

@@ -12,10 +12,7 @@ pub write-list-spec : {M : Type 1} → statement M
 write-list-spec =
     tie.close
     (tie.spec
-    (λ c. search needs)
-    (λ c. search needs)
     (λ c κs. search needs)
-    (λ c. search needs)
     (λ c. search (list-short, needs))
     (λ c κs. search needs)
     (λ c. search needs)

@@ -31,9 +31,9 @@ burning c κs =
     let seen = due .before .before in
     let start = seen .before .before .before .before in (
       place-asked (start .args .knit) _ _ _ _ _ _ _ (start .pre .0) (start .pre .1 .0) (start .pre .1 .1 .0)
-          (seen .debt-of .ensures) (due .if1 .left) _ _ (walk .descend .ensures .0) (rim .lies-clear .ensures)
+          (seen .debt-of .ensures) (due .if1 .left) _ _ (walk .descend .ensures) (rim .lies-clear .ensures)
           (clears .if2 .left),
-      (start .pre .1 .1 .0, (start .pre .1 .1 .1, walk .descend .ensures .1)),
+      (start .pre .1 .1 .0, start .pre .1 .1 .1),
     )
 
 counted : tie.Need-add-result
@@ -45,7 +45,7 @@ counted c =
     let seen = due .before .before in
     let start = seen .before .before .before .before in
     one-fits (start .args .knit) _ _ _ _ _ _ _ (start .pre .0) (start .pre .1 .0) (start .pre .1 .1 .0)
-    (seen .debt-of .ensures) (due .if1 .left) _ _ (walk .descend .ensures .0) (rim .lies-clear .ensures)
+    (seen .debt-of .ensures) (due .if1 .left) _ _ (walk .descend .ensures) (rim .lies-clear .ensures)
     (clears .if2 .left)
 
 cell-burnt : tie.Need-returns-3
@@ -57,7 +57,7 @@ cell-burnt c =
     let seen = due .before .before in
     let start = seen .before .before .before .before in
     burnt _ _ _ _ _ _ _ _ (start .pre .0) (start .pre .1 .0) (start .pre .1 .1 .0) (seen .debt-of .ensures)
-    (due .if1 .left) _ _ (walk .descend .ensures .0) (rim .lies-clear .ensures) (clears .if2 .left)
+    (due .if1 .left) _ _ (walk .descend .ensures) (rim .lies-clear .ensures) (clears .if2 .left)
     (c .before .before .before .before .before .place-at .ensures)
 
 pub work-spec : {M : Type 1} → statement M

@@ -1,7 +1,7 @@
 -- `renewal::renew`.
 use native.Mathlib.Omega.{arith}
 use borrow.Author.Needs.{needs}
-use Rattle.renewal.specs.Around.{renewed-around}
+use Rattle.renewal.specs.Around.{parts-few, rises, corners-over, renewed-around}
 use Rattle.renewal.proofs.renew.Statement.{statement}
 use Rattle.renewal.proofs.renew.Tie as tie
 
@@ -9,23 +9,29 @@ pub renew-spec : {M : Type 1} → statement M
 renew-spec =
     tie.close
     (tie.spec
-    (λ c κs. search needs)
-    (λ c κs. search needs)
-    (λ c κs. search needs)
-    (λ c κs. search needs)
-    (λ c κs. search needs)
-    (λ c κs. (
-      (
-        search needs,
-        search needs,
-        record {
-          first-row = omega arith;
-          second-row = omega arith;
-          first-column = omega arith;
-          second-column = omega arith;
-        },
-      ),
-      search needs,
-    ))
+    (λ c κs. omega (arith, c .pre .whole .most))
+    (λ c. let s = c .before in omega (arith, parts-few (s .before .pre) (s .level-start .ensures)))
+    (λ c. let s = c .before .before in omega (arith, parts-few (s .before .pre) (s .level-start .ensures)))
+    (λ c. let s = c .before .before .before in omega (arith, parts-few (s .before .pre) (s .level-start .ensures)))
+    (λ c. let s = c .before .before .before .before in
+    omega (arith, parts-few (s .before .pre) (s .level-start .ensures)))
+    (λ c. let s = c .before .before .before .before .before in
+    omega (arith, parts-few (s .before .pre) (s .level-start .ensures)))
+    (λ c. let s = c .before .before .before .before .before .before in
+    omega (arith, parts-few (s .before .pre) (s .level-start .ensures)))
+    (λ c. let s = c .before .before .before .before .before .before .before in
+    omega (arith, parts-few (s .before .pre) (s .level-start .ensures)))
+    (λ c. let s = c .before .before .before .before .before .before .before .before in
+    omega (arith, parts-few (s .before .pre) (s .level-start .ensures)))
+    (λ c. search needs)
+    (λ c. let s = c .before .before .before .before .before .before .before .before .before in
+    omega (arith, parts-few (s .before .pre) (s .level-start .ensures)))
+    (λ c. let s = c .before .before .before .before .before .before .before .before .before in
+    omega (arith, parts-few (s .before .pre) (s .level-start .ensures)))
+    (λ c. let s = c .before .before .before .before .before .before .before .before .before in
+    omega (arith, parts-few (s .before .pre) (s .level-start .ensures)))
+    (λ c. let s = c .before .before .before .before .before .before .before .before .before in
+    omega (arith, parts-few (s .before .pre) (s .level-start .ensures)))
+    (λ c κs. (search (rises, needs), search (corners-over, needs)))
     (λ c. search needs)
     (λ c. search (renewed-around, needs)))

@@ -1,8 +1,7 @@
 -- `renewal::renew_lent`: nothing where the renewal can't be made, and else the renewal of the needed part.
 use borrow.Author.Needs.{needs}
 use Rattle.refusals.specs.Powers.{power-small}
-use Rattle.renewal.specs.Lent.{left-alone, part-in, length-part, part-whole, part-small, row-on-map}
-use Rattle.renewal.specs.Lent.{column-on-map, made}
+use Rattle.renewal.specs.Lent.{left-alone, part-in, length-part, around-asked, renew-asked, made}
 use Rattle.renewal.proofs.renew_lent.Statement.{statement}
 use Rattle.renewal.proofs.renew_lent.Tie as tie
 
@@ -16,16 +15,10 @@ renew-lent-spec =
     (λ c. search (left-alone, needs))
     (λ c κs. search (power-small, needs))
     (λ c κs. search needs)
+    (λ c κs. search (power-small, needs))
+    (λ c κs. (search needs, search (around-asked, needs)))
     (λ c. search (part-in, needs))
     (λ c. search (length-part, needs))
-    (λ c κs. (
-      (
-        search (part-whole, needs),
-        search (part-small, needs),
-        search (row-on-map, needs),
-        search (column-on-map, needs),
-      ),
-      search needs,
-    ))
+    (λ c κs. search (renew-asked, needs))
     (λ c. search needs)
     (λ c. search (made, c .before .renew .kept .0, needs)))

@@ -1,6 +1,6 @@
--- `sound::cell_owing`: the count is that of the definition.
+-- `sound::cell_owing`: from 0 on nothing is counted; below it the count is that of the definition.
 use borrow.Author.Needs.{needs}
-use Rattle.sound.specs.Cells.{near-asked, owing-near}
+use Rattle.sound.specs.Cells.{near-asked, owing-near, owing-positive}
 use Rattle.sound.proofs.cell_owing.Statement.{statement}
 use Rattle.sound.proofs.cell_owing.Tie as tie
 
@@ -10,8 +10,7 @@ cell-owing-spec =
     (tie.spec
     (λ c. search needs)
     (λ c. search needs)
+    (λ c. search (owing-positive, needs))
     (λ c κs. search (near-asked, needs))
-    (λ c. search needs)
-    (λ c. search needs)
     (λ c κs. search needs)
     (λ c. search (owing-near, needs)))

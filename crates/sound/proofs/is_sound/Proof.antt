@@ -1,6 +1,7 @@
 -- `sound::is_sound`: a test that fails decides; the sums, which need the bounds, come last.
 use borrow.Author.Needs.{needs}
-use Rattle.sound.specs.Seven.{numbered-asked, summed-asked, few-no, numbered-no, counted-no, unused-no, bounded-no, owing-no, all-but-sums}
+use Rattle.sound.specs.Seven.{numbered-asked, summed-asked, few-no, numbered-no, counted-no, unused-no}
+use Rattle.sound.specs.Seven.{cells-no, all-but-sums}
 use Rattle.integers.specs.Loops.{held, failed}
 use Rattle.sound.proofs.is_sound.Statement.{statement}
 use Rattle.sound.proofs.is_sound.Tie as tie
@@ -18,12 +19,9 @@ is-sound-spec =
     (λ c κs. search needs)
     (λ c. search (unused-no, failed, needs))
     (λ c κs. search needs)
-    (λ c. search (bounded-no, failed, needs))
-    (λ c κs. search needs)
-    (λ c. search (owing-no, failed, needs))
+    (λ c. search (cells-no, failed, needs))
     (λ c κs.
-    let m = c .before .before .before .before .before .before .before in
+    let m = c .before .before .before .before .before in
     let s = m .before .before .before .before .before .before .before in
-    summed-asked _ _ _ (s .args .serials .now) (s .pre .0) (c .before .before .before .bounded .ensures)
-    (c .before .before .if5 .left) (c .before .owing .ensures) (c .if6 .left))
+    summed-asked _ _ _ (s .args .serials .now) (s .pre .0) (c .before .cells-held .ensures) (c .if5 .left))
     (λ c. search (all-but-sums, held, needs)))

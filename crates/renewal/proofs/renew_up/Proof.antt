@@ -1,0 +1,48 @@
+-- `renewal::renew_up`: after each turn the four places are one level further up.
+use native.Mathlib.Omega.{arith}
+use borrow.Author.Needs.{needs}
+use Rattle.renewal.specs.Upward.{
+  Climbing,
+  climb-begins,
+  climb-long,
+  climb-some,
+  places-some,
+  four-asked,
+  climb-on,
+  climb-rising,
+  climb-inside,
+  climbed,
+}
+use Rattle.renewal.proofs.renew_up.Statement.{statement}
+use Rattle.renewal.proofs.renew_up.Tie as tie
+
+abbrev Inv-loop : tie.InvT-loop
+Inv-loop pyramid₀ level a b c d k₀ nw₀ ne₀ sw₀ se₀ pyramid k nw ne sw se =
+    Climbing pyramid₀ level a b c d pyramid k nw ne sw se
+
+abbrev μ-loop : tie.MeasureT-loop
+μ-loop pyramid₀ level a b c d k₀ nw₀ ne₀ sw₀ se₀ pyramid k nw ne sw se = k
+
+pub renew-up-spec : {M : Type 1} → statement M
+renew-up-spec =
+    tie.close
+    (tie.spec
+    Inv-loop
+    μ-loop
+    (λ c. search (climb-begins, needs))
+    (λ c κs. search (four-asked, needs))
+    (λ c. let s = c .before .before .before in
+    omega (arith, places-some (s .before .loop .inv) (s .loop-test .taken)))
+    (λ c. let s = c .before .before .before in
+    omega (arith, places-some (s .before .loop .inv) (s .loop-test .taken)))
+    (λ c. let s = c .before .before .before in
+    omega (arith, places-some (s .before .loop .inv) (s .loop-test .taken)))
+    (λ c. let s = c .before .before .before in
+    omega (arith, places-some (s .before .loop .inv) (s .loop-test .taken)))
+    (λ c. search (climb-some, needs))
+    (λ c. let s = c .before .before .before in
+    omega (arith, climb-some (s .before .loop .inv) (s .loop-test .taken)))
+    (λ c. search (climb-on, needs))
+    (λ c κs. (search (climb-rising, needs), search (climb-inside, needs)))
+    (λ c. search (climb-long, needs))
+    (λ c. search (climbed, needs)))
