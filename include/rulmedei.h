@@ -141,8 +141,8 @@ uint32_t rulmedei_load(uint32_t side,
  * and the knit stay. RULMEDEI_DONE says that none are due any more. A refused call writes `dots` and 0.
  * Refusals: 1, 11, 3, 4, 5.
  *
- * A hole goes down from the whole map to the quarter that asks for most, again and again. Of equal quarters a hole with
- * an odd serial takes the first by row then column, and one with an even serial the last. What a hole is worth beyond
+ * A hole goes down from the whole map to the quarter that asks for most, again and again. Of equal quarters the
+ * first by row then column is taken for an odd serial, and the last for an even one. What a hole is worth beyond
  * its cell's need goes to the neighbours on the map by their weights, in sums rounded down: over those at the corners
  * by row then column, then up, left, right and down. A sheet made by an earlier rule for either goes on by these.
  *
@@ -171,7 +171,7 @@ uint32_t rulmedei_advance(uint32_t side,
  * the same in whatever order its macroblocks are worked.
  *
  * The record, with the side, all holes and the knit, is written to progress_side, progress_dots and progress_knit; the
- * holes are written to holes too, and what the map still asks for, the first entry of the pyramid, to debt. It may end
+ * holes are written to made too, and what the map still asks for, the first entry of the pyramid, to debt. It may end
  * above 0 or below it: 65,280 * holes + debt is 256 * G, where G is the sum of the map's greys. What is said of the
  * number of holes, of caps and of floors is said of Load and Advance, and does not hold here. Five zeros where it
  * refuses. Refusals: 1, 14, 11, 2, 3, 4, 12 (as by Load, for the N * N greys of the map).
@@ -185,7 +185,7 @@ uint32_t rulmedei_two_heads(uint32_t side,
                             uint32_t *progress_side,
                             uint32_t *progress_dots,
                             uint32_t *progress_knit,
-                            uint32_t *holes,
+                            uint32_t *made,
                             int64_t *debt);
 
 /*

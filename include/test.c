@@ -2,7 +2,8 @@
  * The test of the header and of the library behind it: numbers, lengths and types, and every call for all eight sides,
  * those that look at the knit on plain cloth and on ribbed, on parts of just the needed length, and of one place less.
  * Beside each part lie guards, which must stay as they are. With an argument there are no guards, so that valgrind sees
- * the first access beside a part. rust/test runs both.
+ * the first access beside a part. rust/test runs both. So the calls need no more than S 16.2 says, and keep to what
+ * they are lent (S 15.16).
  */
 #include <stdio.h>
 #include <stdlib.h>
@@ -281,7 +282,7 @@ static uint32_t restore_map(struct map *m, struct record r, struct part *value, 
                    m->serials.count - less.serials, m->order.places, m->order.count - less.order, &first);
 }
 
-/* The macros. */
+/* The macros (S 16.1). */
 
 static void test_numbers(void)
 {
@@ -376,7 +377,7 @@ static struct map high_map(const struct map *m)
 }
 
 /* Lower Text of a map with a grey of 255: refused for each reason, then done; Map Text refuses the text, and takes what
-   was written, which is lowered once more. */
+   was written, which is lowered once more (S 9.2, S 15.10). */
 static void test_lower_text(const struct map *m)
 {
     struct map high = high_map(m);
@@ -422,7 +423,8 @@ static void test_lower_text(const struct map *m)
     give_back(&low);
 }
 
-/* Lower of no grey, of all greys but the last, which is 255, and of all; then the map's own greys are lowered. */
+/* Lower of no grey, of all greys but the last, which is 255, and of all; then the map's own greys are lowered
+   (S 12.4). */
 static void test_lower(struct map *m)
 {
     struct map high = high_map(m);
@@ -602,7 +604,8 @@ static int caps_are_right(const struct sketch *s)
     return 1;
 }
 
-/* Sketch Quote of a sketch around the map: refused for each reason, then done; the map's own text is no sketch. */
+/* Sketch Quote of a sketch around the map: refused for each reason, then done; the map's own text is no sketch
+   (S 9.4). */
 static void test_sketch(const struct map *m, uint32_t level)
 {
     const struct less_of_sketch all = {0, 0, 0, 0};
@@ -626,7 +629,7 @@ static void refused_load(struct map *m, uint32_t side, uint32_t knit, struct les
     CHECK(first == 0 && second == 0 && third == 0 && map_as_kept(m));
 }
 
-/* Numbers that are no knit. The side comes before the knit, and all lengths after it. */
+/* Numbers that are no knit. The side comes before the knit, and all lengths after it (S 5.2). */
 enum { NO_KNITS = 4 };
 
 static const uint32_t no_knits[NO_KNITS] = {2, 3, 256, UINT32_MAX};
@@ -643,7 +646,7 @@ static void refused_knits_load(struct map *m)
     }
 }
 
-/* A grey above 240, the first of the map or the last: after all else. */
+/* A grey above 240, the first of the map or the last: after all else (S 7.2). */
 static void refused_high_loads(struct map *m)
 {
     uint8_t *greys = m->greys.places;
@@ -903,7 +906,7 @@ static uint32_t compare_parts(uint32_t side, struct part *left, size_t less_left
                    &second);
 }
 
-/* Both ways round: the answers, and the same cell beside either. */
+/* Both ways round: the answers, and the same cell beside either (S 11.1, S 16.1). */
 static void compares(uint32_t side, struct part *left, struct part *right, const uint32_t *answers, uint32_t row,
                      uint32_t column)
 {
@@ -986,7 +989,7 @@ static void refused_shelves(uint32_t side, struct part *plates, struct part *lis
     }
 }
 
-/* Three plates: the sheet, one without a hole, and one that is burnt as the sheet is. */
+/* Three plates: the sheet, one without a hole, and one that is burnt as the sheet is (S 11.2). */
 static void test_shelf(struct map *m)
 {
     size_t cells = m->serials.count;
@@ -1123,7 +1126,7 @@ static int is_stage(const struct map *m, uint32_t dots)
     return same;
 }
 
-/* The finished map taken back to no hole, then forwards to one hole, then to its end. */
+/* The finished map taken back to no hole, then forwards to one hole, then to its end (S 10.2). */
 static void test_stages(struct map *m)
 {
     const uint64_t expected[NAMES] = {1, m->dots + 2, (uint64_t)1 << 32, 0, 2, 0, 0, m->dots + 1};
@@ -1165,7 +1168,7 @@ static uint32_t relay_map(struct map *m, struct record r, struct part *old, stru
                  m->serials.count - less.serials, m->order.places, m->order.count - less.order, into->places, room);
 }
 
-/* Into a pyramid of one place more than needed. What lies by quarters already is refused, but for side 2. */
+/* Into a pyramid of one place more than needed. What lies by quarters already is refused, but for side 2 (S 12.2). */
 static void test_relay(struct map *m)
 {
     const struct {
@@ -1209,7 +1212,8 @@ static void not_renewed(struct map *m, uint32_t side, uint32_t row, uint32_t col
     CHECK(map_as_kept(m));
 }
 
-/* On sums that are right; then with a wrong top, which alone becomes right; then with an entry beyond 2^40. */
+/* On sums that are right; then with a wrong top, which alone becomes right; then with an entry beyond 2^40
+   (S 12.3). */
 static void test_renew(struct map *m)
 {
     int64_t *pyramid = m->pyramid.places, *last = pyramid + m->pyramid.count - 1, cell = *last;
@@ -1238,7 +1242,7 @@ static void test_darkest(struct map *m)
 }
 
 /* A sheet that was loaded with greys of 255 before they were refused is burnt to its end, under its own total: every
-   cell, and the longest list of the side. */
+   cell, and the longest list of the side (S 7.5). */
 static void test_white(struct map *m)
 {
     int64_t *pyramid = m->pyramid.places;
@@ -1279,7 +1283,7 @@ static void refused_heads(struct map *m)
 }
 
 /* Two Heads, with the map's last grey made 255, and then as it is, the sample of seed 1, lowered: the holes of
-   vectors/two-heads.csv, serials and order, and the list. */
+   vectors/two-heads.csv, serials and order, and the list (S 13.5). */
 static void test_heads(const struct map *m)
 {
     static const uint32_t dots[2][SIDES] = {{0, 0, 0, 127, 521, 2036, 8180, 32762},
@@ -1353,7 +1357,7 @@ static void test_ribbed(uint32_t side, uint32_t dots)
     give_back_map(&m);
 }
 
-/* Document 01's map of side 2 with four greys of 128. */
+/* P3, the map of side 2 with four greys of 128 (S 17.3). */
 
 static const char P3_TEXT[] = "2\n128,128\n128,128\n", P3_LIST[] = "2,2\n1,0,0\n2,1,1\n";
 static const char P3_PAGE[] = "  0   0      128     1     1\n  0   1      128     0     1\n"
@@ -1394,7 +1398,7 @@ static void test_p3(void)
     give_back_map(&m);
 }
 
-/* The same greys on ribbed cloth: the same holes, and other debts. */
+/* The same greys on ribbed cloth: the same holes, and other debts (S 3.5). */
 static void test_ribbed_p3(void)
 {
     static const int64_t one_hole[5] = {65792, 0, 16512, 16512, 32768}, two_holes[5] = {512, 0, 256, 256, 0};
@@ -1583,7 +1587,7 @@ static void test_small_plates(void)
     give_back(&list);
 }
 
-/* Document 01's map taken back to its first hole; then, with greys of 0, refused to one hole and taken to none. */
+/* P3 taken back to its first hole; then, with greys of 0, refused to one hole and taken to none (S 10.2, S 10.3). */
 
 static void test_small_stages(void)
 {

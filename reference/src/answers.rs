@@ -1,7 +1,6 @@
 //! What the calls answer, and the record that goes from call to call.
 
-/// The record: the side, how many dots there are (a dot is document 01's hole), and the knit, `PLAIN` or `RIBBED`
-/// (document 02, request 8).
+/// The record: the side, how many dots there are (a dot is a hole), and the knit, `PLAIN` or `RIBBED` (S 2.8).
 #[derive(Debug, Clone, Copy, PartialEq, Eq)]
 pub struct Progress {
     pub side: u32,
@@ -9,42 +8,42 @@ pub struct Progress {
     pub knit: u32,
 }
 
-/// The table of "When a call says no", one case for each row.
+/// Why a call says no, one case for each number (S 5.1).
 #[derive(Debug, Clone, Copy, PartialEq, Eq)]
 pub enum Refusal {
-    /// "side isn't one of the eight"
+    /// the side is none of the eight
     BadSide,
-    /// "greys buffer shorter than N²"
+    /// fewer greys than cells
     ShortGreys,
-    /// "pyramid shorter than needed"
+    /// a pyramid below its needed length
     ShortPyramid,
     /// a serial sheet or a lent order list with fewer places than the map has cells, or a shelf without n whole plates
     ShortSheet,
-    /// "sheet not sound"
+    /// the sheet fails one of its seven conditions
     NotSound,
-    /// "k above r, or a or b not below 2^k"
+    /// no such level, or no such block on it
     BadBlock,
-    /// "text doesn't fit the grammar"
+    /// the text is none that can be read
     BadText,
-    /// "output shorter than the list", or than the page of document 02, its list of plates shorter than n, or fewer
-    /// places for a sketch's caps than the level has blocks
+    /// an output shorter than the list or the page, a list of plates shorter than n, or fewer places for a sketch's
+    /// caps than the level has blocks
     ShortOutput,
-    /// "input longer than 4,099 bytes"
+    /// an input of more than 4,099 bytes, of a program
     LongInput,
-    /// none of document 02's eight names; on a return also one without a count, or with more dots than the map's total
+    /// none of the eight names; on a return also one without a count, or with more dots than the map's total
     UnknownName,
-    /// neither of document 02's two knits
+    /// neither of the two knits
     UnknownKnit,
-    /// a grey of the map above document 02's 240, or of a sketch
+    /// a grey of the map above 240, or of a sketch
     HighGrey,
     /// a pair of a sketch whose low is above its high
     FallingPair,
-    /// a side below 16, which document 02's two heads have no room on
+    /// a side below 16, which two heads have no room on
     SmallSide,
 }
 
 impl Refusal {
-    /// The column "Returned" of the same table.
+    /// The number of a refusal (S 5.1).
     pub fn number(self) -> u32 {
         match self {
             Refusal::BadSide => 1,
@@ -72,15 +71,15 @@ pub struct LoadAnswer {
     pub status: Result<(), Refusal>,
 }
 
-/// "'finished' exactly if the top is then below 32,640, else 'more'."
+/// What Advance says: finished where the top is less than half a dot (S 7.3).
 #[derive(Debug, Clone, Copy, PartialEq, Eq)]
 pub enum Ended {
     Finished,
     More,
 }
 
-/// "It returns the new record, the holes made in this call, and 'finished' [...] else 'more'." "A refused Advance
-/// returns the record it was given, 0 holes made, and the number in place of 'finished' or 'more'."
+/// Advance's answer: the new record, the dots made in this call, and what it says. A refused call gives the record as
+/// it was, no dot made, and the refusal (S 7.3, S 7.4).
 #[derive(Debug, Clone, Copy, PartialEq, Eq)]
 pub struct AdvanceAnswer {
     pub progress: Progress,
@@ -119,7 +118,7 @@ pub struct SketchQuote {
 #[derive(Debug, Clone, Copy, PartialEq, Eq)]
 pub struct TwoHeadsAnswer {
     pub progress: Progress,
-    pub holes: u32,
+    pub made: u32,
     pub debt: i64,
     pub status: Result<(), Refusal>,
 }

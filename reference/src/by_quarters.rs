@@ -1,7 +1,6 @@
-//! The pyramid by quarters: document 02's request 10, in other words than its own. Every call answers as it does on a
-//! pyramid that lies row after row, with the places of its entries renamed; so here a pyramid is written row after row,
-//! the call is made as before, and what it leaves is written by quarters. And Relay, which writes an older sheet's
-//! pyramid by quarters.
+//! The pyramid by quarters (S 2.5). Every call answers as it does on a pyramid that lies row after row, with the places
+//! of its entries renamed (S 15.14); so here a pyramid is written row after row, the call is made as before, and what
+//! it leaves is written by quarters. And Relay, which writes an older sheet's pyramid by quarters (S 12.2).
 
 use crate::answers::{AdvanceAnswer, CheckpointAnswer, Checkpoints, LoadAnswer, Progress, Refusal, TwoHeadsAnswer};
 use crate::by_rows;

@@ -13,8 +13,7 @@ fn check_kind(side: u32, knit: u32) -> Result<(u32, &'static Weights), Refusal> 
     Ok((power(side)?, weights(knit)?))
 }
 
-/// "pyramid shorter than needed" and "serial sheet, or order list where lent, shorter than N²", for one of the
-/// eight sides.
+/// Refuses a short pyramid, and then a short serial sheet or order list, for one of the eight sides (S 5.1).
 fn check_lengths(side: u32, pyramid: &[i64], serials: &[u32], order: &[u32]) -> Result<(), Refusal> {
     if pyramid.len() < pyramid_length(power(side)?) {
         return Err(Refusal::ShortPyramid);
@@ -82,7 +81,7 @@ pub(crate) fn start(power: u32, greys: &[u8], pyramid: &mut [i64], serials: &mut
     order[..greys.len()].fill(0);
 }
 
-/// "Load gives each cell 256 × grey."
+/// Each cell owes 256 × its grey (S 3.9).
 fn fill(power: u32, greys: &[u8], pyramid: &mut [i64]) {
     let residuals = &mut pyramid[level_start(power)..];
     for (residual, grey) in residuals.iter_mut().zip(greys) {
@@ -146,7 +145,7 @@ pub(crate) fn check_relay(
     Ok(power)
 }
 
-/// "'finished' exactly if the top is then below 32,640, else 'more'."
+/// Finished where the top is less than half a dot (S 7.3).
 fn ended(top: i64) -> Ended {
     if top < HALF_DOT {
         Ended::Finished

@@ -1,4 +1,4 @@
-//! Keep and Restore: document 02's request 7, in other words than its own. Restore is its return to a name.
+//! Keep and Restore, which go by names (S 10.1, S 10.2). Restore is the return to a name.
 
 use crate::answers::{CheckpointAnswer, Checkpoints, Progress, Refusal};
 use crate::calls::{advance, check_lent, check_sheet, load};

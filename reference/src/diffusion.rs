@@ -41,8 +41,7 @@ pub(crate) fn largest_of(level: u32, (row, column): (usize, usize), last: bool, 
     largest
 }
 
-/// "With c the sum of weights up to and including this neighbour and c' the sum before it, the debt falls by its
-/// share floor(d × c / D) − floor(d × c' / D)." All the shares of an error d, for weights whose sum D is above 0.
+/// All the shares of an error d, by running sums of the weights, whose sum D is above 0 (S 3.7).
 pub fn shares(error: i64, weights: &[i64]) -> Vec<i64> {
     let total: i64 = weights.iter().sum();
     let floor = |up_to: i64| (error * up_to).div_euclid(total);
@@ -88,8 +87,7 @@ pub(crate) fn burn(side: u32, power: u32, weights: &Weights, (row, column): (usi
     renew_over(power, pyramid, &changed);
 }
 
-/// "From the top value t on entry, none are due if t < 32,640, else floor((t + 32,640) / 65,280)." For the top of
-/// a sound sheet.
+/// How many dots are due (S 3.1). For the top of a sound sheet.
 pub fn dots_due(top: i64) -> i64 {
     if top < HALF_DOT {
         0

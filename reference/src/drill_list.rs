@@ -4,8 +4,8 @@ use crate::answers::{Progress, Refusal};
 use crate::calls::check_sheet;
 use crate::shape::cell_count;
 
-/// "Drill List: a line 'holes,side'; then for each hole in order 'serial,row,column'; same ending. It returns its
-/// length; bytes past it stay."
+/// Drill List: dots and side, then serial, row and column of each dot in order. Gives the length; bytes past it stay
+/// (S 9.3).
 pub fn drill_list(
     progress: Progress,
     pyramid: &[i64],

@@ -1,5 +1,4 @@
-//! The knit of the cloth: document 02's request 8, in other words than its own. It says how the error of a dot is
-//! divided, and nothing else.
+//! The knit of the cloth (S 2.8, S 3.5). It says how the error of a dot is divided, and nothing else.
 
 use crate::answers::Refusal;
 use crate::shape::Neighbour;

@@ -1,11 +1,10 @@
-//! The reference: document 01, what document 02 adds, and report 265 written down a second time, as simply as can be,
-//! so that the outputs of the proved engine can be matched against it. It shares no line with that engine.
-//!
-//! Names that differ from document 01's words: a dot is its hole and to place a dot is to burn; a residual is its
-//! debt; to diffuse is to spread; a block is an aligned square; serials and order are the serial sheet and the order
-//! list; Progress is the record; Checkpoints are the counts that document 02 keeps under names, and Restore is its
-//! return to one of them. Words in quotation marks are sentences of document 01, or of document 02 where a module says
-//! so.
+//! The reference: docs/SPECIFICATION.md written down a second time, as simply as can be, so that the outputs of the
+//! proved engine can be matched against it. It shares no line with that engine.
+//! |
+//! Its names: a dot is a hole, and to place a dot is to burn; a residual is a debt; to diffuse is to spread; a block is
+//! an aligned square; serials and order are the serial sheet and the order list; Progress is the record; Checkpoints
+//! are the counts kept under names, and Restore is the return to one of them. S 3.2 and the like are points of the
+//! specification.
 
 mod answers;
 mod by_quarters;
@@ -66,7 +65,7 @@ pub use shelf::{compare, in_order, shelf};
 pub use sketch::sketch;
 pub use sketch_quote::{sketch_quote, write_sketch};
 
-/// The calls on a pyramid that lies row after row, as all were before document 02's request 10.
+/// The calls on a pyramid that lies row after row, as those of earlier versions did (S 2.6).
 pub mod by_rows {
     pub use crate::calls::{advance, load};
     pub use crate::checkpoints::restore;

@@ -1,5 +1,5 @@
-//! No grey above 240: document 02's request 11, in other words than its own. Load, Map Text and Restore refuse a map
-//! with such a grey, and Lower Text makes of a stored text one that they take.
+//! No grey above 240. Load, Map Text and Restore refuse a map with such a grey, and Lower Text makes of a stored text
+//! one that they take (S 2.2, S 9.2).
 
 use crate::answers::Refusal;
 use crate::map_text::{read_map, write_map_text};

@@ -1,7 +1,7 @@
-//! The reference's program: `write` writes the stored files, `check` compares them, `plate` is document 01's
-//! program `plate`, `quote` the program that prints document 02's quote page, `sample` the one that prints its sample,
-//! `convert` the one that prints a stored map text with its greys lowered, `sketch` the one that prints the totals and
-//! caps of a sketch, `two_heads` the one that prints the drill list of a laser with two heads.
+//! The reference's program: `write` writes the stored files, `check` compares them, `plate` is the program `plate`,
+//! `quote` the program that prints the quote page, `sample` the one that prints a sample, `convert` the one that prints
+//! a stored map text with its greys lowered, `sketch` the one that prints the totals and caps of a sketch, `two_heads`
+//! the one that prints the drill list of a laser with two heads.
 
 use std::fs;
 use std::io::{self, Read, Write};

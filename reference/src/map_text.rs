@@ -47,7 +47,7 @@ fn grey_lines(lines: usize, count: usize, text: &[u8]) -> Option<Vec<u8>> {
     }
 }
 
-/// "N greys parted by commas"; "a grey above 255 breaks the grammar."
+/// A line of so many greys with commas between; one above 255 does not fit (S 6.2).
 fn grey_line(count: usize, line: &[u8]) -> Option<Vec<u8>> {
     let mut greys = Vec::new();
     for part in line.split(|byte| *byte == b',') {
@@ -60,14 +60,14 @@ fn grey_line(count: usize, line: &[u8]) -> Option<Vec<u8>> {
     }
 }
 
-/// "Each line ends in byte 10." The line before the first byte 10, and what comes after that byte.
+/// The line before the first byte 10, and what comes after that byte (S 6.1).
 pub(crate) fn cut_line(text: &[u8]) -> Option<(&[u8], &[u8])> {
     let end = text.iter().position(|byte| *byte == 10)?;
     Some((&text[..end], &text[end + 1..]))
 }
 
-/// "Numbers are decimal digits without a leading zero, 0 itself being '0'." No number of more than three digits
-/// fits anywhere, so these are none.
+/// A number in decimal digits without a leading zero (S 6.1). None of more than three digits fits anywhere, so these
+/// are none.
 fn number(digits: &[u8]) -> Option<u32> {
     let leading_zero = digits.len() > 1 && digits[0] == b'0';
     if digits.is_empty() || digits.len() > 3 || leading_zero {
@@ -83,7 +83,7 @@ fn number(digits: &[u8]) -> Option<u32> {
     Some(value)
 }
 
-/// "Map Text: a line with the side, then N lines of N greys parted by commas." Written for N² greys by row.
+/// The text of a map: its side, then a line for each row (S 6.2). Written for N² greys by row.
 pub fn write_map_text(side: u32, greys: &[u8]) -> Vec<u8> {
     write_greys(side, greys, 1)
 }

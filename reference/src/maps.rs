@@ -20,8 +20,8 @@ pub const NAMES: [&str; 13] = [
     "random",
 ];
 
-/// The greys of a named map of one of the eight sides, by row: "A grey is a byte, from 0 (no hole wanted) to 255 (a
-/// hole in every cell)." None is above 240, so that Load takes each map. A name that isn't in the list has no greys.
+/// The greys of a named map of one of the eight sides, by row (S 2.2). None is above 240, so that Load takes each map.
+/// A name that isn't in the list has no greys.
 pub fn named(name: &str, side: u32) -> Vec<u8> {
     let (last, most) = (side - 1, u32::from(HIGHEST));
     let rim = |place: u32| place == 0 || place == last;

@@ -3,9 +3,8 @@
 use crate::answers::Refusal;
 use crate::shape::{cell_count, power};
 
-/// "Tally takes side, serial sheet and an aligned square and returns the number of its cells whose serial isn't 0."
-/// The aligned square is the block (level, row, column): "its side is s = N/2^k, and it is the cells which that
-/// entry covers."
+/// Tally: how many cells of a block have a serial other than 0 (S 8.1). The block (level, row, column) is the aligned
+/// square under that entry (S 2.10).
 pub fn tally(side: u32, serials: &[u32], level: u32, row: u32, column: u32) -> Result<u32, Refusal> {
     let power = power(side)?;
     if serials.len() < cell_count(side) {
@@ -23,8 +22,8 @@ pub fn tally(side: u32, serials: &[u32], level: u32, row: u32, column: u32) -> R
     Ok(dots)
 }
 
-/// "Levels takes side, greys and serial sheet [...] For level k it returns the sum over the aligned squares of that
-/// level of the square of their summed errors [...]: nine sums, level 0 first, those past r being 0."
+/// Levels: for each level the squares of its blocks' summed errors, added up; nine sums, of which those past r are 0
+/// (S 8.2).
 pub fn levels(side: u32, greys: &[u8], serials: &[u32]) -> Result<[u64; 9], Refusal> {
     let power = power(side)?;
     if greys.len() < cell_count(side) {
@@ -46,7 +45,7 @@ pub fn levels(side: u32, greys: &[u8], serials: &[u32]) -> Result<[u64; 9], Refu
     Ok(sums)
 }
 
-/// "a cell's error is its grey, less 255 if its serial isn't 0."
+/// The error of a cell: its grey, with 255 off where it has a dot (S 8.2).
 fn cell_error(grey: u8, serial: u32) -> i64 {
     i64::from(grey) - if serial != 0 { 255 } else { 0 }
 }

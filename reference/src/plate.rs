@@ -5,19 +5,18 @@ use crate::knit::PLAIN;
 use crate::map_text::map_text;
 use crate::run::{run, run_two_heads, Run};
 
-/// "input longer than 4,099 bytes | program only, before all else"
+/// The longest input, in bytes; a longer one is refused before all else (S 14.1).
 pub const LONGEST_INPUT: usize = 4_099;
 
-/// "The program's greys buffer has 1,024 places, so '64' alone on its line gives 2."
+/// The room for greys, so that side 64 is refused with 2 (S 14.1).
 pub const GREYS_ROOM: usize = 1_024;
 
-/// "The program `plate` reads a map text on standard input, runs to finished and prints the drill list, or the line
-/// 'refused,n' with n the refusal." The cloth is plain.
+/// The program `plate`: the drill list of the finished map, or the line of a refusal (S 14.1). The cloth is plain.
 pub fn plate(input: &[u8]) -> Vec<u8> {
     printed(list_of(input, run))
 }
 
-/// The program `two_heads`: the same with two heads (document 02, request 13).
+/// The program `two_heads`: the same with two heads (S 14.6).
 pub fn two_heads_text(input: &[u8]) -> Vec<u8> {
     printed(list_of(input, run_two_heads))
 }

@@ -2,8 +2,7 @@
 
 use crate::shape::entry;
 
-/// "each the sum of the four entries below it: entry (a, b) covers (2a, 2b), (2a, 2b+1), (2a+1, 2b), (2a+1, 2b+1)
-/// of level k + 1." Here one entry is renewed.
+/// One entry made the sum of the four below it (S 2.4).
 fn renew_entry(pyramid: &mut [i64], level: u32, row: usize, column: usize) {
     pyramid[entry(level, row, column)] = pyramid[entry(level + 1, 2 * row, 2 * column)]
         + pyramid[entry(level + 1, 2 * row, 2 * column + 1)]
@@ -11,7 +10,7 @@ fn renew_entry(pyramid: &mut [i64], level: u32, row: usize, column: usize) {
         + pyramid[entry(level + 1, 2 * row + 1, 2 * column + 1)];
 }
 
-/// "Then all coarser sums are renewed." Every one of them, from the finest coarser level up to the top.
+/// All sums above the cells made anew, from the finest level of them up to the top (S 3.8).
 pub fn renew_all(power: u32, pyramid: &mut [i64]) {
     for level in (0..power).rev() {
         for row in 0..2usize.pow(level) {
@@ -22,8 +21,7 @@ pub fn renew_all(power: u32, pyramid: &mut [i64]) {
     }
 }
 
-/// "Then all coarser sums are renewed." Only the entries over these cells (report 265, step 2): in a right pyramid the
-/// others are the sums of their four already.
+/// Only the sums over these cells made anew: in a right pyramid the others hold already (S 3.8).
 pub fn renew_over(power: u32, pyramid: &mut [i64], changed: &[(usize, usize)]) {
     for level in (0..power).rev() {
         let cells_wide = 2usize.pow(power - level);

@@ -1,11 +1,11 @@
-//! Quote Page: document 02's request 2, whose sentences are quoted here.
+//! Quote Page (S 8.4).
 
 use crate::answers::Refusal;
 use crate::measures::block_cells;
 use crate::shape::{cell_count, power};
 
-/// "from side, greys, serial sheet and a level k, one line per aligned square of that level, by row then column."
-/// "Checks 1, 2, 4, 6, 8 apply in that order; as with Drill List, the length is returned and bytes past it stay."
+/// A line for each block of the level, by row then column. Gives the length; bytes past it stay. The checks are 1, 2,
+/// 4, 6 and 8, in this order (S 5.2).
 pub fn quote_page(side: u32, greys: &[u8], serials: &[u32], level: u32, out: &mut [u8]) -> Result<usize, Refusal> {
     let power = power(side)?;
     if greys.len() < cell_count(side) {
@@ -40,13 +40,13 @@ fn page_text(side: u32, greys: &[u8], serials: &[u32], level: u32) -> String {
     text
 }
 
-/// "A line holds the entry's row a (3 wide) and column b (3), grey sum (8), holes (5), cap (5), with one space
-/// between, right aligned with spaces, then byte 10: 29 bytes."
+/// Row, column, grey sum, holes and cap, right aligned in 3, 3, 8, 5 and 5 places with a space between, and byte 10: 29
+/// bytes (S 8.4, S 6.5).
 fn line(row: usize, column: usize, grey_sum: u32, dots: usize, cap: u32) -> String {
     format!("{row:>3} {column:>3} {grey_sum:>8} {dots:>5} {cap:>5}\n")
 }
 
-/// "The cap is the smaller of s² and floor((3 × grey sum + 764 + 1,020 × s) / 765)." For a block `wide` cells wide.
+/// The cap of a block `wide` cells wide (S 8.3).
 pub(crate) fn cap(wide: u32, grey_sum: u32) -> u32 {
     (wide * wide).min((3 * grey_sum + 764 + 1_020 * wide) / 765)
 }

@@ -1,15 +1,13 @@
-//! The renewal by itself: document 02's request 3, whose sentences are quoted here.
+//! The renewal by itself (S 12.3).
 
 use crate::pyramid::renew_over;
 use crate::shape::{neighbours, power, pyramid_length};
 
-/// "any pyramid with entries from −2^40 to 2^40"
+/// the largest size of an entry
 const MOST: i64 = 1 << 40;
 
-/// "for the burnt cell and each neighbour, the one entry over it on every level up to the top. The renewal by itself
-/// is promised too: lent any pyramid with entries from −2^40 to 2^40, it leaves every coarser entry over these cells
-/// as the sum of its four, and no other entry changes, not even a wrong one." The cell is (row, column). False where
-/// the request promises nothing; then nothing changes.
+/// Makes every sum over the cell (row, column) or one of its neighbours anew, level by level up to the top; no other
+/// entry changes, also where it is wrong (S 12.3). False where a renewal is not done; then nothing changes.
 pub fn renew(side: u32, row: u32, column: u32, pyramid: &mut [i64]) -> bool {
     let Some(power) = promised(side, row, column, pyramid) else {
         return false;

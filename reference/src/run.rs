@@ -6,8 +6,7 @@ use crate::calls::start;
 use crate::drill_list::list_room;
 use crate::shape::{cell_count, power, pyramid_length};
 
-/// "The caller lends the pyramid as 64-bit signed numbers [...] Two further buffers of N² 32-bit unsigned numbers":
-/// the three buffers, for callers that have none of their own.
+/// The three buffers, for callers that have none of their own (S 2.5, S 2.7).
 #[derive(Debug, Clone, PartialEq, Eq)]
 pub struct Buffers {
     pub pyramid: Vec<i64>,
@@ -25,8 +24,7 @@ impl Buffers {
         })
     }
 
-    /// The sheet without a dot that Load made of a side's greys before document 02's request 11, when they went up to
-    /// 255.
+    /// The sheet without a dot that Load made of a side's greys in earlier versions, when they went up to 255 (S 7.5).
     pub fn older(side: u32, greys: &[u8]) -> Result<Buffers, Refusal> {
         let Buffers { mut pyramid, mut serials, mut order } = Buffers::new(side)?;
         start(power(side)?, greys, &mut pyramid, &mut serials, &mut order);
@@ -77,7 +75,7 @@ pub struct Run {
     pub list: Vec<u8>,
 }
 
-/// "runs to finished and prints the drill list": Load, one Advance with the largest budget, Drill List.
+/// Load, one Advance with the largest budget, Drill List.
 pub(crate) fn run(side: u32, knit: u32, greys: &[u8]) -> Result<Run, Refusal> {
     let mut buffers = Buffers::new(side)?;
     let loaded = buffers.load(side, knit, greys);

@@ -101,7 +101,7 @@ fn whole(budget: u32) -> Call {
     Call { budget, lent: WHOLE, place: 0, amount: 0 }
 }
 
-/// "Plates to check by hand": P1 to P12, as far as they are of Load and Advance. (P11 is of Levels.)
+/// P1 to P12, as far as they are of Load and Advance. (P11 is of Levels.)
 fn plates() -> Vec<Case> {
     let mut fifteen = [20; 16];
     fifteen[15] = 82;

@@ -1,15 +1,15 @@
-//! Sample: document 02's request 4, whose sentences are quoted here.
+//! Sample (S 12.1), and the program `sample` (S 14.3).
 
 use crate::answers::Refusal;
 use crate::lowering::lower;
 use crate::map_text::write_map_text;
 use crate::shape::{cell_count, power};
 
-/// "the sample of seed 1 and side 32"
+/// the seed and the side of the sample that is printed
 const PRINTED: (u32, u32) = (1, 32);
 
-/// "from a 32-bit seed and a side, fill the greys. [...] It also returns the state reached". "The side check, then the
-/// length check, are those of Load." Places past the N² greys stay.
+/// Fills the greys of a side from a seed, and gives the state reached. The side is looked at first, then the length
+/// (S 5.2). Places past the N² greys stay.
 pub fn sample(seed: u32, side: u32, greys: &mut [u8]) -> Result<u32, Refusal> {
     power(side)?;
     let cells = cell_count(side);
@@ -29,7 +29,7 @@ pub fn sample_text() -> Vec<u8> {
     write_map_text(side, &greys)
 }
 
-/// "cells go by row": one step for each grey, which is that of the state after the step. Gives the state reached.
+/// One step for each grey, by cell number; the grey is that of the state after the step. Gives the state reached.
 pub(crate) fn fill(seed: u32, greys: &mut [u8]) -> u32 {
     let mut state = seed;
     for grey in greys {
@@ -39,12 +39,12 @@ pub(crate) fn fill(seed: u32, greys: &mut [u8]) -> u32 {
     state
 }
 
-/// "Each step the state becomes (1,664,525 × state + 1,013,904,223) modulo 2^32".
+/// One step of the state (S 12.1).
 fn step(state: u32) -> u32 {
     ((1_664_525 * u64::from(state) + 1_013_904_223) % (1 << 32)) as u32
 }
 
-/// "the grey is floor(state / 2^24)".
+/// The grey of a state: its highest byte.
 fn grey_of(state: u32) -> u8 {
     (state / (1 << 24)) as u8
 }

@@ -2,16 +2,16 @@
 
 use crate::answers::Refusal;
 
-/// "65,280 (255 × 256) stands for one hole."
+/// What one hole is worth: 255 × 256 (S 2.4).
 pub const DOT: i64 = 65_280;
 
-/// "While the top is 32,640 or more, a hole is due."
+/// From this top on a hole is due (S 3.1).
 pub const HALF_DOT: i64 = 32_640;
 
-/// "N, its side, is one of 2, 4, 8, 16, 32, 64, 128, 256".
+/// The sides of a map (S 2.1).
 pub const SIDES: [u32; 8] = [2, 4, 8, 16, 32, 64, 128, 256];
 
-/// "r is the power: N = 2^r." Refuses a side that "isn't one of the eight".
+/// The power r of a side (S 2.1). Refuses one that is none of the eight.
 pub fn power(side: u32) -> Result<u32, Refusal> {
     match SIDES.iter().position(|known| *known == side) {
         Some(place) => Ok(place as u32 + 1),
@@ -19,22 +19,22 @@ pub fn power(side: u32) -> Result<u32, Refusal> {
     }
 }
 
-/// "A map has N rows of N cells." For one of the eight sides.
+/// The cells of a map of one of the eight sides.
 pub fn cell_count(side: u32) -> usize {
     side as usize * side as usize
 }
 
-/// "level k begins at (4^k − 1)/3, row after row." For k up to 9.
+/// Where a level begins, row after row (S 2.6). For k up to 9.
 pub fn level_start(level: u32) -> usize {
     (4usize.pow(level) - 1) / 3
 }
 
-/// "Its needed length is (4^(r+1) − 1)/3: 5 for side 2, 87,381 for side 256."
+/// How long a pyramid has to be: 5 places at side 2, 87,381 at side 256 (S 2.5).
 pub fn pyramid_length(power: u32) -> usize {
     level_start(power + 1)
 }
 
-/// "Level k [...] holds 2^k rows of 2^k sums"; the place of entry (row, column) of a level in the pyramid.
+/// The place of entry (row, column) of a level in the pyramid, row after row (S 2.6).
 pub fn entry(level: u32, row: usize, column: usize) -> usize {
     level_start(level) + row * 2usize.pow(level) + column
 }

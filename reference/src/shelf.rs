@@ -1,4 +1,4 @@
-//! Compare and Shelf: document 02's request 6, in other words than its own.
+//! Compare and Shelf (S 11.1, S 11.2).
 
 use std::cmp::Ordering;
 

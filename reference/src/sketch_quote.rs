@@ -1,5 +1,5 @@
-//! Sketch Quote: document 02's request 12, in other words than its own. A sketch has a pair for each cell of a map that
-//! is not known yet, the lowest grey that the cell may have and the highest one.
+//! Sketch Quote (S 9.4). A sketch has a pair for each cell of a map that is not known yet, the lowest grey that the
+//! cell may have and the highest one (S 6.3).
 
 use crate::answers::{Refusal, SketchQuote};
 use crate::checkpoints::total;

@@ -1,4 +1,4 @@
-//! "A sound sheet": one small test for each of its seven conditions, judged in exact integers.
+//! A sound sheet: one small test for each of its seven conditions (S 4.1 to S 4.7), judged in exact integers.
 
 use crate::answers::Progress;
 use crate::shape::{cell_count, entry, level_start, neighbours, power, pyramid_length, DOT};
@@ -13,8 +13,8 @@ struct Sheet<'a> {
     order: &'a [u32],
 }
 
-/// "Advance and Drill List accept a sheet that meets all of these, however it came about". A side that isn't one of
-/// the eight and a buffer that is too short give false as well, though every call refuses these before.
+/// All seven, however the sheet came about. A side that isn't one of the eight and a buffer that is too short give
+/// false as well, though every call refuses these before.
 pub fn sound(progress: Progress, pyramid: &[i64], serials: &[u32], order: &[u32]) -> bool {
     let Ok(power) = power(progress.side) else {
         return false;
@@ -41,12 +41,12 @@ pub fn sound(progress: Progress, pyramid: &[i64], serials: &[u32], order: &[u32]
         && residuals_not_low(&sheet)
 }
 
-/// "holes made at most N²"
+/// no more dots than cells (S 4.1)
 fn dots_fit(sheet: &Sheet) -> bool {
     sheet.dots <= sheet.order.len()
 }
 
-/// "for each j up to that number, order place j − 1 is below N² and the serial there is j"
+/// the order place of each dot has a cell of the map, whose serial is the dot's (S 4.2)
 fn order_and_serials_agree(sheet: &Sheet) -> bool {
     let used = sheet.order.iter().take(sheet.dots);
     used.enumerate().all(|(before, cell)| {
@@ -55,17 +55,17 @@ fn order_and_serials_agree(sheet: &Sheet) -> bool {
     })
 }
 
-/// "exactly that many serials are not 0"
+/// no further cell has a serial (S 4.3)
 fn no_other_serials(sheet: &Sheet) -> bool {
     sheet.serials.iter().filter(|serial| **serial != 0).count() == sheet.dots
 }
 
-/// "order places from there to N² − 1 are 0"
+/// the order places behind the dots are 0 (S 4.4)
 fn unused_places_are_0(sheet: &Sheet) -> bool {
     sheet.order.iter().skip(sheet.dots).all(|cell| *cell == 0)
 }
 
-/// "every coarser entry is the sum of its four"
+/// each entry above the cells is the sum of its four (S 4.5)
 fn sums_hold(sheet: &Sheet) -> bool {
     let value = |level, row, column| i128::from(sheet.pyramid[entry(level, row, column)]);
     (0..sheet.power).all(|level| {
@@ -79,7 +79,7 @@ fn sums_hold(sheet: &Sheet) -> bool {
     })
 }
 
-/// "every cell's debt is at most 65,280, and at most 0 if burnt"
+/// no residual above one dot, and none above 0 in a cell with a dot (S 4.6)
 fn residuals_not_high(sheet: &Sheet) -> bool {
     let residuals = &sheet.pyramid[level_start(sheet.power)..];
     residuals.iter().zip(sheet.serials).all(|(residual, serial)| {
@@ -88,7 +88,7 @@ fn residuals_not_high(sheet: &Sheet) -> bool {
     })
 }
 
-/// "every cell's debt is at least −65,280 × the number of its burnt neighbours"
+/// no residual further below 0 than one dot for each neighbour that has one (S 4.7)
 fn residuals_not_low(sheet: &Sheet) -> bool {
     every_entry(sheet.power).all(|(row, column)| {
         let near = neighbours(sheet.side, row, column);

@@ -32,8 +32,7 @@ pub const RIBBED_NAMES: [&str; 4] = ["flat-128", "gradient-diagonal", "hot-rim",
 pub const TWO_HEADS_SIDES: [u32; 5] = [16, 32, 64, 128, 256];
 pub const TWO_HEADS_NAMES: [&str; 5] = ["flat-1", "flat-128", "flat-240", "hot-rim", "random"];
 
-/// "Larger maps are run against a reference in another language and the outputs matched." All stored files, each
-/// with its path from the top of the repository.
+/// All stored files, each with its path from the top of the repository: what larger maps are matched against.
 pub fn files() -> Result<Vec<(String, Vec<u8>)>, Refusal> {
     let mut files = vec![
         ("vectors/runs.csv".to_string(), runs_csv(PLAIN, &NAMES)?.into_bytes()),

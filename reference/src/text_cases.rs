@@ -182,8 +182,8 @@ fn high_greys() -> Vec<Case> {
     cases
 }
 
-/// Samples as they were stored before request 11, with outputs around the length of the text that Lower Text writes,
-/// which is as long as the text it reads; and greys buffers around the needed length.
+/// Samples with greys up to 255, as earlier versions stored them, with outputs around the length of the text that Lower
+/// Text writes, which is as long as the text it reads; and greys buffers around the needed length.
 fn lowered_lengths() -> Vec<Case> {
     let stored = |side: u32, seed: u32| {
         let mut greys = generated(seed, cell_count(side));

@@ -1,5 +1,5 @@
-//! The laser with two heads: document 02's request 13, and section 2 of document 000, in other words than theirs. The
-//! map is cut into macroblocks, and a dot touches no cell outside its own; so two heads can burn at the same time.
+//! The laser with two heads (S 13.1 to S 13.5). The map is cut into macroblocks, and a dot touches no cell outside its
+//! own; so two heads can burn at the same time.
 
 use crate::answers::{Progress, Refusal, TwoHeadsAnswer};
 use crate::calls::{check_load, start};
@@ -55,14 +55,14 @@ pub fn two_heads_in(
     match check(side, knit, greys, pyramid, serials, order) {
         Err(refusal) => {
             let progress = Progress { side: 0, dots: 0, knit: 0 };
-            TwoHeadsAnswer { progress, holes: 0, debt: 0, status: Err(refusal) }
+            TwoHeadsAnswer { progress, made: 0, debt: 0, status: Err(refusal) }
         }
         Ok(map) => {
             start(map.power, &greys[..cell_count(side)], pyramid, serials, order);
             let burnt = map.run(pyramid, arrange);
             map.number(&burnt, serials, order);
-            let holes = burnt.len() as u32;
-            TwoHeadsAnswer { progress: Progress { side, dots: holes, knit }, holes, debt: pyramid[0], status: Ok(()) }
+            let made = burnt.len() as u32;
+            TwoHeadsAnswer { progress: Progress { side, dots: made, knit }, made, debt: pyramid[0], status: Ok(()) }
         }
     }
 }

@@ -1,5 +1,5 @@
-//! Names for stages of a plate, document 02's request 7: what is kept, what a return makes of it, values that no Keep
-//! made, and greys that were not loaded. Lists of calls are tried in guarantees.rs.
+//! Names for stages of a plate: what is kept, what a return makes of it, values that no Keep made, and greys that were
+//! not loaded. Lists of calls are tried in guarantees.rs.
 
 use reference::*;
 
@@ -62,6 +62,7 @@ fn return_number(buffers: &Buffers, progress: Progress, checkpoints: Checkpoints
     }
 }
 
+/// For S 2.11.
 #[test]
 fn all_names_are_empty_at_first() {
     assert_eq!(Checkpoints::default().kept, [0; 8]);
@@ -73,7 +74,7 @@ fn all_names_are_empty_at_first() {
 }
 
 /// Place name - 1 gets one more than the dots, any number of them, on any knit and on numbers that are none; all other
-/// places stay, whatever they hold.
+/// places stay, whatever they hold (S 10.1, S 2.11).
 #[test]
 fn keep_writes_one_place() {
     for before in [Checkpoints::default(), DAMAGED, Checkpoints { kept: [u64::MAX; 8] }] {
@@ -92,6 +93,7 @@ fn keep_writes_one_place() {
     assert_eq!(kept(Progress { side: 2, dots: u32::MAX, knit: PLAIN }, DAMAGED, 2).kept[1], 1 << 32);
 }
 
+/// For S 10.1.
 #[test]
 fn keep_refuses_no_names_and_gives_all_back() {
     for checkpoints in [Checkpoints::default(), DAMAGED] {
@@ -103,7 +105,7 @@ fn keep_refuses_no_names_and_gives_all_back() {
     }
 }
 
-/// A later Keep takes the place of an earlier one, also of one with more dots.
+/// A later Keep takes the place of an earlier one, also of one with more dots (S 10.1).
 #[test]
 fn a_name_is_kept_again() {
     let greys = maps::named("random", 8);
@@ -116,7 +118,7 @@ fn a_name_is_kept_again() {
     }
 }
 
-/// With no dot kept the name is not empty: the return leaves what Load does.
+/// With no dot kept the name is not empty: the return leaves what Load does (S 2.11, S 10.2).
 #[test]
 fn no_dots_are_a_stage() {
     for side in SIDES {
@@ -134,7 +136,8 @@ fn no_dots_are_a_stage() {
     }
 }
 
-/// Each stage of a map from each other, back and forwards, under each name; the return to a name leaves all of them.
+/// Each stage of a map from each other, back and forwards, under each name; the return to a name leaves all of them
+/// (S 10.2).
 #[test]
 fn from_each_stage_to_each() {
     for (knit, side, name) in [
@@ -158,6 +161,7 @@ fn from_each_stage_to_each() {
     }
 }
 
+/// For S 10.3.
 #[test]
 fn counts_up_to_the_total() {
     for side in SIDES {
@@ -179,7 +183,7 @@ fn counts_up_to_the_total() {
     }
 }
 
-/// The total goes by halves: with a grey sum of 127 there is no dot, with 128 one, with 382 one, with 383 two.
+/// The total goes by halves: with a grey sum of 127 there is no dot, with 128 one, with 382 one, with 383 two (S 10.3).
 #[test]
 fn totals_by_hand() {
     for (greys, most) in [
@@ -198,6 +202,7 @@ fn totals_by_hand() {
     }
 }
 
+/// For S 10.3.
 #[test]
 fn return_refuses_no_names() {
     let greys = maps::named("random", 4);
@@ -213,7 +218,7 @@ fn return_refuses_no_names() {
     }
 }
 
-/// The greys given need not be those loaded: the sheet is then theirs, and so is the total.
+/// The greys given need not be those loaded: the sheet is then theirs, and so is the total (S 10.2).
 #[test]
 fn other_greys() {
     let [light, dark] = ["flat-1", "flat-239"].map(|name| maps::named(name, 16));
@@ -228,7 +233,7 @@ fn other_greys() {
 }
 
 /// A grey above 240 on a return, wherever it is on the map, though the sheet and the name would do; with 240 in its
-/// place it is done.
+/// place it is done (S 10.3).
 #[test]
 fn high_greys() {
     for (side, cells) in [(2, 4), (4, 16), (8, 64)] {
@@ -246,7 +251,7 @@ fn high_greys() {
 }
 
 /// A sheet that was loaded before greys above 240 were refused is sound, and burns on; but it can't be returned to a
-/// stage, not even with a name kept on it, unless its greys are lowered.
+/// stage, not even with a name kept on it, unless its greys are lowered (S 7.5).
 #[test]
 fn an_older_sheet() {
     let greys = maps::generated(7, 16);
@@ -258,7 +263,7 @@ fn an_older_sheet() {
     assert_eq!(buffers.advance(progress, 99).status, Ok(Ended::Finished));
 }
 
-/// The record's knit need not be the one loaded: the sheet is then that of the greys on the record's.
+/// The record's knit need not be the one loaded: the sheet is then that of the greys on the record's (S 10.2).
 #[test]
 fn the_other_knit() {
     let greys = maps::named("gradient-diagonal", 8);
@@ -271,7 +276,8 @@ fn the_other_knit() {
     }
 }
 
-/// A sound sheet will do, however it came about, and a sheet that is not sound is refused though it is made anew.
+/// A sound sheet will do, however it came about, and a sheet that is not sound is refused though it is made anew
+/// (S 10.3).
 #[test]
 fn the_sheet_before() {
     let greys = maps::named("random", 4);
@@ -292,7 +298,7 @@ fn the_sheet_before() {
     }
 }
 
-/// Places past the needed lengths stay, and further greys play no part, not in the total either.
+/// Places past the needed lengths stay, and further greys play no part, not in the total either (S 2.9).
 #[test]
 fn longer_buffers() {
     for side in [2, 4, 16] {

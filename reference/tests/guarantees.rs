@@ -1,6 +1,6 @@
-//! What document 01 promises of every run, tried on small pseudo-random maps of both knits; and what document 02
-//! promises of lists of calls with names and of finished maps, tried on these, of every page, tried on these and on the
-//! named maps, and of every sketch, tried on maps between its lows and its highs.
+//! What is promised of every run, tried on small pseudo-random maps of both knits; of lists of calls with names and of
+//! finished maps, tried on these; of every page, tried on these and on the named maps; and of every sketch, tried on
+//! maps between its lows and its highs.
 
 use std::cmp::Ordering;
 
@@ -110,7 +110,7 @@ fn check_state(greys: &[u8], progress: Progress, buffers: &Buffers) {
     });
 }
 
-/// What holds of a finished map: no block has fewer dots than its floor (document 02, request 1).
+/// What holds of a finished map: no block has fewer dots than its floor (S 15.5).
 fn check_finished(greys: &[u8], side: u32, serials: &[u32]) {
     for_every_block(side, greys, |[level, row, column], wide, grey| {
         let inside = tally(side, serials, level, row, column).unwrap();
@@ -167,12 +167,13 @@ fn check_call(dice: &mut Dice, greys: &[u8], progress: Progress, asked: &mut u64
     answer.progress
 }
 
+/// For S 7.3, S 15.2, S 15.3, S 15.4, S 15.5, S 15.6, S 15.7.
 #[test]
 fn lists_of_calls() {
     for_every_map(1, |dice, side, knit, greys| check_calls(dice, greys, fresh(side, knit, greys)));
 }
 
-/// Sheets loaded when greys went up to 255 run to their end, and come to the total of their own greys.
+/// Sheets loaded when greys went up to 255 run to their end, and come to the total of their own greys (S 7.5).
 #[test]
 fn lists_of_calls_on_older_sheets() {
     let mut high = 0;
@@ -274,7 +275,7 @@ impl Named {
 }
 
 /// Every list of Advance, Keep and Restore on one loaded map: a return leaves the whole sheet as it was when the name
-/// was last kept.
+/// was last kept (S 15.9).
 #[test]
 fn lists_of_calls_with_names() {
     let mut returns = Vec::new();
@@ -302,6 +303,7 @@ fn lists_of_calls_with_names() {
     }
 }
 
+/// For S 3.8.
 #[test]
 fn renewal_over_the_changed_cells_is_whole_renewal() {
     let mut dice = Dice(2);
@@ -351,6 +353,7 @@ fn any_sound_sheet(dice: &mut Dice, side: u32) -> (Buffers, Progress) {
     (buffers, progress)
 }
 
+/// For S 7.5, S 3.1.
 #[test]
 fn sound_sheets_however_they_came_about() {
     let mut dice = Dice(3);
@@ -371,7 +374,8 @@ fn sound_sheets_however_they_came_about() {
     }
 }
 
-/// A top of just 32,640 or 97,920 can't come from Load, whose tops are multiples of 256; a sound sheet may have it.
+/// A top of just 32,640 or 97,920 can't come from Load, whose tops are multiples of 256; a sound sheet may have it
+/// (S 3.1, S 7.3).
 #[test]
 fn the_threshold_itself() {
     for (top, due) in [(32_639, 0), (32_640, 1), (97_919, 1), (97_920, 2)] {
@@ -389,6 +393,7 @@ fn the_threshold_itself() {
     }
 }
 
+/// For S 15.10, S 6.2.
 #[test]
 fn map_texts_there_and_back() {
     for_every_map(4, |dice, side, _, greys| {
@@ -424,9 +429,8 @@ fn line_figures(line: &[u8]) -> [u32; 5] {
     figures.try_into().unwrap()
 }
 
-/// The pages of all levels: "The printed holes never exceed the printed cap on any sheet that Load and Advance made
-/// from those greys." And every figure is what it ought to be; the cap is the most holes that document 01's promise
-/// about squares and the number of cells allow.
+/// The pages of all levels: on a sheet that Load and Advance made of these greys no block has more holes than its cap.
+/// And every figure is what it ought to be; the cap is the most holes that S 15.4 and the number of cells allow.
 fn check_pages(side: u32, greys: &[u8], serials: &[u32]) {
     for level in 0..=power(side).unwrap() {
         let blocks = 2u32.pow(level);
@@ -446,6 +450,7 @@ fn check_pages(side: u32, greys: &[u8], serials: &[u32]) {
     }
 }
 
+/// For S 15.4, S 15.5, S 8.4.
 #[test]
 fn pages_of_the_named_maps() {
     for side in SIDES {
@@ -466,6 +471,7 @@ fn pages_of_the_named_maps() {
     }
 }
 
+/// For S 15.4, S 8.3.
 #[test]
 fn pages_of_random_maps() {
     for_every_map(5, |dice, side, knit, greys| {
@@ -558,6 +564,7 @@ fn check_sketch(dice: &mut Dice, side: u32, lows: &[u8], highs: &[u8]) -> (u32, 
     (least, greatest)
 }
 
+/// For S 15.11.
 #[test]
 fn maps_between_lows_and_highs() {
     let (mut equal, mut apart) = (0, 0);
@@ -570,6 +577,7 @@ fn maps_between_lows_and_highs() {
     assert!(equal > 500 && apart > 500, "{equal} sketches with one total, {apart} with two");
 }
 
+/// For S 15.11.
 #[test]
 fn larger_maps_between_lows_and_highs() {
     let mut dice = Dice(9);

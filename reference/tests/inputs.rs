@@ -6,6 +6,7 @@ use reference::Refusal;
 /// A program reads its input into one buffer.
 const BUFFER: usize = 65_536;
 
+/// For S 14.1.
 #[test]
 fn every_input_fits_the_buffer() -> Result<(), Refusal> {
     let files = files()?;

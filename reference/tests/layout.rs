@@ -1,9 +1,9 @@
-//! The pyramid by quarters, document 02's request 10: places worked by hand, each used once, and Relay, which
-//! writes an older sheet's pyramid by quarters.
+//! The pyramid by quarters: places worked by hand, each used once, and Relay, which writes an older sheet's pyramid by
+//! quarters.
 
 use reference::*;
 
-/// Side 4 by hand: a level of four rows of four, in the order of their places.
+/// Side 4 by hand: a level of four rows of four, in the order of their places (S 2.5).
 #[test]
 fn places_of_side_4() {
     let rows: Vec<i64> = (0..21).collect();
@@ -16,7 +16,7 @@ fn places_of_side_4() {
     }
 }
 
-/// The lowest bit of the column is the lowest bit of the place.
+/// The lowest bit of the column is the lowest bit of the place (S 2.5).
 #[test]
 fn single_bits() {
     let first = |level| level_start(level);
@@ -29,7 +29,7 @@ fn single_bits() {
     assert_eq!(quarter_entry(8, 37, 200) - first(8), 0b0101_1000_0110_0010);
 }
 
-/// Every place is used once; the four below the entry at place i are at the places 4 i + 1 to 4 i + 4.
+/// Every place is used once; the four below the entry at place i are at the places 4 i + 1 to 4 i + 4 (S 2.5, S 15.14).
 #[test]
 fn every_place_once_and_four_below() {
     for (level, rows) in (0..8).map(|level| (level, 2usize.pow(level))) {
@@ -45,7 +45,7 @@ fn every_place_once_and_four_below() {
     }
 }
 
-/// There and back; one place too few, or no side, and nothing is renamed; what lies behind stays.
+/// There and back; one place too few, or no side, and nothing is renamed; what lies behind stays (S 2.6).
 #[test]
 fn there_and_back() {
     for side in SIDES {
@@ -70,7 +70,7 @@ fn older(knit: u32) -> (Buffers, Progress) {
     (old, after.progress)
 }
 
-/// Relaid, an older sheet is sound, and goes on as it would have.
+/// Relaid, an older sheet is sound, and goes on as it would have (S 12.2, S 15.14).
 #[test]
 fn a_relaid_sheet_goes_on() {
     for knit in [PLAIN, RIBBED] {
@@ -87,7 +87,7 @@ fn a_relaid_sheet_goes_on() {
     }
 }
 
-/// Its refusals, the lowest first; none of them writes.
+/// Its refusals, the lowest first; none of them writes (S 5.2, S 12.2).
 #[test]
 fn refusals_of_relay() {
     let (old, progress) = older(PLAIN);

@@ -1,5 +1,5 @@
-//! Nothing above 240, document 02's request 11: greys lowered, and Lower Text, which makes of a stored text one that
-//! Map Text takes. What is refused with 12 is in refusals.rs.
+//! Nothing above 240: greys lowered, and Lower Text, which makes of a stored text one that Map Text takes. What is
+//! refused with 12 is in refusals.rs.
 
 use reference::*;
 
@@ -23,6 +23,7 @@ fn number(text: &[u8], greys: usize, out: usize) -> u32 {
     answer.err().unwrap_or(0)
 }
 
+/// For S 9.2.
 #[test]
 fn by_hand() {
     let text = b"2\n0,255\n240,241\n";
@@ -34,6 +35,7 @@ fn by_hand() {
     assert_eq!(convert(low), low);
 }
 
+/// For S 12.4.
 #[test]
 fn each_grey() {
     let mut greys: Vec<u8> = (0..=255).collect();
@@ -44,7 +46,7 @@ fn each_grey() {
 }
 
 /// Samples, which have greys up to 255, of every side: what is written has as many bytes, Map Text reads the lowered
-/// greys back, and a second time nothing changes.
+/// greys back, and a second time nothing changes (S 9.2, S 15.10).
 #[test]
 fn samples_of_every_side() {
     for side in SIDES {
@@ -69,7 +71,7 @@ fn samples_of_every_side() {
     }
 }
 
-/// A text without a grey above 240 is copied byte for byte.
+/// A text without a grey above 240 is copied byte for byte (S 15.10).
 #[test]
 fn copied() {
     for side in SIDES {
@@ -82,7 +84,7 @@ fn copied() {
     }
 }
 
-/// The refusals of Map Text but for 12, in its order, then 8: of any that fail, the first is told.
+/// The refusals of Map Text but for 12, in its order, then 8: of any that fail, the first is told (S 5.2).
 #[test]
 fn refusals_in_order() {
     for side in SIDES {
@@ -114,7 +116,7 @@ fn refusals_in_order() {
     assert_eq!(number(b"2\n255,255\n255,255\n", 4, 17), 8);
 }
 
-/// Whatever Lower Text takes, Map Text takes but for 12; and what Lower Text then writes, Map Text takes.
+/// Whatever Lower Text takes, Map Text takes but for 12; and what Lower Text then writes, Map Text takes (S 15.10).
 #[test]
 fn beside_map_text() {
     let bits = maps::generated(3, 200_000);
@@ -148,7 +150,7 @@ fn beside_map_text() {
     assert!(taken.iter().all(|times| *times > 900), "{taken:?}");
 }
 
-/// The program has room for every side, and longer inputs are no map texts.
+/// The program has room for every side, and longer inputs are no map texts (S 14.4).
 #[test]
 fn the_program() {
     let longest = text_of(&[255; 65_536]);
@@ -166,7 +168,8 @@ fn the_program() {
     }
 }
 
-/// The sample that the program `sample` printed before, converted, is what it prints now, and `plate` takes it.
+/// The sample that the program `sample` printed before, converted, is what it prints now, and `plate` takes it
+/// (S 14.3, S 14.4).
 #[test]
 fn the_older_sample() {
     let older = text_of(&maps::generated(1, 1_024));
@@ -182,7 +185,7 @@ fn full_squares(side: usize, serials: &[u32], s: usize) -> usize {
     (0..side / s).map(|a| (0..side / s).filter(|b| full(a, *b)).count()).sum()
 }
 
-/// A map of side 2 may still be burnt in every cell, and so may small squares of larger maps.
+/// A map of side 2 may still be burnt in every cell, and so may small squares of larger maps (S 15.8).
 #[test]
 fn a_flat_map_has_full_squares() {
     for (side, dots, squares) in [(2, 4, vec![1]), (4, 15, vec![3, 0]), (16, 241, vec![49, 1, 0, 0])] {

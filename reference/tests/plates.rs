@@ -1,6 +1,5 @@
-//! The plates of document 01, P1 to P12, six of them (3, 6, 7, 8, 9, 11) worked anew for the order of
-//! document 02, and P2 with 240 for its 255; and stages, quote pages and ribbed plates worked by hand from document 02.
-//! Where no knit is named, the cloth is plain.
+//! The plates to work by hand, P1 to P12; and turns, stages, quote pages and ribbed plates worked by hand too. Where no
+//! knit is named, the cloth is plain.
 
 use reference::*;
 
@@ -36,6 +35,7 @@ fn shares_at(knit: u32, side: u32, row: usize, column: usize, error: i64) -> Vec
     shares(error, &weights_of(weights(knit).unwrap(), &neighbours_in_turn(side, row, column)))
 }
 
+/// For S 17.1.
 #[test]
 fn p1_no_grey_no_dot() {
     let (buffers, progress) = finished(2, &[0; 4]);
@@ -45,7 +45,7 @@ fn p1_no_grey_no_dot() {
 
 /// Of the missing 65,280 - 61,440 = 3,840 the diagonal cell bears a fifth, 768, and with the next one three fifths,
 /// 2,304. Of the missing 4,608 after that, these are 921 and 2,764; of 7,219 they are 1,443 and 4,331; of 8,663 they
-/// are 1,732 and 5,197.
+/// are 1,732 and 5,197 (S 17.2).
 #[test]
 fn p2_all_cells() {
     let (mut buffers, mut progress) = loaded(2, &[240; 4]);
@@ -64,7 +64,8 @@ fn p2_all_cells() {
     assert_eq!(buffers.serials, [1, 3, 4, 2]);
 }
 
-/// A sheet of P2 with its own greys, 255, that was loaded before they were refused: four holes that lack nothing.
+/// A sheet of P2 with its own greys, 255, that was loaded before they were refused: four holes that lack nothing
+/// (S 7.5).
 #[test]
 fn p2_loaded_before() {
     let mut buffers = Buffers::older(2, &[255; 4]).unwrap();
@@ -74,7 +75,7 @@ fn p2_loaded_before() {
     assert_eq!(buffers.pyramid, [0; 5]);
 }
 
-/// Document 02, request 5, worked by hand: the second hole takes the later of two equal cells.
+/// Worked by hand: the second hole takes the later of two equal cells (S 3.3).
 #[test]
 fn turns_among_equals() {
     let (mut buffers, progress) = loaded(2, &[240, 200, 200, 0]);
@@ -88,7 +89,7 @@ fn turns_among_equals() {
     assert_eq!(buffers.order, [0, 2, 1, 0]);
 }
 
-/// Equal quarters above the cells take turns too.
+/// Equal quarters above the cells take turns too (S 3.3).
 #[test]
 fn turns_among_equal_quarters() {
     let mut greys = [0; 16];
@@ -100,7 +101,7 @@ fn turns_among_equal_quarters() {
 }
 
 /// Of the missing 32,512 the diagonal cell bears a fifth, 6,502, and with the next one three fifths, 19,507. Of the
-/// missing 39,014 after that, these are 7,802 and 23,408.
+/// missing 39,014 after that, these are 7,802 and 23,408 (S 17.3).
 #[test]
 fn p3_two_dots() {
     let (mut buffers, progress) = loaded(2, &P3_GREYS);
@@ -112,6 +113,7 @@ fn p3_two_dots() {
     assert_eq!(buffers.order, [0, 3, 0, 0]);
 }
 
+/// For S 17.3.
 #[test]
 fn p4_budgets() {
     let (mut buffers, mut progress) = loaded(2, &P3_GREYS);
@@ -124,12 +126,14 @@ fn p4_budgets() {
     assert_eq!(progress, Progress { side: 2, dots: 2, knit: PLAIN });
 }
 
+/// For S 17.1.
 #[test]
 fn p5_less_than_half_a_dot() {
     let (_, progress) = finished(2, &[127, 0, 0, 0]);
     assert_eq!(progress.dots, 0);
 }
 
+/// For S 17.4.
 #[test]
 fn p6_half_a_dot() {
     let (buffers, progress) = finished(2, &[128, 0, 0, 0]);
@@ -137,26 +141,26 @@ fn p6_half_a_dot() {
     assert_eq!(buffers.pyramid[1..], [0, -13_005, -13_005, -6_502]);
 }
 
-/// The running sums of the weights are 1, 2, 3, 4, 6, 8, 10, 12 of 12.
+/// The running sums of the weights are 1, 2, 3, 4, 6, 8, 10, 12 of 12 (S 17.5).
 #[test]
 fn p7_shares_inside() {
     assert_eq!(shares_at(PLAIN, 4, 1, 1, 13), [1, 1, 1, 1, 2, 2, 2, 3]);
 }
 
-/// 1, 2, 4, 6, 8 of 8.
+/// 1, 2, 4, 6, 8 of 8 (S 17.5).
 #[test]
 fn p8_shares_on_the_top_side() {
     assert_eq!(shares_at(PLAIN, 4, 0, 1, 7), [0, 1, 2, 2, 2]);
 }
 
-/// 1, 3, 5 of 5.
+/// 1, 3, 5 of 5 (S 17.5).
 #[test]
 fn p9_shares_in_the_top_left_corner() {
     assert_eq!(shares_at(PLAIN, 2, 0, 0, 4), [0, 2, 2]);
 }
 
-/// Document 02, request 9, worked by hand: what each cell around cell (1, 1) bears of a small error. No two cells bear
-/// the same of all of these.
+/// Worked by hand: what each cell around cell (1, 1) bears of a small error. No two cells bear the same of all of these
+/// (S 3.6).
 #[test]
 fn shares_by_place() {
     let by_row = |error: i64| {
@@ -176,7 +180,8 @@ fn shares_by_place() {
     assert_eq!(by_row(12), [1, 2, 1, 2, 2, 1, 2, 1]);
 }
 
-/// One dark cell inside: of the missing 32,512 = 12 × 2,709 + 4 the four odd units go below left, up, right and down.
+/// One dark cell inside: of the missing 32,512 = 12 × 2,709 + 4 the four odd units go below left, up, right and down
+/// (S 3.6).
 #[test]
 fn plain_errors_by_place() {
     let mut greys = [0; 16];
@@ -186,6 +191,7 @@ fn plain_errors_by_place() {
     assert_eq!(to_rows(4, &finished(4, &greys).0.pyramid)[5..17], left.concat());
 }
 
+/// For S 17.6.
 #[test]
 fn p10_dots_of_a_grey_sum() {
     for (greys, dots) in [([240, 142, 0, 0], 1), ([240, 143, 0, 0], 2)] {
@@ -199,6 +205,7 @@ fn p10_dots_of_a_grey_sum() {
     }
 }
 
+/// For S 17.6.
 #[test]
 fn p11_levels() {
     let (buffers, _) = finished(2, &P3_GREYS);
@@ -206,6 +213,7 @@ fn p11_levels() {
     assert_eq!(sums, Ok([4, 65_026, 0, 0, 0, 0, 0, 0, 0]));
 }
 
+/// For S 17.6.
 #[test]
 fn p12_wrong_top() {
     let (mut buffers, progress) = loaded(2, &P3_GREYS);
@@ -216,8 +224,8 @@ fn p12_wrong_top() {
     assert_eq!(list.map_err(Refusal::number), Err(5));
 }
 
-/// Document 02, request 7: P3 kept before its first hole, after it and at its end, and each stage returned to, from a
-/// later one and from an earlier one.
+/// P3 kept before its first hole, after it and at its end, and each stage returned to, from a later one and from an
+/// earlier one (S 10.2).
 #[test]
 fn stages_of_p3() {
     let (mut buffers, start) = loaded(2, &P3_GREYS);
@@ -246,7 +254,8 @@ fn stages_of_p3() {
 }
 
 /// Ribbed shares, by running sums as on plain cloth; D is 4, 3 and 2. Inside, the sums 0, 0, 0, 0, 1, 2, 3, 4 of the
-/// weights give 0, 0, 0, 0, 3, 6, 9, 13 of an error of 13. Below 0 the floor goes down too: a fourth of -1 is -1.
+/// weights give 0, 0, 0, 0, 3, 6, 9, 13 of an error of 13. Below 0 the floor goes down too: a fourth of -1 is -1
+/// (S 3.7).
 #[test]
 fn ribbed_shares() {
     assert_eq!(shares_at(RIBBED, 4, 1, 1, 13), [0, 0, 0, 0, 3, 3, 3, 4]);
@@ -258,7 +267,7 @@ fn ribbed_shares() {
 }
 
 /// The greys of P3 on ribbed cloth: of the missing 32,512 each straight neighbour bears a half, and the diagonal one,
-/// which then is the largest, nothing.
+/// which then is the largest, nothing (S 3.5).
 #[test]
 fn ribbed_p3() {
     let (mut buffers, progress) = loaded_on(RIBBED, 2, &P3_GREYS);
@@ -286,7 +295,7 @@ fn ribbed_small_plates() {
 }
 
 /// One dark cell inside: the whole error goes to the four straight neighbours, a fourth each; on a side a third each,
-/// in a corner a half each. Of 65,280 - 32,768 = 32,512 these are 8,128; 10,837, 10,837 and 10,838; 16,256.
+/// in a corner a half each. Of 65,280 - 32,768 = 32,512 these are 8,128; 10,837, 10,837 and 10,838; 16,256 (S 3.5).
 #[test]
 fn ribbed_errors_by_place() {
     let after = |cell: usize| {
@@ -304,7 +313,7 @@ fn ribbed_errors_by_place() {
 }
 
 /// The knit changed in the record between two calls: P3's first dot plain, its second ribbed. Of the missing 65,280 -
-/// 26,266 = 39,014 the cells above and to the left bear 19,507 each.
+/// 26,266 = 39,014 the cells above and to the left bear 19,507 each (S 7.3, S 2.8).
 #[test]
 fn p3_plain_then_ribbed() {
     let (mut buffers, progress) = loaded(2, &P3_GREYS);
@@ -314,6 +323,7 @@ fn p3_plain_then_ribbed() {
     assert_eq!(second.progress, Progress { side: 2, dots: 2, knit: RIBBED });
 }
 
+/// For S 14.1.
 #[test]
 fn the_program_on_p3() {
     assert_eq!(plate(b"2\n128,128\n128,128\n"), b"2,2\n1,0,0\n2,1,1\n");
@@ -332,7 +342,7 @@ fn finished_page(side: u32, greys: &[u8], level: u32) -> String {
 }
 
 /// 3 × 512 + 764 + 1,020 × 2 = 4,340 is 5 × 765 + 515, but there are 4 cells; 3 × 128 + 764 + 1,020 = 2,168 is
-/// 2 × 765 + 638, but there is one.
+/// 2 × 765 + 638, but there is one (S 8.4).
 #[test]
 fn the_page_of_p3() {
     let lines = [
@@ -354,7 +364,7 @@ fn the_page_of_p3_before_its_end() {
 }
 
 /// 3 × 85 + 764 + 1,020 × 2 = 3,059 is one less than 4 × 765; with a grey sum of 86 it is 3,062. With 0 it is 2,804,
-/// which is 3 × 765 + 509.
+/// which is 3 × 765 + 509 (S 8.3).
 #[test]
 fn the_cap_is_rounded_down() {
     assert_eq!(finished_page(2, &[85, 0, 0, 0], 0), "  0   0       85     0     3\n");
@@ -365,7 +375,7 @@ fn the_cap_is_rounded_down() {
 
 /// Caps of blocks that are 4 and 2 cells wide, each block with a grey sum of its own. Side 4, level 0, grey sum 190:
 /// 3 × 190 + 764 + 1,020 × 4 = 5,414 is 7 × 765 + 59. Level 1, grey sums 10, 50, 90 and 40: 2,834, 2,954 and 2,924
-/// are below 4 × 765 = 3,060, and 3,074 isn't.
+/// are below 4 × 765 = 3,060, and 3,074 isn't (S 8.4, S 8.3).
 #[test]
 fn the_page_of_four_blocks() {
     let greys = [1, 2, 11, 12, 3, 4, 13, 14, 21, 22, 10, 10, 23, 24, 10, 10];
@@ -381,7 +391,7 @@ fn the_page_of_four_blocks() {
 }
 
 /// The serials may be anything, and the page then tells of more holes than the cap allows: 764 + 1,020 × 8 = 8,924 is
-/// 11 × 765 + 509.
+/// 11 × 765 + 509 (S 8.4).
 #[test]
 fn the_page_of_a_sheet_that_no_load_made() {
     assert_eq!(page(8, &[0; 64], &[u32::MAX; 64], 0), "  0   0        0    64    11\n");
@@ -401,6 +411,7 @@ fn the_page_of_all_cells() {
     assert_eq!(cells.lines().last(), Some("255 255      255     1     1"));
 }
 
+/// For S 14.2.
 #[test]
 fn the_program_quote_on_p3() {
     assert_eq!(quote(b"0\n2\n128,128\n128,128\n"), b"  0   0      512     2     4\n");

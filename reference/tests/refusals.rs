@@ -1,5 +1,5 @@
-//! "When a call says no": every number of the table for every call that gives it, at the exact boundary. Without a word
-//! on it, the cloth is plain.
+//! When a call says no: every number for every call that gives it, at the exact boundary. Without a word on it, the
+//! cloth is plain.
 
 use reference::*;
 
@@ -61,6 +61,7 @@ fn load_number(side: u32, greys: usize, pyramid: usize, serials: usize, order: u
     number
 }
 
+/// For S 5.2, S 7.2.
 #[test]
 fn load_refuses() {
     for side in SIDES {
@@ -92,7 +93,7 @@ fn high_number(knit: u32, side: u32, grey: (usize, u8), [greys, pyramid, serials
     answer.status.map_or_else(Refusal::number, |()| 0)
 }
 
-/// A grey above 240 is the last of Load's checks; behind the map's own greys it is none of them.
+/// A grey above 240 is the last of Load's checks; behind the map's own greys it is none of them (S 7.2).
 #[test]
 fn load_refuses_high_greys() {
     for side in SIDES {
@@ -162,6 +163,7 @@ fn sheet_number_on(progress: Progress, buffers: &Buffers, lent: (usize, usize, u
     number
 }
 
+/// For S 5.2.
 #[test]
 fn advance_and_drill_list_refuse_sides_and_lengths() {
     for side in SIDES {
@@ -214,6 +216,7 @@ fn set_residual(buffers: &mut Buffers, cell: usize, residual: i64) {
 
 // The three dots are at the cells 10, 1 and 9: each of the tests below breaks one condition and no other, as far as
 // this can be done.
+/// For S 4.7.
 #[test]
 fn the_sheet_of_three_dots() {
     let (buffers, _) = three_dots();
@@ -221,6 +224,7 @@ fn the_sheet_of_three_dots() {
     assert_eq!(number_after(|_, _| ()), 0);
 }
 
+/// For S 4.1.
 #[test]
 fn condition_1_too_many_dots() {
     for dots in [17, 18, 65_536, u32::MAX - 1, u32::MAX] {
@@ -237,6 +241,7 @@ fn condition_1_too_many_dots() {
     }
 }
 
+/// For S 4.2.
 #[test]
 fn condition_2_order_and_serials_disagree() {
     for cell in [16, 17, u32::MAX] {
@@ -251,6 +256,7 @@ fn condition_2_order_and_serials_disagree() {
     assert_eq!(number_after(|buffers, _| buffers.serials.swap(9, 10)), 5);
 }
 
+/// For S 4.3.
 #[test]
 fn condition_3_other_serials() {
     // a residual of 0 serves a cell with a dot as well as one without
@@ -270,6 +276,7 @@ fn condition_3_other_serials() {
     assert_eq!(sheet_number(Progress { side: 4, dots: 1, knit: PLAIN }, &buffers, lent), 0);
 }
 
+/// For S 4.4.
 #[test]
 fn condition_4_unused_places() {
     for place in [3, 4, 15] {
@@ -279,6 +286,7 @@ fn condition_4_unused_places() {
     }
 }
 
+/// For S 4.5.
 #[test]
 fn condition_5_sums() {
     for entry in 0..5 {
@@ -304,6 +312,7 @@ fn condition_5_sums() {
     assert_eq!(number, 5);
 }
 
+/// For S 4.6.
 #[test]
 fn condition_6_high_residuals() {
     assert_eq!(number_with_residual(15, DOT), 0);
@@ -317,6 +326,7 @@ fn condition_6_high_residuals() {
     assert_eq!(number_after(|buffers, _| buffers.pyramid.fill(i64::MAX)), 5);
 }
 
+/// For S 4.7.
 #[test]
 fn condition_7_low_residuals() {
     // the cells with the number of dots around each: the dots are at (2, 2), (0, 1) and (2, 1)
@@ -331,6 +341,7 @@ fn condition_7_low_residuals() {
     assert_eq!(number_after(|buffers, _| buffers.pyramid.fill(i64::MIN)), 5);
 }
 
+/// For S 9.3, S 6.6.
 #[test]
 fn drill_list_refuses_a_short_output() {
     let (buffers, progress) = three_dots();
@@ -353,6 +364,7 @@ fn drill_list_refuses_a_short_output() {
     assert_eq!(list(Progress { knit: 2, dots: 2, ..progress }, 0).0, Err(11));
 }
 
+/// For S 5.2, S 8.1.
 #[test]
 fn tally_refuses() {
     let number = |side, serials: usize, level, row, column| {
@@ -382,6 +394,7 @@ fn tally_refuses() {
     }
 }
 
+/// For S 5.2, S 8.2.
 #[test]
 fn levels_refuses() {
     let number = |side, greys: usize, serials: usize| {
@@ -417,6 +430,7 @@ fn page_number(side: u32, greys: usize, serials: usize, level: u32, out: usize) 
     }
 }
 
+/// For S 5.2.
 #[test]
 fn quote_page_refuses() {
     for side in SIDES {
@@ -443,7 +457,7 @@ fn quote_page_refuses() {
     }
 }
 
-/// "Checks 1, 2, 4, 6, 8 apply in that order": with any of them failing, the first one that fails is told.
+/// With any of the checks 1, 2, 4, 6, 8 failing, the first one that fails is told (S 5.2).
 #[test]
 fn quote_page_refuses_in_order() {
     for side in SIDES {
@@ -479,6 +493,7 @@ fn sample_number(seed: u32, side: u32, length: usize) -> u32 {
     answer.map_or_else(Refusal::number, |_| 0)
 }
 
+/// For S 5.2.
 #[test]
 fn sample_refuses() {
     for seed in [0, 1, 1 << 31, u32::MAX] {
@@ -504,6 +519,7 @@ fn compare_number(side: u32, left: usize, right: usize) -> u32 {
     compare(side, &vec![1; left], &vec![2; right]).map_or_else(Refusal::number, |_| 0)
 }
 
+/// For S 5.2.
 #[test]
 fn compare_refuses() {
     for side in SIDES {
@@ -539,6 +555,7 @@ fn shelf_number(side: u32, n: u32, plates: usize, places: usize) -> u32 {
     answer.map_or_else(Refusal::number, |()| 0)
 }
 
+/// For S 5.2, S 11.2.
 #[test]
 fn shelf_refuses() {
     for side in SIDES {
@@ -569,7 +586,7 @@ fn shelf_refuses() {
     }
 }
 
-/// Checks 1, 4 and 8: with any of them failing, the first one that fails is told.
+/// Checks 1, 4 and 8: with any of them failing, the first one that fails is told (S 5.2).
 #[test]
 fn shelf_refuses_in_order() {
     for side in SIDES {
@@ -587,7 +604,7 @@ fn shelf_refuses_in_order() {
 }
 
 /// Plates that need 2^32 places and more: neither the largest number of them nor those whose need is small modulo 2^32
-/// are taken for fewer.
+/// are taken for fewer (S 11.2).
 #[test]
 fn shelf_refuses_more_plates_than_there_can_be() {
     for side in SIDES {
@@ -617,6 +634,7 @@ fn keep_number(side: u32, dots: u32, name: u32) -> u32 {
     plain.status.map_or_else(Refusal::number, |()| 0)
 }
 
+/// For S 5.2.
 #[test]
 fn keep_refuses() {
     for dots in [100, 65_537, u32::MAX] {
@@ -707,6 +725,7 @@ const FAILURES: [(u32, Failure); 22] = [
     (10, |asked| asked.name = 6),
 ];
 
+/// For S 5.2.
 #[test]
 fn restore_refuses() {
     for side in SIDES {
@@ -747,7 +766,7 @@ fn restore_refuses() {
 }
 
 /// Checks 1, 11, 2, 3, 4, 5, 12 and 10: of any two that fail, in whichever way, the first is told; and of all that fail
-/// from one on.
+/// from one on (S 5.2).
 #[test]
 fn restore_refuses_in_order() {
     for side in SIDES {
@@ -776,6 +795,7 @@ fn text_number(text: &[u8], length: usize) -> u32 {
     answer.map_or_else(Refusal::number, |_| 0)
 }
 
+/// For S 6.4.
 #[test]
 fn map_text_first_line() {
     let wrong = "|\n|00\n|02\n|064\n|1000\n|0002\n|2|64|999|2\r\n| 2\n|2 \n|+2\n|-2\n|2,2\n|x\n|\"2\"\n|\
@@ -801,6 +821,7 @@ fn map_text_first_line() {
     }
 }
 
+/// For S 6.1, S 6.2.
 #[test]
 fn map_text_other_lines() {
     let mut greys = [99; 6];
@@ -815,7 +836,7 @@ fn map_text_other_lines() {
     }
 }
 
-/// A text that fits the grammar is read exactly if no grey is above 240: 12 comes last of all.
+/// A text that fits the grammar is read exactly if no grey is above 240: 12 comes last of all (S 9.1).
 #[test]
 fn map_text_high_greys() {
     for side in SIDES {
@@ -845,6 +866,7 @@ fn map_text_high_greys() {
     }
 }
 
+/// For S 14.1, S 14.7.
 #[test]
 fn the_program_refuses() {
     // the longest map text of side 32 is just as long as the longest input
@@ -872,6 +894,7 @@ fn the_program_refuses() {
     assert_eq!(plate(b"2\n0,0\n0,0\n"), b"0,2\n");
 }
 
+/// For S 14.2.
 #[test]
 fn the_program_quote_refuses() {
     const MAP: &str = "2\n0,240\n10,7\n";
@@ -905,6 +928,7 @@ fn the_program_quote_refuses() {
     assert_eq!(quote(&[b"6\n", &text[..]].concat()), b"refused,6\n");
 }
 
+/// For S 2.9.
 #[test]
 fn longer_buffers_keep_their_tail() {
     for side in [2, 4, 16] {
@@ -937,7 +961,8 @@ fn longer_buffers_keep_their_tail() {
     }
 }
 
-/// Buffers of any length with any content, and any numbers: every call answers, and a refusal changes nothing.
+/// Buffers of any length with any content, and any numbers: every call answers, and a refusal changes nothing
+/// (S 5.1, S 15.16).
 #[test]
 fn any_lengths_and_any_content() {
     let bits = maps::generated(5, 500_000);

@@ -1,5 +1,4 @@
-//! The renewal by itself, document 02's request 3: sums worked by hand, each cell of small maps, and where nothing is
-//! promised.
+//! The renewal by itself: sums worked by hand, each cell of small maps, and where nothing is done.
 
 use reference::*;
 
@@ -15,7 +14,8 @@ fn renewed(side: u32, (row, column): (u32, u32), before: &[i64]) -> Vec<i64> {
     pyramid
 }
 
-/// The cells are 1 to 16, so the sums are 14, 22, 46 and 54; the pyramid has -1 to -5 in place of these and the top.
+/// The cells are 1 to 16, so the sums are 14, 22, 46 and 54; the pyramid has -1 to -5 in place of these and the top
+/// (S 12.3).
 #[test]
 fn wrong_sums_of_side_4() {
     let before: Vec<i64> = (-5..0).rev().chain(1..17).collect();
@@ -50,8 +50,7 @@ fn four(pyramid: &[i64], level: u32, row: usize, column: usize) -> i64 {
     below(0, 0) + below(0, 1) + below(1, 0) + below(1, 1)
 }
 
-/// "it leaves every coarser entry over these cells as the sum of its four, and no other entry changes, not even a wrong
-/// one."
+/// Each sum over the cell or one of its neighbours is right, and all other entries are as they were, right or wrong.
 fn check_renewal(side: u32, cell: (u32, u32), before: &[i64]) {
     let after = renewed(side, cell, before);
     let power = power(side).unwrap();
@@ -69,7 +68,7 @@ fn check_renewal(side: u32, cell: (u32, u32), before: &[i64]) {
 }
 
 /// No sum is right, since every entry is less than each of its four. The last two entries lie past the needed length
-/// and may be anything.
+/// and may be anything (S 12.3, S 3.8).
 #[test]
 fn each_cell_of_wrong_pyramids() {
     for side in [2, 4, 8, 16, 32] {
@@ -82,7 +81,7 @@ fn each_cell_of_wrong_pyramids() {
     }
 }
 
-/// The sums are then beyond the ends, and nothing more is promised.
+/// The sums are then beyond the ends, and nothing more is promised (S 12.3).
 #[test]
 fn all_entries_at_an_end_of_the_range() {
     for side in SIDES {
@@ -102,6 +101,7 @@ fn is_left_alone(side: u32, row: u32, column: u32, before: &[i64]) -> bool {
     !renew(side, row, column, &mut pyramid) && pyramid == before
 }
 
+/// For S 12.3.
 #[test]
 fn nothing_is_promised() {
     for side in SIDES {

@@ -1,5 +1,5 @@
-//! Samples, document 02's request 4: its own figures, states worked by hand, buffers filled one after the other, and
-//! the program's text.
+//! Samples: the first greys of seed 0, states worked by hand, buffers filled one after the other, and the program's
+//! text.
 
 use reference::*;
 
@@ -13,7 +13,7 @@ fn sampled(seed: u32, side: u32) -> (Vec<u8>, u32) {
     (greys, state)
 }
 
-/// "Seed 0 begins 60, 71, 209, 170." The states, with p = 2^32:
+/// The first greys of seed 0 (S 12.1). Their states, with p = 2^32:
 /// 1,664,525 × 0 + 1,013,904,223 = 0 × p + 1,013,904,223, which is 60 × 2^24 + 7,271,263;
 /// 1,664,525 × 1,013,904,223 + 1,013,904,223 = 392,941 × p + 1,196,435,762, which is 71 × 2^24 + 5,253,426;
 /// 1,664,525 × 1,196,435,762 + 1,013,904,223 = 463,681 × p + 3,519,870,697, which is 209 × 2^24 + 13,432,553;
@@ -30,7 +30,7 @@ fn seed_0() {
 /// 60 × 2^24 + 5,606,738. The three after it, with p = 2^32:
 /// 1,664,525 × 1,012,239,698 + 1,013,904,223 = 392,296 × p + 806,866,057, which is 48 × 2^24 + 1,559,689;
 /// 1,664,525 × 806,866,057 + 1,013,904,223 = 312,703 × p + 579,071,060, which is 34 × 2^24 + 8,645,716;
-/// 1,664,525 × 579,071,060 + 1,013,904,223 = 224,420 × p + 2,709,482,403, which is 161 × 2^24 + 8,350,627.
+/// 1,664,525 × 579,071,060 + 1,013,904,223 = 224,420 × p + 2,709,482,403, which is 161 × 2^24 + 8,350,627 (S 12.1).
 #[test]
 fn the_largest_seed() {
     assert_eq!(sampled(u32::MAX, 2), (vec![60, 48, 34, 161], 2_709_482_403));
@@ -57,7 +57,7 @@ fn one_after_the_other(seed: u32, sides: &[u32]) -> (Vec<u8>, u32) {
     (run, state)
 }
 
-/// "filling two buffers one after the other from that state gives the greys of one long run."
+/// Two buffers, the second from the state that the first reached, get the greys of one longer run (S 15.13).
 #[test]
 fn buffers_one_after_the_other() {
     for seed in SEEDS {
@@ -73,6 +73,7 @@ fn buffers_one_after_the_other() {
     }
 }
 
+/// For S 2.9.
 #[test]
 fn places_past_the_cells_stay() {
     for seed in SEEDS {
@@ -88,7 +89,8 @@ fn places_past_the_cells_stay() {
     }
 }
 
-/// The program prints a map text of side 32, from seed 1. The call fills greys up to 255, and the program lowers them.
+/// The program prints a map text of side 32, from seed 1. The call fills greys up to 255, and the program lowers them
+/// (S 14.3).
 #[test]
 fn the_program() {
     let text = sample_text();

@@ -1,5 +1,5 @@
-//! Two plates compared and a shelf of plates put in order, document 02's request 6: answers worked by hand, the laws of
-//! the order on all patterns of side 2, the standard library's sort beside it, and the comparisons counted.
+//! Two plates compared and a shelf of plates put in order: answers worked by hand, the laws of the order on all
+//! patterns of side 2, the standard library's sort beside it, and the comparisons counted.
 
 use reference::Compared::{After, AfterAt, Before, BeforeAt, Same};
 use reference::*;
@@ -30,6 +30,7 @@ fn burnt_in(side: u32, cells: &[usize]) -> Vec<u32> {
 
 // ---- by hand: the rows 76 to 82 of the definition's plates
 
+/// For S 11.1.
 #[test]
 fn fewer_holes_come_first() {
     assert_eq!(answer(2, &[1, 0, 0, 0], &[0, 0, 1, 2]), Before);
@@ -43,6 +44,7 @@ fn fewer_holes_come_first() {
     }
 }
 
+/// For S 11.1.
 #[test]
 fn of_as_many_holes_the_first_difference_decides() {
     assert_eq!(answer(2, &[0, 1, 0, 0], &[0, 0, 1, 0]), AfterAt(0, 1));
@@ -60,6 +62,7 @@ fn of_as_many_holes_the_first_difference_decides() {
     }
 }
 
+/// For S 11.1.
 #[test]
 fn neither_serials_nor_what_lies_past_the_cells_count() {
     assert_eq!(answer(2, &[1, 0, 0, 2], &[9, 0, 0, u32::MAX]), Same);
@@ -73,6 +76,7 @@ fn neither_serials_nor_what_lies_past_the_cells_count() {
     }
 }
 
+/// For S 5.2.
 #[test]
 fn compare_refuses_by_hand() {
     let number = |side, left: &[u32], right: &[u32]| compare(side, left, right).map_err(Refusal::number);
@@ -81,11 +85,13 @@ fn compare_refuses_by_hand() {
     assert_eq!(number(2, &[1, 0, 0, 0], &[1, 0, 0]), Err(4));
 }
 
+/// For S 11.2.
 #[test]
 fn five_plates() {
     assert_eq!(sorted(2, 5, &FIVE, 6), [3, 1, 0, 2, 4, 9]);
 }
 
+/// For S 11.2.
 #[test]
 fn few_plates() {
     assert_eq!(sorted(2, 0, &[], 0), []);
@@ -95,6 +101,7 @@ fn few_plates() {
     assert_eq!(sorted(2, 2, &FIVE, 2), [1, 0]);
 }
 
+/// For S 5.2.
 #[test]
 fn shelf_refuses_by_hand() {
     let number = |side, n, plates: usize, places: usize| {
@@ -133,6 +140,7 @@ fn reversed(answer: Compared) -> Compared {
     }
 }
 
+/// For S 15.12.
 #[test]
 fn each_pair_has_one_answer_and_its_reverse() {
     for left in sheets() {
@@ -145,6 +153,7 @@ fn each_pair_has_one_answer_and_its_reverse() {
     }
 }
 
+/// For S 15.12.
 #[test]
 fn three_in_a_row_stand_in_order() {
     let mut chains = 0;
@@ -224,6 +233,7 @@ fn drawn_plate(draws: &mut Draws, cells: usize, shelf: &[u32]) -> Vec<u32> {
     plate
 }
 
+/// For S 15.12, S 11.2.
 #[test]
 fn the_same_order_another_way() {
     let mut draws = Draws { state: 1 };
@@ -248,6 +258,7 @@ fn the_same_order_another_way() {
     assert!(equal > 10_000);
 }
 
+/// For S 11.2.
 #[test]
 fn places_past_the_plates_stay() {
     for n in 0..=5 {

@@ -1,5 +1,5 @@
-//! Sketch Quote, document 02's request 12, and the program `sketch`. What it promises of every map between the lows and
-//! the highs is in guarantees.rs.
+//! Sketch Quote, and the program `sketch`. What it promises of every map between the lows and the highs is in
+//! guarantees.rs.
 
 use reference::*;
 
@@ -27,6 +27,7 @@ fn totals(side: u32, least: u32, greatest: u32) -> Result<SketchQuote, u32> {
     Ok(SketchQuote { side, least, greatest })
 }
 
+/// For S 9.4.
 #[test]
 fn by_hand() {
     let text = b"2\n10,20,0,240\n128,128,5,6\n";
@@ -41,7 +42,7 @@ fn by_hand() {
     }
 }
 
-/// Half a hole more or less: a total goes up where the sum comes to 128, and to 383.
+/// Half a hole more or less: a total goes up where the sum comes to 128, and to 383 (S 9.4).
 #[test]
 fn totals_at_the_boundary() {
     for (low, high, least, greatest) in [(0, 127, 0, 0), (127, 128, 0, 1), (128, 128, 1, 1), (128, 240, 1, 1)] {
@@ -52,7 +53,7 @@ fn totals_at_the_boundary() {
     assert_eq!(answered(text, 0, [4, 4, 1]).0, totals(2, 1, 2));
 }
 
-/// The places past the cells, and past the caps of the level, stay.
+/// The places past the cells, and past the caps of the level, stay (S 9.4, S 2.9).
 #[test]
 fn places_past_stay() {
     let text = b"2\n0,1,2,3\n4,5,6,7\n";
@@ -78,8 +79,8 @@ fn printed_caps(side: u32, greys: &[u8], level: u32) -> Vec<u32> {
     page.chunks(29).map(cap).collect()
 }
 
-/// Sketches of every side, at every level: both buffers as they were written, the totals that the two maps come to by
-/// document 01's formula, and the caps that the quote page has for the map of the highs.
+/// Sketches of every side, at every level: both buffers as they were written, the totals that the two maps come to
+/// (S 15.3), and the caps that the quote page has for the map of the highs (S 9.4).
 #[test]
 fn every_side_and_level() {
     let total = |greys: &[u8]| (2 * greys.iter().map(|grey| u32::from(*grey)).sum::<u32>() + 255) / 510;
@@ -94,7 +95,7 @@ fn every_side_and_level() {
     }
 }
 
-/// A low that is the high: the sketch of a map that is known. Both totals are the map's.
+/// A low that is the high: the sketch of a map that is known. Both totals are the map's (S 9.4).
 #[test]
 fn equal_pairs() {
     for side in [2, 4, 8, 16, 32] {
@@ -111,7 +112,8 @@ fn equal_pairs() {
     }
 }
 
-/// Each refusal with all that are looked for later: 7 for the first line, 1, 2, 7 for the rest, 12, 13, 6, 8.
+/// Each refusal with all that are looked for later: 7 for the first line, 1, 2, 7 for the rest, 12, 13, 6, 8
+/// (S 5.2, S 6.4).
 #[test]
 fn refusals_in_order() {
     for side in SIDES {
@@ -156,7 +158,7 @@ fn refusals_in_order() {
     assert_eq!(number(b"2", u32::MAX, [4, 4, 4]), 7);
 }
 
-/// 12 and 13 wherever they are: as a low or as a high, in any pair, and 12 before 13 also in one pair.
+/// 12 and 13 wherever they are: as a low or as a high, in any pair, and 12 before 13 also in one pair (S 9.4).
 #[test]
 fn high_and_falling_pairs() {
     let refused = |pairs: &str| number(format!("2\n{pairs}\n").as_bytes(), 0, [4, 4, 1]);
@@ -203,7 +205,7 @@ fn each_pair() {
     }
 }
 
-/// Rows that are none of a sketch: one number or one pair too few or too many, other marks, the text of a map.
+/// Rows that are none of a sketch: one number or one pair too few or too many, other marks, the text of a map (S 6.3).
 #[test]
 fn other_lines() {
     let wrong = "|0,0\n0,0\n|0,0,0,0\n0,0,0\n|0,0,0\n0,0,0,0\n|0,0,0,0\n0,0\n|0,0,0,0,0\n0,0,0,0\n|0,0,0,0\n|\
@@ -224,7 +226,7 @@ fn other_lines() {
     }
 }
 
-/// With bytes changed it may still be a sketch, but only as the text of what was read.
+/// With bytes changed it may still be a sketch, but only as the text of what was read (S 6.3).
 #[test]
 fn there_and_back() {
     let bits = maps::generated(9, 400_000);
@@ -255,6 +257,7 @@ fn there_and_back() {
     assert_eq!(met.iter().sum::<u32>(), [0, 1, 2, 7, 12, 13].map(|number: usize| met[number]).iter().sum());
 }
 
+/// For S 14.5.
 #[test]
 fn the_program() {
     let printed = |input: &str| String::from_utf8(sketch(input.as_bytes())).unwrap();
@@ -275,6 +278,7 @@ fn the_program() {
     assert_eq!(printed(&format!("6\n{text}")), "refused,6\n");
 }
 
+/// For S 14.5.
 #[test]
 fn the_program_refuses() {
     const SKETCH: &str = "2\n0,240,1,1\n10,17,7,7\n";

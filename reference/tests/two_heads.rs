@@ -1,5 +1,5 @@
-//! The laser with two heads, document 02's request 13: small maps worked by hand, what is promised of every map, the
-//! refusals, and the program `two_heads`.
+//! The laser with two heads: small maps worked by hand, what is promised of every map, the refusals, and the program
+//! `two_heads`.
 
 use reference::by_rows::{two_heads_in, Macroblock};
 use reference::*;
@@ -70,7 +70,7 @@ fn burnt(knit: u32, cells: &[(usize, usize, u8)]) -> (Vec<(u32, u32)>, i64) {
     let mut buffers = Buffers::new(16).unwrap();
     let answer = buffers.two_heads(16, knit, &map(cells));
     assert_eq!(answer.status, Ok(()));
-    let order = &buffers.order[..answer.holes as usize];
+    let order = &buffers.order[..answer.made as usize];
     (order.iter().map(|cell| (cell / 16, cell % 16)).collect(), answer.debt)
 }
 
@@ -79,6 +79,7 @@ fn debt(grey_sum: i64, dots: i64) -> i64 {
     256 * grey_sum - 65_280 * dots
 }
 
+/// For S 13.2.
 #[test]
 fn nothing_is_owed() {
     assert_eq!(burnt(PLAIN, &[]), (vec![], 0));
@@ -87,7 +88,8 @@ fn nothing_is_owed() {
     assert_eq!(burnt(PLAIN, &[(3, 3, 128)]), (vec![(3, 3)], debt(128, 1)));
 }
 
-/// The dark cell of the macroblock lies on its rim, on one side after the other, and no other macroblock owes enough.
+/// The dark cell of the macroblock lies on its rim, on one side after the other, and no other macroblock owes enough
+/// (S 13.3).
 #[test]
 fn rim_cells_are_not_burnt() {
     for (rim, other) in [((7, 2), (2, 2)), ((2, 7), (2, 2)), ((8, 2), (13, 2)), ((2, 8), (2, 13)), ((7, 7), (2, 2))] {
@@ -101,6 +103,7 @@ fn rim_cells_are_not_burnt() {
     assert_eq!(burnt(PLAIN, &[(4, 8, 100), (10, 8, 99), (10, 4, 2)]).0, []);
 }
 
+/// For S 13.3.
 #[test]
 fn rim_cells_at_the_edge_of_the_map_are_burnt() {
     for (row, column) in [(0, 3), (15, 3), (3, 0), (3, 15), (0, 0), (0, 15), (15, 0), (15, 15)] {
@@ -114,7 +117,7 @@ fn rim_cells_at_the_edge_of_the_map_are_burnt() {
     }
 }
 
-/// Each cell can be burnt at one offset alone.
+/// Each cell can be burnt at one offset alone (S 13.1, S 13.4).
 #[test]
 fn offsets_in_turn() {
     let cells = [(2, 2, 240), (2, 7, 239), (7, 2, 238), (7, 7, 237)];
@@ -124,7 +127,7 @@ fn offsets_in_turn() {
     assert_eq!(burnt(PLAIN, &cells).0, [(7, 7), (2, 7), (7, 2), (2, 2)]);
 }
 
-/// Three rounds without a dot do not end the run, nor do four that are not in a row.
+/// Three rounds without a dot do not end the run, nor do four that are not in a row (S 13.4).
 #[test]
 fn ends_after_four_rounds_in_a_row() {
     assert_eq!(burnt(PLAIN, &[(7, 7, 240)]), (vec![(7, 7)], debt(240, 1)));
@@ -132,7 +135,7 @@ fn ends_after_four_rounds_in_a_row() {
 }
 
 /// The first dot, of 237, takes 384 from the cell (4, 4), so that the macroblock in the middle comes to just half a dot
-/// in its round: 256 x 129 - 384.
+/// in its round: 256 x 129 - 384 (S 13.2).
 #[test]
 fn just_half_a_dot() {
     assert_eq!(burnt(PLAIN, &[(3, 3, 237), (6, 6, 129)]), (vec![(3, 3), (6, 6)], debt(366, 2)));
@@ -140,14 +143,15 @@ fn just_half_a_dot() {
     assert_eq!(burnt(RIBBED, &[(3, 1, 237), (6, 2, 132)]), (vec![(3, 1), (6, 2)], debt(369, 2)));
 }
 
-/// Two dots, of 239 and 229, take 342 and 555 from its corners, and it comes to 256 x 131 - 897, one less than half.
+/// Two dots, of 239 and 229, take 342 and 555 from its corners, and it comes to 256 x 131 - 897, one less than half
+/// (S 13.2).
 #[test]
 fn just_below_half_a_dot() {
     let cells = [(3, 12, 239), (6, 9, 131), (12, 3, 229)];
     assert_eq!(burnt(PLAIN, &cells), (vec![(3, 12), (12, 3)], debt(599, 2)));
 }
 
-/// Among blocks, within a block, and within four cells. It is the first for every dot, odd or even.
+/// Among blocks, within a block, and within four cells. It is the first for every dot, odd or even (S 13.2).
 #[test]
 fn first_of_equals() {
     for (first, last) in [((1, 1), (1, 5)), ((1, 1), (5, 1)), ((1, 5), (5, 1)), ((1, 1), (1, 2)), ((2, 2), (3, 3))] {
@@ -158,19 +162,20 @@ fn first_of_equals() {
     assert_eq!(burnt(PLAIN, &cells).0, [(1, 1), (9, 9)]);
 }
 
-/// The block with the largest sum is taken, and not the one with the darkest cell.
+/// The block with the largest sum is taken, and not the one with the darkest cell (S 13.2).
 #[test]
 fn largest_block() {
     assert_eq!(burnt(PLAIN, &[(1, 1, 100), (5, 5, 61), (5, 6, 60)]).0, [(5, 5)]);
 }
 
+/// For S 13.4.
 #[test]
 fn serials_by_row_then_column() {
     let cells = [(2, 2, 237), (2, 10, 238), (10, 2, 239), (10, 10, 240)];
     assert_eq!(burnt(PLAIN, &cells).0, [(2, 2), (2, 10), (10, 2), (10, 10)]);
 }
 
-/// The debts around a dot: those of the engine, inside the map, at its edge and in its corner.
+/// The debts around a dot: those of the engine, inside the map, at its edge and in its corner (S 13.3).
 #[test]
 fn spread_by_the_engines_rules() {
     for (cell, knit) in [((7, 7), PLAIN), ((0, 3), PLAIN), ((15, 15), PLAIN), ((7, 7), RIBBED), ((3, 0), RIBBED)] {
@@ -197,7 +202,7 @@ fn arranged(
 }
 
 /// Whichever macroblock of a round comes first, pyramid and burnt cells are the same; so are the serials, which do not
-/// go by it.
+/// go by it (S 15.15).
 #[test]
 fn any_order_within_a_round() {
     for_every_map(13, |dice, side, knit, greys| {
@@ -210,7 +215,7 @@ fn any_order_within_a_round() {
 }
 
 /// The rounds have their macroblocks by row, then column, wholly on the map: 4 by 4 of them at side 32, and one fewer
-/// each way that is offset.
+/// each way that is offset (S 13.1).
 #[test]
 fn macroblocks_of_the_rounds() {
     let mut rounds = Vec::new();
@@ -227,20 +232,20 @@ fn macroblocks_of_the_rounds() {
 }
 
 /// A sheet that the reference's own test finds sound: no cell twice, and every sum right. What the dots are worth and
-/// the debt come to all greys.
+/// the debt come to all greys (S 15.15).
 #[test]
 fn sound_and_nothing_lost() {
     for_every_map(14, |_, side, knit, greys| {
         let mut buffers = Buffers::new(side).unwrap();
         let answer = buffers.two_heads(side, knit, greys);
-        assert_eq!(answer.progress, Progress { side, dots: answer.holes, knit });
+        assert_eq!(answer.progress, Progress { side, dots: answer.made, knit });
         assert!(buffers.sound(answer.progress));
-        let mut cells = buffers.order[..answer.holes as usize].to_vec();
+        let mut cells = buffers.order[..answer.made as usize].to_vec();
         cells.sort();
         cells.dedup();
-        assert_eq!(cells.len(), answer.holes as usize);
+        assert_eq!(cells.len(), answer.made as usize);
         let grey_sum: i64 = greys.iter().map(|grey| i64::from(*grey)).sum();
-        assert_eq!(answer.debt, debt(grey_sum, i64::from(answer.holes)));
+        assert_eq!(answer.debt, debt(grey_sum, i64::from(answer.made)));
         assert_eq!(answer.debt, buffers.pyramid[0]);
     });
 }
@@ -264,7 +269,7 @@ fn wanted(owed: &dyn Fn(usize, usize) -> i64, (top, left): (usize, usize), wide:
 }
 
 /// At the end each macroblock of each offset owes less than half a dot, or comes to a cell that has a neighbour outside
-/// of it.
+/// of it (S 15.15).
 #[test]
 fn nothing_is_left_to_burn() {
     for_every_map(15, |_, side, knit, greys| {
@@ -281,7 +286,7 @@ fn nothing_is_left_to_burn() {
     });
 }
 
-/// Each refusal with all that are looked for later: 1, 14, 11, 2, 3, 4, 12. A refusal writes nothing.
+/// Each refusal with all that are looked for later: 1, 14, 11, 2, 3, 4, 12. A refusal writes nothing (S 5.2, S 13.5).
 #[test]
 fn refusals_in_order() {
     let refused = |side: u32, knit: u32, high: bool, lent: [usize; 4]| {
@@ -292,7 +297,7 @@ fn refusals_in_order() {
         let number = answer.status.err().map_or(0, Refusal::number);
         if number != 0 {
             assert_eq!(buffers, before);
-            assert_eq!((answer.progress, answer.holes, answer.debt), (Progress { side: 0, dots: 0, knit: 0 }, 0, 0));
+            assert_eq!((answer.progress, answer.made, answer.debt), (Progress { side: 0, dots: 0, knit: 0 }, 0, 0));
         }
         number
     };
@@ -315,13 +320,13 @@ fn refusals_in_order() {
     }
 }
 
-/// A grey past the map may be high, and places past the needed lengths stay.
+/// A grey past the map may be high, and places past the needed lengths stay (S 2.9).
 #[test]
 fn places_past_stay() {
     let greys = [map(&[(3, 3, 200)]), vec![255; 3]].concat();
     let mut buffers = Buffers { pyramid: vec![5; 343], serials: vec![6; 259], order: vec![7; 260] };
     let answer = buffers.two_heads(16, PLAIN, &greys);
-    assert_eq!((answer.holes, answer.status), (1, Ok(())));
+    assert_eq!((answer.made, answer.status), (1, Ok(())));
     let mut exact = Buffers::new(16).unwrap();
     exact.two_heads(16, PLAIN, &greys);
     assert_eq!(buffers.pyramid, [exact.pyramid, vec![5; 2]].concat());
@@ -349,10 +354,10 @@ fn by_quarters() {
     assert!(buffers.pyramid != rows.pyramid);
 }
 
-/// What is promised of one head is no promise here: its total, either way, and the cap of the whole map.
+/// What is promised of one head is no promise here: its total, either way, and the cap of the whole map (S 15.15).
 #[test]
 fn promises_of_one_head_do_not_hold() {
-    let holes = |side: u32, greys: &[u8]| Buffers::new(side).unwrap().two_heads(side, PLAIN, greys).holes;
+    let holes = |side: u32, greys: &[u8]| Buffers::new(side).unwrap().two_heads(side, PLAIN, greys).made;
     // no macroblock of a map of greys of 1 owes half a dot, while all of them together owe one
     assert_eq!((holes(16, &[1; 256]), total(&[1; 256])), (0, 1));
     // macroblocks that owe half a dot each burn one each
@@ -374,6 +379,7 @@ fn printed(input: &[u8]) -> String {
     String::from_utf8(two_heads_text(input)).unwrap()
 }
 
+/// For S 14.6.
 #[test]
 fn the_program() {
     let text = write_map_text(16, &map(&[(2, 7, 238), (7, 2, 239), (7, 7, 240)]));

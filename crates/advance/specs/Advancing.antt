@@ -1,4 +1,5 @@
--- Advance's two ways out: refused, with nothing changed, and advanced.
+-- Advance's two ways out: refused, with nothing changed (`refused-is`), and the sheet run and advanced (`advanced-is`,
+-- `passed-is`).
 use mathlib.Core.Path.{_≡_, sym, ap, _∙_}
 use mathlib.Core.List.{List, _++_}
 use Prim.Native.Nat.{ℕ, suc, _+_, _-_, _^_, _≤_, _<_, min}
@@ -41,7 +42,8 @@ use Rattle.dot_run.specs.Running.{RunAsked, Ran, top-rows}
 
 -- ---- the sheet's parts lent, its pyramid p by quarters; n and c are what the code has worked out for the needed
 -- length and the number of cells
-module _ {r dots : ℕ} (p : List ℤ) (s o : List ℕ) (h : SheetAsked r dots p s o) {n c : ℕ} (en : n ≡ needed r) (ec : c ≡ cellCount r) where
+module _ {r dots : ℕ} (p : List ℤ) (s o : List ℕ) (h : SheetAsked r dots p s o) {n c : ℕ} (en : n ≡ needed r)
+    (ec : c ≡ cellCount r) where
   pyramid-in : n ≤ length p
   pyramid-in = omega (arith, h .lent .pyramid-long)
 

@@ -1,4 +1,4 @@
--- What Advance says, from the test of the top on a word.
+-- What Advance says, from the test of the top on a word: finished or more (`says-finished`, `says-more`).
 use mathlib.Core.Path.{_≡_}
 use mathlib.Core.Bool.{true, false}
 use lib.IntN.{ℤ, pos}

@@ -1,4 +1,4 @@
-// Advance: as many dots as are due, and at most the budget, spread by the knit of the record.
+// Advance: as many dots as are due, and at most the budget, spread by the knit of the record (`advance`).
 use checks::Check;
 use definition::AdvanceAnswer;
 use definition::AdvanceStatus;
@@ -15,7 +15,7 @@ ghost use Rattle.sheet.specs.Sheets.{SheetAsked};
 // From this top on a dot is due.
 const HALF_DOT: i64 = 32640;
 
-// What is said with this top: "finished exactly if the top is then below 32,640, else more".
+// What is said with this top: finished if it is below 32,640, else more (S 7.3).
 fn ended(top: i64) -> AdvanceStatus
     ensures { λ a. ⌜ advanceSays a ≡ saidAt top ⌝ }
 {
@@ -47,7 +47,7 @@ fn answer(side: u32, dots: u32, knit: u32, made: u32, status: AdvanceStatus) -> 
     }
 }
 
-// Advance, on a sheet that is not refused; its pyramid lies by quarters, and is told of row after row.
+// Advance, on a sheet that is not refused (S 7.3); its pyramid lies by quarters, and is told of row after row.
 fn advance_sheet(
     progress: Progress,
     r: usize,
@@ -88,6 +88,7 @@ fn advance_sheet(
     answer(progress.side, dots + made, knit, made, status)
 }
 
+// Advance (S 7.3, S 7.4), with its checks in order (S 5.2). It asks nothing of how the sheet came about (S 7.5).
 pub fn advance(
     progress: Progress,
     budget: u32,

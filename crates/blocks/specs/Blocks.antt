@@ -1,5 +1,6 @@
--- The blocks of a level as squares of cells: block (row, column) of level k begins at row × s, column × s, where
--- s = 2^(r − k). So the counts and sums of the code are those of the definitions.
+-- The blocks of a level as squares of cells (`block-square`): block (row, column) of level k begins at row × s,
+-- column × s, where s = 2^(r − k). So what the code counts and sums is the definitions' (`block-dots`, `block-greys`);
+-- `BlockAsked` is what it asks for.
 use mathlib.Core.Path.{_≡_, ap, _∙_}
 use mathlib.Core.List.{List}
 use Prim.Native.Nat.{ℕ, _+_, _*_, _-_, _^_, _≤_, _<_}

@@ -1,5 +1,6 @@
 -- What the inner functions count and sum up: rows of cells, and squares of cells on a map of `side` by `side` (s rows
--- of s cells, the first in row `top` at column `left`); what they ask for, and the laws of their loops.
+-- of s cells, the first in row `top` at column `left`). What they ask for (`SquareAsked`), and the laws of their loops
+-- (`dot-one`, `square-row`).
 use mathlib.Core.Path.{_≡_, refl}
 use mathlib.Core.List.{List}
 use Prim.Native.Nat.{ℕ, _+_, _*_, _≤_, _<_}

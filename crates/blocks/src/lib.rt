@@ -1,5 +1,5 @@
-// The counting over aligned squares behind Tally, Quote Page and the test for a sound sheet: the dots of a block, and
-// its greys.
+// The counting over aligned squares behind Tally, Quote Page and the test for a sound sheet: the dots of a block
+// (`block_dots`), its greys (`block_greys`), and the mark of a cell (`mark`).
 ghost use mathlib.Core.Path.{_≡_};
 ghost use lib.ListN.{length};
 ghost use Rattle.definition.specs.Blocks.{burnt, greySum, dotsIn};
@@ -46,7 +46,7 @@ fn square_dots(serials: &[u32], side: usize, s: usize, top: usize, left: usize) 
     sum
 }
 
-// The dots of the block (row, column) of level k.
+// The dots of the block (row, column) of level k (S 2.10).
 pub fn block_dots(serials: &[u32], r: usize, k: usize, row: usize, column: usize) -> u32
     requires { ⌜ BlockAsked (length (now serials)) r k row column ⌝ }
     ensures { λ n. ⌜ n ≡ dotsIn r (now (serials .entry)) k row column ⌝ }
@@ -84,7 +84,7 @@ fn square_greys(greys: &[u8], side: usize, s: usize, top: usize, left: usize) ->
     sum
 }
 
-// The grey sum of the block (row, column) of level k.
+// The grey sum of the block (row, column) of level k (S 2.10).
 pub fn block_greys(greys: &[u8], r: usize, k: usize, row: usize, column: usize) -> u32
     requires { ⌜ BlockAsked (length (now greys)) r k row column ⌝ }
     ensures { λ n. ⌜ n ≡ greySum r (now (greys .entry)) k row column ⌝ }

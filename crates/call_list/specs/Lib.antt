@@ -1,1 +1,1 @@
-pub mod Promise
+pub mod PriceListOfCode

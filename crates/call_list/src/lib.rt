@@ -1,11 +1,11 @@
-// The promise in code: a map is loaded for a knit, and a list of Advance calls is made on it, each lent parts of the
-// buffers. What is promised is demand 3.
+// The price list in code (`run_calls`): a map is loaded for a knit, and a list of Advance calls is made on it, each
+// lent parts of the buffers (`one_call`).
 use definition::Progress;
 ghost use mathlib.Core.Path.{_≡_};
 ghost use Prim.Native.Nat.{min};
 ghost use lib.ListN.{length, getD};
-ghost use Rattle.definition.specs.Calls.{callOf, heldAfter, heldAfterCalls};
-ghost use Rattle.call_list.specs.Promise.{callsIn, Kept};
+ghost use Rattle.definition.specs.AdvanceList.{callOf, heldAfter, heldAfterCalls};
+ghost use Rattle.call_list.specs.PriceListOfCode.{callsIn, Kept};
 
 // The number at place i, or 0 where there is none.
 pub fn at(numbers: &[usize], i: usize) -> usize
@@ -109,7 +109,8 @@ fn make_calls(
     progress
 }
 
-// Load, then these calls.
+// Load, then these calls: answers and buffers are the model's (S 15.2), and the price list holds of them (S 15.3,
+// S 15.4, S 15.5, S 15.6, S 15.7).
 pub fn run_calls(
     side: u32,
     knit: u32,

@@ -1,5 +1,6 @@
-// What the programs share: numbers read from a text of numbers parted by commas and line ends, and numbers, lists,
-// answers and refusals written to standard output; and the buffers of a case, their greys, and Advance on them.
+// What the programs share: numbers read from a text of numbers parted by commas and line ends (`next`), and numbers,
+// lists, answers and refusals written to standard output (`field`, `print_load`, `print_call`); and the buffers of a
+// case, their greys (`make_greys`), and Advance on them (`advance_on`).
 use decimals::Number;
 use definition::AdvanceAnswer;
 use definition::AdvanceStatus;

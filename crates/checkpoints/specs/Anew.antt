@@ -1,4 +1,4 @@
--- A sheet made anew: the fresh sheet of the greys, then a run of as many dots as are asked.
+-- A sheet made anew: the fresh sheet of the greys, then a run of as many dots as are asked (`made-anew`).
 use mathlib.Core.Path.{_≡_, refl, sym, ap, ap₂, _∙_}
 use mathlib.Core.List.{List, _++_}
 use Prim.Native.Nat.{ℕ, _+_, _^_, _≤_, min}
@@ -11,14 +11,14 @@ use Rattle.definition.specs.Diffusion.{kernelOf}
 use Rattle.definition.specs.Model.{Halftone, topOf, modelStart, steps}
 use Rattle.definition.specs.Quarters.{rowsFrom, quartersFrom}
 use Rattle.definition.specs.Advance.{dotsDue}
-use Rattle.pyramid.specs.Asked.{freshPyramid}
+use Rattle.pyramid.specs.PyramidPart.{freshPyramid}
 use Rattle.layouts.specs.Relaid.{length-rows, length-quarters, rows-back, quarters-back}
 use Rattle.shares.specs.Kernels.{knit-fit}
 use Rattle.dots.specs.Steps.{Sheet, steps-min}
 use Rattle.guarantee.specs.Start.{each-of, start-sheet}
 use Rattle.fresh_sheet.specs.Filling.{Filled}
 use Rattle.dot_run.specs.Running.{RunAsked, Ran}
-use Rattle.checkpoints.specs.Asked.{AnewAsked, Restored}
+use Rattle.checkpoints.specs.Restoring.{AnewAsked, Restored}
 
 -- ---- filled, then run; n and c are what the code has worked out for the needed length and the number of cells
 module _ {r : ℕ} {g : List ℕ} (p : List ℤ) (s o : List ℕ) (h : AnewAsked r g (length p) (length s) (length o))

@@ -1,4 +1,4 @@
-pub mod Asked
+pub mod Restoring
 pub mod Rows
 pub mod Anew
-pub mod Calls
+pub mod WaysOut

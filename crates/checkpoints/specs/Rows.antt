@@ -1,4 +1,5 @@
--- The rows of the two checks.
+-- The rows of the two checks: Keep's (`keep-passed`, `keep-failed`); Restore's by what is lent (`lent-first`), then the
+-- last three (`then-last`).
 use mathlib.Core.Path.{_≡_, refl, sym, _∙_}
 use mathlib.Core.Bool.{Bool, true, false, not}
 use mathlib.Core.List.{List, [], _∷_}

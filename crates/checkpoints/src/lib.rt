@@ -1,4 +1,4 @@
-// Keep and Restore: counts of dots under eight names, and the way back to one of them (document 02, request 7).
+// Keep and Restore: counts of dots under eight names (`keep`), and the way back to one of them (`restore`).
 use checks::Check;
 use definition::CheckpointAnswer;
 use definition::CheckpointStatus;
@@ -21,7 +21,7 @@ ghost use Rattle.definition.specs.Quarters.{asRows};
 ghost use Rattle.definition.specs.ByQuarters.{restoreByQuarters};
 ghost use Rattle.places.specs.Table.{places};
 ghost use Rattle.checks.specs.Checks.{checked};
-ghost use Rattle.checkpoints.specs.Asked.{CountAsked, AnewAsked, Restored};
+ghost use Rattle.checkpoints.specs.Restoring.{CountAsked, AnewAsked, Restored};
 
 fn done(progress: Progress, checkpoints: Checkpoints) -> CheckpointAnswer
     ensures { λ a. ⌜
@@ -48,7 +48,7 @@ fn refused(progress: Progress, checkpoints: Checkpoints, why: Refusal) -> Checkp
     }
 }
 
-// Keep's refusals 1, then 10.
+// Keep's refusals 1, then 10 (S 5.2).
 fn check_keep(r: usize, name: u32) -> Check
     ensures { λ c. ⌜ checked c ≡ keepRefusal r name ⌝ }
 {
@@ -61,7 +61,7 @@ fn check_keep(r: usize, name: u32) -> Check
     Check::Failed(Refusal::NameUnknown)
 }
 
-// Keep: the dots of the record are written down under a name.
+// Keep (S 10.1): the dots of the record are written down under a name.
 pub fn keep(progress: Progress, checkpoints: Checkpoints, name: u32) -> CheckpointAnswer
     ensures { λ a. ⌜
         record { progress = a .progress; checkpoints = a .checkpoints; said = checkpointSays (a .status) }
@@ -94,7 +94,7 @@ fn check_last(sound: bool, low: bool, known: bool) -> Check
     Check::Passed
 }
 
-// Restore's refusals: those of Load by what is lent, for which its greys count as low, then the last.
+// Restore's refusals (S 5.2): those of Load by what is lent, for which its greys count as low, then the last.
 fn check_restore(
     r: usize,
     dots: u32,
@@ -181,7 +181,7 @@ fn restore_sheet(
     );
 }
 
-// Restore: the way back to the sheet of a name.
+// Restore (S 10.2, S 10.3): the way back to the sheet of a name.
 pub fn restore(
     progress: Progress,
     checkpoints: Checkpoints,

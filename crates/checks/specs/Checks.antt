@@ -1,4 +1,5 @@
--- The number that a check says, 0 if it passes; and what the tests of lengths and places tell about the table's rows.
+-- The number that a check says, 0 if it passes (`checked`, `passed-none`, `failed-number`); and what the tests of
+-- lengths and places tell about the rows of refusals (`short`, `enough`).
 use mathlib.Core.Path.{_≡_, sym, ap, _∙_}
 use mathlib.Core.Bool.{true, false}
 use Prim.Native.Nat.{ℕ, suc, _-_, _≤_, _<_}

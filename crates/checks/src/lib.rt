@@ -1,4 +1,5 @@
-// What a call's check finds before anything is read or written: nothing, or the first of its refusals that applies.
+// What a call's check finds before anything is read or written (`Check`): nothing, or the first of its refusals that
+// applies. The number of a refusal (`number_of`), and the check of a greys buffer (`check_greys`).
 use definition::Refusal;
 ghost use mathlib.Core.Path.{_≡_};
 ghost use Prim.Native.Nat.{_≤_};
@@ -11,7 +12,7 @@ pub enum Check {
     Failed(Refusal),
 }
 
-// The number of a refusal.
+// The number of a refusal (S 5.1).
 pub fn number_of(why: Refusal) -> u32
     ensures { λ n. ⌜ n ≡ numberOf why ⌝ }
 {
@@ -33,7 +34,7 @@ pub fn number_of(why: Refusal) -> u32
     }
 }
 
-// Refusals 1 and 2, from the side's power and the places of the greys buffer.
+// Refusals 1 and 2, in this order (S 5.2), from the side's power and the places of the greys buffer.
 pub fn check_greys(r: usize, lent: usize) -> Check
     requires { ⌜ r ≤ 8 ⌝ }
     ensures { λ c. ⌜ checked c ≡ greysRefusal r lent ⌝ }

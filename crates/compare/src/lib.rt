@@ -1,4 +1,4 @@
-// Compare: how two plates of one side stand to each other.
+// Compare: how two plates of one side stand to each other (`compare`).
 use checks::Check;
 use definition::CompareAnswer;
 use definition::Refusal;
@@ -8,7 +8,7 @@ ghost use Rattle.definition.specs.Answers.{compareSays};
 ghost use Rattle.definition.specs.Shelf.{compareRefusal, compareOf};
 ghost use Rattle.checks.specs.Checks.{checked};
 
-// Compare's refusals 1, 4, for lengths lent.
+// Compare's refusals 1, 4 (S 5.2), for lengths lent.
 fn check_compare(r: usize, left: usize, right: usize) -> Check
     requires { ⌜ r ≤ 8 ⌝ }
     ensures { λ c. ⌜ checked c ≡ compareRefusal r left right ⌝ }
@@ -26,7 +26,7 @@ fn check_compare(r: usize, left: usize, right: usize) -> Check
     Check::Passed
 }
 
-// Compare: before, same or after, with the first cell that differs where the counts agree.
+// Compare (S 11.1): before, same or after, with the first cell that differs where the counts agree.
 pub fn compare(side: u32, left: &[u32], right: &[u32]) -> CompareAnswer
     ensures { λ a. ⌜ compareSays a ≡ compareOf side (now (left .entry)) (now (right .entry)) ⌝ }
 {

@@ -1,4 +1,4 @@
--- What is printed: a text at the start of a buffer that has room for it.
+-- What is printed: a text at the start of a buffer that has room for it (`Printed`, `wrote-printed`).
 use mathlib.Core.Path.{_≡_, _∙_}
 use mathlib.Core.List.{List, _++_}
 use Prim.Native.Nat.{ℕ, _≤_}
@@ -8,13 +8,14 @@ use lib.ListN.{length, take, drop}
 use lib.Seq.{take-at}
 use Rattle.decimals.specs.Writing.{Wrote, sets-front}
 
--- the first n bytes are the text, and what lay behind them stays
+-- the first n bytes are the text, and what lay behind them stays (S 6.6)
 pub record Printed (text before : List ℕ) (n : ℕ) (after : List ℕ) : Type 0 where
   pub room : length text ≤ length before
   pub count : n ≡ length text
   pub written : after ≡ text ++ drop (length text) before
 
-pub wrote-printed : {text before after : List ℕ} {n : ℕ} → length text ≤ length before → Wrote before 0 text n after → Printed text before n after
+pub wrote-printed : {text before after : List ℕ} {n : ℕ} → length text ≤ length before → Wrote before 0 text n after
+    → Printed text before n after
 wrote-printed {text} {before} room w =
     record {
       room = room;

@@ -1,4 +1,4 @@
--- The reader at a place of a text: what is left there begins with a field, or with none.
+-- The reader at a place of a text: what is left there begins with a field, or with none (`digits-out`, `field-out`).
 use mathlib.Core.Path.{_≡_, sym, _∙_}
 use mathlib.Core.Bool.{Bool, true, false}
 use mathlib.Core.List.{List, _∷_}
@@ -9,7 +9,17 @@ use lib.Dec.{leb}
 use lib.ListN.{length, getD, drop, drop-of-length-le}
 use lib.Seq.{drop-cons}
 use Rattle.definition.specs.Text.{Field, field, malformed, isDigit, digitsThen, fieldOf}
-use Rattle.grammar.specs.Fields.{isDigit-iff, isNextDigit, isNextDigit-iff, NextDigit, digitsThen-end, digitsThen-digit, digitsThen-other, fieldOf-digit, fieldOf-other}
+use Rattle.grammar.specs.Fields.{
+  isDigit-iff,
+  isNextDigit,
+  isNextDigit-iff,
+  NextDigit,
+  digitsThen-end,
+  digitsThen-digit,
+  digitsThen-other,
+  fieldOf-digit,
+  fieldOf-other,
+}
 use Rattle.decimals.specs.declared.Number.{Number}
 use Rattle.decimals.specs.declared.Number.the-variants.{Read, Malformed}
 
@@ -63,13 +73,17 @@ module _ (text : List ℕ) (at most end v : ℕ) where
     digits-end e = sym (rw (here text at h, e) (digitsThen-end most end v (drop (at + 1) text)))
 
     module _ (n : getD text at 0 ≡ end → ⊥) where
-      pub digits-other : {u : Bool} → u ≡ isNextDigit most v (getD text at 0) → u ≡ false → fieldIn text Malformed ≡ digitsThen most end v (drop at text)
+      pub digits-other : {u : Bool} → u ≡ isNextDigit most v (getD text at 0) → u ≡ false
+          → fieldIn text Malformed ≡ digitsThen most end v (drop at text)
       unfolding fieldIn
-      digits-other e f = sym (rw (here text at h) (digitsThen-other most end v (getD text at 0) (drop (at + 1) text) n (sym e ∙ f)))
+      digits-other e f =
+          sym (rw (here text at h) (digitsThen-other most end v (getD text at 0) (drop (at + 1) text) n (sym e ∙ f)))
 
       pub digits-more : {u : Bool} → u ≡ isNextDigit most v (getD text at 0) → u ≡ true
-          → digitsThen most end (10 * v + (getD text at 0 - 48)) (drop (at + 1) text) ≡ digitsThen most end v (drop at text)
-      digits-more e f = sym (rw (here text at h) (digitsThen-digit most end v (getD text at 0) (drop (at + 1) text) n (sym e ∙ f)))
+          → digitsThen most end (10 * v + (getD text at 0 - 48)) (drop (at + 1) text)
+          ≡ digitsThen most end v (drop at text)
+      digits-more e f =
+          sym (rw (here text at h) (digitsThen-digit most end v (getD text at 0) (drop (at + 1) text) n (sym e ∙ f)))
 
 -- ---- from the first byte on
 module _ (text : List ℕ) (at most end : ℕ) where
@@ -82,5 +96,6 @@ module _ (text : List ℕ) (at most end : ℕ) where
     unfolding fieldIn
     field-other f = sym (rw (here text at h) (fieldOf-other most end (getD text at 0) (drop (at + 1) text) (sym e ∙ f)))
 
-    pub field-digit : t ≡ true → digitsThen most end (getD text at 0 - 48) (drop (at + 1) text) ≡ fieldOf most end (drop at text)
+    pub field-digit : t ≡ true
+        → digitsThen most end (getD text at 0 - 48) (drop (at + 1) text) ≡ fieldOf most end (drop at text)
     field-digit f = sym (rw (here text at h) (fieldOf-digit most end (getD text at 0) (drop (at + 1) text) (sym e ∙ f)))

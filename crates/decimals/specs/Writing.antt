@@ -1,4 +1,5 @@
--- What a writer leaves: bytes stored from a place on, as far as there are places, and the place behind them.
+-- What a writer leaves (`Wrote`): bytes stored from a place on, as far as there are places, and the place behind them;
+-- one writer after another (`wrote-append`), and how long a number is (`length-decimal`).
 use mathlib.Core.Path.{_≡_, refl, sym, ap, _∙_}
 use mathlib.Core.List.{List, [], _∷_, _++_, append-assoc}
 use Prim.Native.Nat.{ℕ, zero, suc, _+_, _-_, _/_, _%_, _^_, _<_, _≤_}
@@ -26,13 +27,15 @@ pub record Wrote (before : List ℕ) (at : ℕ) (bytes : List ℕ) (next : ℕ) 
 sets-append : (a b l : List ℕ) (i : ℕ) → sets (sets l i a) (i + length a) b ≡ sets l i (a ++ b)
 sets-append [] b l i = ap (λ (k : ℕ). sets l k b) (add-zero i)
 sets-append (x ∷ a) b l i =
-    ap (λ (k : ℕ). sets (sets (set l i x) (suc i) a) k b) (add-suc i (length a) ∙ sym (suc-add i (length a))) ∙ sets-append a b (set l i x) (suc i)
+    ap (λ (k : ℕ). sets (sets (set l i x) (suc i) a) k b) (add-suc i (length a) ∙ sym (suc-add i (length a)))
+    ∙ sets-append a b (set l i x) (suc i)
 
 pub wrote-none : {l : List ℕ} {at : ℕ} → Wrote l at [] at l
 wrote-none {l} {at} = record { place = sym (add-zero at); stored = refl }
 
 -- one writer, then another from where it ended
-pub wrote-append : {l l₁ l₂ a b : List ℕ} {at r s : ℕ} → Wrote l at a r l₁ → Wrote l₁ r b s l₂ → Wrote l at (a ++ b) s l₂
+pub wrote-append : {l l₁ l₂ a b : List ℕ} {at r s : ℕ} → Wrote l at a r l₁ → Wrote l₁ r b s l₂
+    → Wrote l at (a ++ b) s l₂
 wrote-append {l} {l₁} {l₂} {a} {b} {at} {r} {s} x y =
     record {
       place = y .place ∙ rw (x .place, length-append a b, add-assoc at (length a) (length b));
@@ -45,7 +48,8 @@ module _ (f : ℕ → List ℕ) where
   unfolding joined
   wrote-joined-none = wrote-none
 
-  pub wrote-joined-more : {l l₁ l₂ : List ℕ} {at r s : ℕ} (i : ℕ) → Wrote l at (joined i f) r l₁ → Wrote l₁ r (f i) s l₂ → Wrote l at (joined (i + 1) f) s l₂
+  pub wrote-joined-more : {l l₁ l₂ : List ℕ} {at r s : ℕ} (i : ℕ) → Wrote l at (joined i f) r l₁ → Wrote l₁ r (f i) s l₂
+      → Wrote l at (joined (i + 1) f) s l₂
   unfolding joined
   wrote-joined-more i x y = rw (add-one i) (wrote-append x y)
 
@@ -68,16 +72,19 @@ pub spaces-end : {l l₁ : List ℕ} {at a : ℕ} (i : ℕ) → Wrote l at (repl
 spaces-end i w = omega (arith, w .place, length-replicate i space)
 
 module _ {l l₁ l₂ : List ℕ} {at a b : ℕ} where
-  pub one-more-space : (i : ℕ) → Wrote l at (replicate i space) a l₁ → Wrote l₁ a (space ∷ []) b l₂ → Wrote l at (replicate (i + 1) space) b l₂
+  pub one-more-space : (i : ℕ) → Wrote l at (replicate i space) a l₁ → Wrote l₁ a (space ∷ []) b l₂
+      → Wrote l at (replicate (i + 1) space) b l₂
   one-more-space i x y = rw (← replicate-append-replicate i 1 space) (wrote-append x y)
 
   -- ---- a number behind spaces: its last digit behind all that comes before it, in a place less
   module _ (width n : ℕ) {before : ℕ} (e : before ≡ width - 1) where
-    pub one-digit : n < 10 → Wrote l at (replicate before space) a l₁ → Wrote l₁ a ((48 + n) ∷ []) b l₂ → Wrote l at (rightAligned width n) b l₂
+    pub one-digit : n < 10 → Wrote l at (replicate before space) a l₁ → Wrote l₁ a ((48 + n) ∷ []) b l₂
+        → Wrote l at (rightAligned width n) b l₂
     unfolding rightAligned
     one-digit h x y = rw (decimal-below-ten n h, ← e) (wrote-append x y)
 
-    pub more-digits : 10 ≤ n → Wrote l at (rightAligned before (n / 10)) a l₁ → Wrote l₁ a ((48 + n % 10) ∷ []) b l₂ → Wrote l at (rightAligned width n) b l₂
+    pub more-digits : 10 ≤ n → Wrote l at (rightAligned before (n / 10)) a l₁ → Wrote l₁ a ((48 + n % 10) ∷ []) b l₂
+        → Wrote l at (rightAligned width n) b l₂
     unfolding rightAligned
     more-digits h x y = rw aligned (wrote-append x y)
       where
@@ -85,7 +92,8 @@ module _ {l l₁ l₂ : List ℕ} {at a b : ℕ} where
         aligned =
             let tenth = decimal (n / 10) in
             let last = (48 + n % 10) ∷ [] in
-            let blanks : width - length (tenth ++ last) ≡ before - length tenth = omega (arith, length-append tenth last) in
+            let blanks : width - length (tenth ++ last)
+            ≡ before - length tenth = omega (arith, length-append tenth last) in
             rw (decimal-from-ten n h, blanks, append-assoc)
 
 -- in no places at all it is the number itself
@@ -96,7 +104,8 @@ no-width n = let e : 0 - length (decimal n) ≡ 0 = omega arith in rw e
 pub number-wrote : {l l₁ : List ℕ} {at a : ℕ} (n : ℕ) → Wrote l at (rightAligned 0 n) a l₁ → Wrote l at (decimal n) a l₁
 number-wrote n w = rw (no-width n) at w
 
-pub field-wrote : {l l₁ : List ℕ} {at a : ℕ} (n end : ℕ) → Wrote l at (columnText 0 n end) a l₁ → Wrote l at (fieldText n end) a l₁
+pub field-wrote : {l l₁ : List ℕ} {at a : ℕ} (n end : ℕ) → Wrote l at (columnText 0 n end) a l₁
+    → Wrote l at (fieldText n end) a l₁
 unfolding columnText fieldText
 field-wrote n end w = rw (no-width n) at w
 
@@ -106,12 +115,15 @@ length-decimal zero n p h = absurd (omega arith)
 length-decimal (suc digits) n p h =
     elim (decLt n 10) [
       | yes q ↦ rw (decimal-below-ten n q) (omega arith)
-      | no q ↦ rw (decimal-from-ten n (omega arith), length-append) (longer digits (length-decimal digits (n / 10)) h (omega arith))
+      | no q ↦ rw (decimal-from-ten n (omega arith), length-append)
+          (longer digits (length-decimal digits (n / 10)) h (omega arith))
     ]
   where
-    longer : (digits : ℕ) → (0 < digits → n / 10 < 10 ^ digits → length (decimal (n / 10)) ≤ digits) → n < 10 ^ suc digits → 10 ≤ n → length (decimal (n / 10)) + 1 ≤ suc digits
+    longer : (digits : ℕ) → (0 < digits → n / 10 < 10 ^ digits → length (decimal (n / 10)) ≤ digits)
+        → n < 10 ^ suc digits → 10 ≤ n → length (decimal (n / 10)) + 1 ≤ suc digits
     longer zero ih h q = absurd (omega arith)
-    longer (suc digits) ih h q = omega (arith, ih (omega arith) (div-lt-iff-lt-mul (omega arith) .1 (rw (pow-suc 10 (suc digits)) at h)))
+    longer (suc digits) ih h q =
+        omega (arith, ih (omega arith) (div-lt-iff-lt-mul (omega arith) .1 (rw (pow-suc 10 (suc digits)) at h)))
 
 -- ---- how long a number is, to the digit: one below 10, and from there on one more than a tenth of it has
 pub length-below-ten : (n : ℕ) → n < 10 → 1 ≡ length (decimal n)
@@ -147,7 +159,9 @@ length-five-off n h =
 
 pub length-right : (width n : ℕ) → length (rightAligned width n) ≡ width - length (decimal n) + length (decimal n)
 unfolding rightAligned
-length-right width n = let blanks = width - length (decimal n) in omega (arith, length-append (replicate blanks space) (decimal n), length-replicate blanks space)
+length-right width n =
+    let blanks = width - length (decimal n) in
+    omega (arith, length-append (replicate blanks space) (decimal n), length-replicate blanks space)
 
 -- a 64-bit number has at most 20 digits
 module _ (n : ℕ) (small : n < 2 ^ 64) where
@@ -160,7 +174,8 @@ module _ (n : ℕ) (small : n < 2 ^ 64) where
   pub right-end : {l l₁ : List ℕ} {at r : ℕ} (width : ℕ) → Wrote l at (rightAligned width n) r l₁ → r ≤ at + width + 20
   right-end width w = omega (arith, w .place, length-right width n, length-number)
 
-  pub column-wrote : {l l₁ l₂ : List ℕ} {at a b : ℕ} (width end : ℕ) → Wrote l at (rightAligned width n) a l₁ → Wrote l₁ a (end ∷ []) b l₂
+  pub column-wrote : {l l₁ l₂ : List ℕ} {at a b : ℕ} (width end : ℕ) → Wrote l at (rightAligned width n) a l₁
+      → Wrote l₁ a (end ∷ []) b l₂
       → Wrote l at (columnText width n end) b l₂ × (b ≤ at + width + 21)
   unfolding columnText
   column-wrote width end x y = (wrote-append x y, omega (arith, right-end width x, y .place))

@@ -1,4 +1,5 @@
-// Numbers in texts: the one reader and the one writer of decimal digits.
+// Numbers in texts: the one reader (`read_number`) and the one writer of decimal digits (`put_number`, `put_field`,
+// `put_column`).
 ghost use mathlib.Core.Path.{_≡_};
 ghost use mathlib.Core.List.{[], _∷_};
 ghost use Prim.Native.Nat.{_+_, _-_, _^_, _<_, _≤_};
@@ -24,7 +25,8 @@ fn is_digit(b: u8) -> bool
     b <= 57
 }
 
-// Whether a byte is one digit more behind digits with the value v: none behind a 0, and none that makes the number larger than `most`.
+// Whether a byte is one digit more behind digits with the value v: none behind a 0, and none that makes the number
+// larger than `most`.
 fn is_next_digit(most: u32, v: u32, b: u8) -> bool
     ensures { λ r. ⌜ r ≡ isNextDigit most v b ⌝ }
 {
@@ -57,7 +59,7 @@ fn read_digits(text: &[u8], from: usize, first: u32, most: u32, end: u8) -> Numb
     Number::Malformed
 }
 
-// The number that begins at a place of the text and ends in the byte `end`.
+// The number that begins at a place of the text and ends in the byte `end` (S 6.1).
 pub fn read_number(text: &[u8], from: usize, most: u32, end: u8) -> Number
     ensures { λ n. ⌜ fieldIn (now (text .entry)) n ≡ fieldOf most end (drop from (now (text .entry))) ⌝ }
 {
@@ -107,8 +109,8 @@ fn one_less(width: usize) -> usize
     width - 1
 }
 
-// Stores a number's digits behind as many spaces as fill the width, as far as the buffer has places, and returns the place behind them. A number
-// with more digits than the width is stored whole.
+// Stores a number's digits behind as many spaces as fill the width, as far as the buffer has places, and returns the
+// place behind them. A number with more digits than the width is stored whole.
 fn put_right(out: &mut [u8], at: usize, width: usize, n: u64) -> usize
     requires { ⌜ at + width ≤ 2 ^ 62 ⌝ }
     ensures { λ next. ⌜ Wrote (now (out .entry)) at (rightAligned width n) next (now (out .exit)) ⌝ }
@@ -122,7 +124,7 @@ fn put_right(out: &mut [u8], at: usize, width: usize, n: u64) -> usize
     put_byte(out, last, 48 + (n % 10) as u8)
 }
 
-// The digits alone.
+// The digits alone (S 6.1).
 pub fn put_number(out: &mut [u8], at: usize, n: u64) -> usize
     requires { ⌜ at ≤ 2 ^ 62 ⌝ }
     ensures { λ next. ⌜ Wrote (now (out .entry)) at (decimal n) next (now (out .exit)) ⌝ }
@@ -130,16 +132,18 @@ pub fn put_number(out: &mut [u8], at: usize, n: u64) -> usize
     put_right(out, at, 0, n)
 }
 
-// A number right aligned, with the byte that ends it.
+// A number right aligned, with the byte that ends it (S 6.5).
 pub fn put_column(out: &mut [u8], at: usize, width: usize, n: u64, end: u8) -> usize
     requires { ⌜ at + width ≤ 2 ^ 62 ⌝ }
-    ensures { λ next. ⌜ Wrote (now (out .entry)) at (columnText width n end) next (now (out .exit)) × (next ≤ at + width + 21) ⌝ }
+    ensures { λ next. ⌜
+        Wrote (now (out .entry)) at (columnText width n end) next (now (out .exit)) × (next ≤ at + width + 21)
+        ⌝ }
 {
     let last = put_right(out, at, width, n);
     put_byte(out, last, end)
 }
 
-// A number with the byte that ends it.
+// A number with the byte that ends it (S 6.1).
 pub fn put_field(out: &mut [u8], at: usize, n: u64, end: u8) -> usize
     requires { ⌜ at ≤ 2 ^ 62 ⌝ }
     ensures { λ next. ⌜ Wrote (now (out .entry)) at (fieldText n end) next (now (out .exit)) ⌝ }

@@ -1,5 +1,5 @@
--- Document 01, "When a call says no" and "When an answer is an enum, a definition gives this paper's number and values for each
--- enum case": what each value of the public enums says in the paper's terms. All other modules speak in these terms.
+-- What each value of the public enums says: a `Said`, and for a refusal its number, `numberOf`. All other modules speak
+-- in these terms.
 use mathlib.Core.List.{List, [], _∷_}
 use Prim.Native.Nat.{ℕ}
 use Rattle.definition.specs.declared.Refusal.{Refusal}
@@ -46,8 +46,8 @@ use Rattle.definition.specs.declared.SketchAnswer.the-variants as Sketch
 use Rattle.definition.specs.declared.TwoHeadsStatus.{TwoHeadsStatus}
 use Rattle.definition.specs.declared.TwoHeadsStatus.the-variants as TwoHeads
 
--- How the left of two plates stands to the right one (document 02, request 6): before it, the same, or after it; where
--- a cell decides, with its row and column.
+-- How the left of two plates stands to the right one: before it, the same, or after it; where a cell decides, with its
+-- row and column (S 11.1).
 pub data Compared : Type 0 where
   before : Compared
   beforeAt : ℕ → ℕ → Compared
@@ -56,7 +56,7 @@ pub data Compared : Type 0 where
   after : Compared
 
 -- What a call says: the values that it returns; or "finished", or "more"; or how two plates compare; or the number of a
--- refusal.
+-- refusal (S 5.1).
 pub data Said : Type 0 where
   returned : List ℕ → Said
   finished : Said
@@ -64,12 +64,12 @@ pub data Said : Type 0 where
   comparison : Compared → Said
   refused : ℕ → Said
 
--- What a call that fills greys says, and the greys afterwards.
+-- what a call that fills greys says, and the greys afterwards
 pub record GreysOutcome : Type 0 where
   pub said : Said
   pub greys : List ℕ
 
--- the column "Returned" of the table
+-- the number of each refusal (S 5.1)
 unfoldable pub numberOf : Refusal → ℕ
 numberOf SideUnknown = 1
 numberOf GreysShort = 2
@@ -86,42 +86,43 @@ numberOf GreyHigh = 12
 numberOf PairFalls = 13
 numberOf SideSmall = 14
 
--- Load returns its record and, beside it, nothing or a number
+-- Load answers its record and, beside it, nothing or a number (S 7.1, S 7.2)
 unfoldable pub loadSays : LoadStatus → Said
 loadSays Load.Loaded = returned []
 loadSays (Load.Refused why) = refused (numberOf why)
 
--- "the number in place of finished or more"
+-- Advance says "finished", "more" or, in place of these, a number (S 7.3, S 7.4)
 unfoldable pub advanceSays : AdvanceStatus → Said
 advanceSays Advance.Finished = finished
 advanceSays Advance.More = more
 advanceSays (Advance.Refused why) = refused (numberOf why)
 
--- "The other calls return the number alone."
+-- Tally answers the dots of a square, or a number alone (S 8.1)
 unfoldable pub tallySays : TallyAnswer → Said
 tallySays (Tally.Dots n) = returned (n ∷ [])
 tallySays (Tally.Refused why) = refused (numberOf why)
 
--- Levels returns its nine sums beside this
+-- Levels answers its nine sums beside this (S 8.2)
 unfoldable pub levelsSays : LevelsStatus → Said
 levelsSays Levels.Summed = returned []
 levelsSays (Levels.Refused why) = refused (numberOf why)
 
+-- Map Text answers the side that it read (S 9.1)
 unfoldable pub mapTextSays : MapTextAnswer → Said
 mapTextSays (MapText.Side n) = returned (n ∷ [])
 mapTextSays (MapText.Refused why) = refused (numberOf why)
 
--- Drill List, Quote Page and Lower Text
+-- Drill List, Quote Page and Lower Text answer the length of their text (S 6.6)
 unfoldable pub textSays : TextAnswer → Said
 textSays (Text.Length n) = returned (n ∷ [])
 textSays (Text.Refused why) = refused (numberOf why)
 
--- document 02's sample
+-- Sample answers the state reached (S 12.1)
 unfoldable pub sampleSays : SampleAnswer → Said
 sampleSays (Sample.State n) = returned (n ∷ [])
 sampleSays (Sample.Refused why) = refused (numberOf why)
 
--- document 02's comparison of two plates
+-- Compare answers how two plates stand (S 11.1)
 unfoldable pub compareSays : CompareAnswer → Said
 compareSays Compare.Before = comparison before
 compareSays (Compare.BeforeAt row column) = comparison (beforeAt row column)
@@ -130,27 +131,27 @@ compareSays (Compare.AfterAt row column) = comparison (afterAt row column)
 compareSays Compare.After = comparison after
 compareSays (Compare.Refused why) = refused (numberOf why)
 
--- document 02's shelf
+-- Shelf answers nothing, or a number (S 11.2)
 unfoldable pub shelfSays : ShelfAnswer → Said
 shelfSays Shelf.Sorted = returned []
 shelfSays (Shelf.Refused why) = refused (numberOf why)
 
--- Keep and Restore of document 02: beside the record and the value, nothing or a number
+-- Keep and Restore: beside the record and the value, nothing or a number (S 10.1, S 10.2)
 unfoldable pub checkpointSays : CheckpointStatus → Said
 checkpointSays Checkpoint.Done = returned []
 checkpointSays (Checkpoint.Refused why) = refused (numberOf why)
 
--- Relay of document 02: nothing or a number
+-- Relay answers nothing, or a number (S 12.2)
 unfoldable pub relaySays : RelayAnswer → Said
 relaySays Relay.Relaid = returned []
 relaySays (Relay.Refused why) = refused (numberOf why)
 
--- Sketch Quote of document 02: the side, and the least and the greatest total
+-- Sketch Quote answers the side, and the least and the greatest total (S 9.4)
 unfoldable pub sketchSays : SketchAnswer → Said
 sketchSays (Sketch.Quoted side least greatest) = returned (side ∷ least ∷ greatest ∷ [])
 sketchSays (Sketch.Refused why) = refused (numberOf why)
 
--- Two Heads of document 02: beside the record, the holes and the debt, nothing or a number
+-- Two Heads: beside the record, the holes and the debt, nothing or a number (S 13.5)
 unfoldable pub twoHeadsSays : TwoHeadsStatus → Said
 twoHeadsSays TwoHeads.Stopped = returned []
 twoHeadsSays (TwoHeads.Refused why) = refused (numberOf why)

@@ -1,4 +1,4 @@
--- The rows for document 02's second knit: ribbed cloth, where only straight neighbours have a weight.
+-- The rows for the second knit, `knitPlates`: ribbed cloth, where only straight neighbours have a weight.
 use mathlib.Core.Bool.{Bool, _&&_}
 use mathlib.Core.List.{List, [], _∷_, _++_, map}
 use Prim.Native.Nat.{ℕ}
@@ -65,17 +65,18 @@ otherCell = 0 ∷ 100 ∷ 160 ∷ 128 ∷ []
 
 unfoldable pub knitPlates : List Row
 knitPlates =
-    -- the weights inside, on the top side and in the top left corner; and what they sum to, for either knit
+    -- the weights inside, on the top side and in the top left corner; and what they sum to, for either knit (S 3.5,
+    -- S 3.6)
     (90, same (weights 1 1) (replicate 4 0 ++ 1 ∷ 1 ∷ 1 ∷ 1 ∷ 0 ∷ []))
     ∷ (90, same (weights 0 1) (replicate 5 0 ++ 1 ∷ 1 ∷ 1 ∷ 0 ∷ []))
     ∷ (90, same (weights 0 0) (replicate 6 0 ++ 1 ∷ 1 ∷ 0 ∷ []))
     ∷ (91, eqb (weightSum plain 1 1) 12 && eqb (weightSum plain 0 1) 8 && eqb (weightSum plain 0 0) 5)
     ∷ (91, eqb (weightSum ribbed 1 1) 4 && eqb (weightSum ribbed 0 1) 3 && eqb (weightSum ribbed 0 0) 2)
-    -- as P7, P8 and P9: shares of 13 inside, of 7 on the top side, of 4 in the top left corner
+    -- as P7, P8 and P9: shares of 13 inside, of 7 on the top side, of 4 in the top left corner (S 3.7)
     ∷ (92, same (sharesOn ribbed 2 1 1 13) (3 ∷ 3 ∷ 3 ∷ 4 ∷ []))
     ∷ (92, same (sharesOn ribbed 2 0 1 7) (2 ∷ 2 ∷ 3 ∷ []) && same (sharesOn ribbed 2 0 0 4) (2 ∷ 2 ∷ []))
     -- as P3: debts after one dot 0, 16,512, 16,512, 32,768; after the second 0, 256, 256, 0, top 512, finished; and the
-    -- same by the reference
+    -- same by the reference (S 3.5, S 7.3)
     ∷ (
       93,
       leavesOn ribbed 1 p3 (1 ∷ []) (pos 65792 ∷ pos 0 ∷ pos 16512 ∷ pos 16512 ∷ pos 32768 ∷ [])
@@ -99,12 +100,12 @@ knitPlates =
       leavesOn ribbed 1 p6 (9 ∷ []) (minus 32512 ∷ pos 0 ∷ minus 16256 ∷ minus 16256 ∷ pos 0 ∷ [])
           (1 ∷ 0 ∷ 0 ∷ 0 ∷ []) (0 ∷ 0 ∷ 0 ∷ 0 ∷ []),
     )
-    -- the maps of side 4 and 8 run to their end, as rows 13 and 15
+    -- the maps of side 4 and 8 run to their end, as rows 13 and 15 (S 3.5, S 3.9)
     ∷ (95, leavesOn ribbed 2 greys4 (1 ∷ 0 ∷ 3 ∷ 99 ∷ []) pyramidRibbed4 serialsRibbed4 orderRibbed4)
     ∷ (96, leavesOn ribbed 3 greys8 (99 ∷ []) pyramidRibbed8 serialsRibbed8 orderRibbed8)
-    -- the record keeps its knit
+    -- the record keeps its knit (S 2.8)
     ∷ (97, keepsKnit plain && keepsKnit ribbed)
-    -- a map on which the cloths part, and on which the programs print what it is on plain cloth
+    -- a map on which the cloths part, and on which the programs print what it is on plain cloth (S 3.5, S 14.7)
     ∷ (
       98,
       same (afterOn plain 1 otherCell (9 ∷ []) .order) (2 ∷ 3 ∷ 0 ∷ 0 ∷ 9 ∷ [])

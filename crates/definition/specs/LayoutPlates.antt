@@ -1,5 +1,5 @@
--- The rows for document 02's pyramid by quarters: places worked by hand, whole pyramids of side 4 and side 8 that the
--- reference renamed, each call on them, and Relay. Side 2 looks alike in either layout.
+-- The rows for the pyramid by quarters, `layoutPlates`: places worked by hand, whole pyramids of side 4 and side 8 that
+-- the reference renamed, each call on them, and Relay. Side 2 looks alike in either layout.
 use mathlib.Core.Bool.{Bool, not, _&&_}
 use mathlib.Core.List.{List, [], _∷_, _++_, map}
 use Prim.Native.Nat.{ℕ, _/_, _%_}
@@ -75,7 +75,7 @@ relayRefused progress pyramid p s o n number =
 
 unfoldable pub layoutPlates : List Row
 layoutPlates =
-    -- the places of side 4, row by row; of single bits and of mixed ones, on larger levels; and back
+    -- the places of side 4, row by row; of single bits and of mixed ones, on larger levels; and back (S 2.5, S 15.14)
     (
       102,
       same (tabulate 16 (λ i. interleaved 2 (i / 4) (i % 4)))
@@ -99,7 +99,8 @@ layoutPlates =
           ∷ 0 ∷ 1 ∷ 0 ∷ 1 ∷ 2 ∷ 3 ∷ 2 ∷ 3 ∷ [])
           && eqb (rowOf 8 22626) 37 && eqb (columnOf 8 22626) 200,
     )
-    -- whole pyramids, there and back; what lies behind stays, and so does one that is a place short
+    -- whole pyramids, there and back; what lies behind stays, and so does one that is a place short (S 2.5, S 2.6,
+    -- S 2.9)
     ∷ (105, sameZ (quartersFrom 2 pyramid4) quarters4 && sameZ (rowsFrom 2 quarters4) pyramid4)
     ∷ (106, sameZ (quartersFrom 3 pyramid8) quarters8 && sameZ (rowsFrom 3 quarters8) pyramid8)
     ∷ (
@@ -108,23 +109,23 @@ layoutPlates =
           && sameZ (asRows 2 (quarters4 ++ pos 5 ∷ [])) (pyramid4 ++ pos 5 ∷ [])
           && sameZ (asQuarters 2 (take 20 apart)) (take 20 apart) && sameZ (asRows 2 (take 20 apart)) (take 20 apart),
     )
-    -- Load and Advance leave the pyramid by quarters, on either cloth
+    -- Load and Advance leave the pyramid by quarters, on either cloth (S 2.6, S 7.1, S 7.3, S 15.14)
     ∷ (108, sameZ (after 2 greys4 (99 ∷ []) .pyramid) (quarters4 ++ pos 9 ∷ []))
     ∷ (109, sameZ (after 3 greys8 (5 ∷ 99 ∷ []) .pyramid) (quarters8 ++ pos 9 ∷ []))
     ∷ (109, sameZ (afterOn ribbed 3 greys8 (99 ∷ []) .pyramid) (quartersRibbed8 ++ pos 9 ∷ []))
-    -- a refused call leaves every place as it is
+    -- a refused call leaves every place as it is (S 5.1, S 7.2, S 7.4)
     ∷ (110, sameZ (loadByQuarters 4 2 greys4 apart serials4 order4 .pyramid) apart)
     ∷ (110, sameZ (advanceByQuarters finished4 9 apart serials4 order4 .pyramid) apart)
-    -- the finished sheet is sound by quarters, and not row after row: Advance, then Drill List
+    -- the finished sheet is sound by quarters, and not row after row: Advance, then Drill List (S 2.6, S 4.5)
     ∷ (111, not (refuses (advances4 quarters4) 5) && refuses (advances4 pyramid4) 5)
     ∷ (112, says (lists4 quarters4) (58 ∷ []) && refuses (lists4 pyramid4) 5)
-    -- a return leaves it by quarters, and refuses a sheet that lies row after row
+    -- a return leaves it by quarters, and refuses a sheet that lies row after row (S 10.2, S 10.3)
     ∷ (
       113,
       sameZ (restores4 (quarters4 ++ pos 5 ∷ []) .pyramid) (quarters4 ++ pos 5 ∷ [])
           && refuses (restores4 pyramid4 .said) 5,
     )
-    -- the renewal by itself: the four below an entry lie side by side
+    -- the renewal by itself: the four below an entry lie side by side (S 12.3, S 2.5)
     ∷ (
       114,
       renewsQuarters8 2 4
@@ -132,12 +133,14 @@ layoutPlates =
           ∷ 9 ∷ 26 ∷ 9 ∷ 58 ∷ 74 ∷ 9 ∷ 106 ∷ 9 ∷ replicate 8 9),
     )
     -- an older sheet relaid: the second pyramid by quarters, what it has behind stays, and nothing else is read
+    -- (S 12.2)
     ∷ (
       115,
       let outcome = relays4 finished4 (pyramid4 ++ pos 3 ∷ []) 22 16 16 23 in
           says (outcome .said) [] && sameZ (outcome .second) (quarters4 ++ pos 7 ∷ pos 7 ∷ []),
     )
-    -- its refusals, the lowest first: side, knit, either pyramid, serials, order, and a sheet that is not sound
+    -- its refusals, the lowest first: side, knit, either pyramid, serials, order, and a sheet that is not sound (S 5.2,
+    -- S 12.2)
     ∷ (116, relayRefused (record { side = 3; dots = 9; knit = 2 }) quarters4 0 0 0 0 1)
     ∷ (116, relayRefused (record { side = 4; dots = 9; knit = 2 }) quarters4 0 0 0 0 11)
     ∷ (117, relayRefused finished4 quarters4 20 0 0 21 3)

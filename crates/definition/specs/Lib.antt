@@ -25,7 +25,7 @@ pub mod Quote
 pub mod Convert
 pub mod Sketch
 pub mod Shelf
-pub mod Calls
+pub mod AdvanceList
 pub mod Checkpoints
 pub mod ByQuarters
 pub mod Stages

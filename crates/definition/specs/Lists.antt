@@ -1,4 +1,5 @@
--- Sums, tests and lists by place. No term of document 01 is defined here.
+-- Sums, tests and lists by place: `sumTo`, `allTo`, `tabulate`, `joined`, `repeated`. No term of the specification is
+-- defined here.
 use mathlib.Core.Bool.{Bool, true, _&&_}
 use mathlib.Core.List.{List, [], _∷_, _++_}
 use Prim.Native.Nat.{ℕ, zero, suc, _+_}

@@ -1,5 +1,5 @@
--- The rows for document 02's request 11: no grey above 240 in Load, Map Text, Restore and the programs, and the texts
--- that Lower Text and `convert` make of older ones.
+-- The rows for low maps, `lowPlates`: no grey above 240 in Load, Map Text, Restore and the programs, and the texts that
+-- Lower Text and `convert` make of older ones.
 use mathlib.Core.Bool.{Bool, not, _&&_}
 use mathlib.Core.List.{List, [], _∷_, _++_}
 use Prim.Native.Nat.{ℕ}
@@ -82,17 +82,17 @@ refusedText7 = 114 ∷ 101 ∷ 102 ∷ 117 ∷ 115 ∷ 101 ∷ 100 ∷ 44 ∷ 55
 
 unfoldable pub lowPlates : List Row
 lowPlates =
-    -- 240 is low and 241 is not; what greys are lowered to
+    -- 240 is low and 241 is not (S 2.2); what greys are lowered to (S 12.4)
     (120, noneHigh (0 ∷ 240 ∷ []) && not (noneHigh (0 ∷ 241 ∷ [])) && noneHigh [])
     ∷ (120, same (lowered (0 ∷ 239 ∷ 240 ∷ 241 ∷ 255 ∷ [])) (0 ∷ 239 ∷ 240 ∷ 240 ∷ 240 ∷ []))
-    -- Load: 240 is accepted; 241 in the first cell and in the last is refused, past the map it is not looked at
+    -- Load: 240 is accepted; 241 in the first cell and in the last is refused, past the map it is not looked at (S 7.2)
     ∷ (121, says (loadsHigh 2 0 (ends 240 240) 5 4 4) [] && says (loadsHigh 2 1 (ends 0 240 ++ 241 ∷ []) 5 4 4) [])
     ∷ (121, loadsNothing (ends 241 0) && loadsNothing (ends 0 241) && loadsNothing (replicate 5 255))
-    -- and 241 together with each other refusal
+    -- and 241 together with each other refusal (S 5.2)
     ∷ (122, refuses (loadsHigh 3 2 (ends 241 0) 4 3 3) 1 && refuses (loadsHigh 2 2 (ends 241 0) 4 3 3) 11)
     ∷ (122, refuses (loadsHigh 2 0 (241 ∷ 0 ∷ 0 ∷ []) 4 3 3) 2 && refuses (loadsHigh 2 0 (ends 241 0) 4 3 3) 3)
     ∷ (122, refuses (loadsHigh 2 0 (ends 241 0) 5 3 4) 4 && refuses (loadsHigh 2 0 (ends 241 0) 5 4 3) 4)
-    -- Restore: 12 comes after 5 and before 10
+    -- Restore: 12 comes after 5 and before 10 (S 5.2)
     ∷ (123, refuses (restoresHigh 3 2 (ends 0 241) 4 3 3 1 0 9) 1)
     ∷ (123, refuses (restoresHigh 2 2 (ends 0 241) 4 3 3 1 0 9) 11)
     ∷ (123, refuses (restoresHigh 2 0 (241 ∷ 0 ∷ 0 ∷ []) 4 3 3 1 0 9) 2)
@@ -103,24 +103,26 @@ lowPlates =
     ∷ (123, refuses (restoresHigh 2 0 (ends 0 241) 5 4 4 0 0 9) 12)
     ∷ (123, refuses (restoresHigh 2 0 (ends 0 240 ++ 241 ∷ []) 5 4 4 0 0 9) 10)
     ∷ (123, says (restoresHigh 2 0 (ends 0 240 ++ 241 ∷ []) 5 4 4 0 1 1) [])
-    -- Map Text: the same of texts; above 255 is still 7; 241 together with each other refusal
+    -- Map Text: the same of texts; above 255 is still 7 (S 9.1, S 6.2)
     ∷ (124, says (mapTextOf (mapText 2 (ends 240 240)) (replicate 4 6) .said) (2 ∷ []))
     ∷ (124, readsNothing (mapText 2 (ends 241 0)) 5 12 && readsNothing (mapText 2 (ends 0 241)) 5 12)
     ∷ (124, readsNothing (mapText 2 (ends 255 255)) 4 12 && readsNothing overText 4 7)
+    -- 241 together with each other refusal (S 5.2)
     ∷ (125, readsNothing (48 ∷ highText) 4 7 && readsNothing (mapText 3 (replicate 9 241)) 9 1)
     ∷ (125, readsNothing highText 3 2 && readsNothing (highText ++ 10 ∷ []) 4 7)
-    -- Lower Text: a text with high greys, and one without, which is copied; just enough room
+    -- Lower Text: a text with high greys, and one without, which is copied; just enough room (S 9.2, S 15.10)
     ∷ (126, lowers highText (10 ∷ 240 ∷ 240 ∷ 240 ∷ []) lowText && lowers lowText (10 ∷ 240 ∷ 240 ∷ 240 ∷ []) lowText)
     ∷ (126, says (lowerTextOf highText (replicate 4 6) (replicate 17 46) .said) (17 ∷ []))
     -- its refusals in turn: a first line that is none, side 3, three places for greys, a text that goes on or has a
-    -- grey of 256, 16 places for bytes
+    -- grey of 256, 16 places for bytes (S 5.2)
     ∷ (127, lowersNothing (48 ∷ highText) 3 0 7 && lowersNothing (51 ∷ 10 ∷ []) 3 0 1)
     ∷ (127, lowersNothing (highText ++ 10 ∷ []) 3 0 2 && lowersNothing (highText ++ 10 ∷ []) 4 0 7)
     ∷ (127, lowersNothing overText 4 0 7 && lowersNothing highText 4 16 8 && lowersNothing lowText 5 0 8)
-    -- the programs: `plate` and `quote` refuse; what `sample` prints for its first grey above 240, which is 251;
-    -- `convert`
+    -- the programs: `plate` and `quote` refuse (S 14.1, S 14.2); what `sample` prints for its first grey above 240,
+    -- which is 251 (S 14.3)
     ∷ (128, same (plateOf highText) refusedHigh && same (quoteOf (48 ∷ 10 ∷ highText)) refusedHigh)
     ∷ (128, same (take 4 (drop 55 sampleText)) (50 ∷ 52 ∷ 48 ∷ 44 ∷ []))
+    -- `convert` (S 14.4)
     ∷ (129, same (convertOf highText) lowText && same (convertOf lowText) lowText)
     ∷ (129, same (convertOf (highText ++ 10 ∷ [])) refusedText7)
     ∷ []

@@ -1,4 +1,4 @@
--- Document 02, request 11: the call that turns a stored map text into one that passes. What it answers and leaves in
+-- The call Lower Text, which makes of a stored map text one that passes: `lowerTextOf` is what it answers and leaves in
 -- both buffers, for every text and all lists lent.
 use mathlib.Core.List.{List, [], _∷_, _++_}
 use Prim.Native.Nat.{ℕ, zero, suc}
@@ -8,16 +8,18 @@ use Rattle.definition.specs.Lowering.{lowered}
 use Rattle.definition.specs.Refusals.{outputShort, lowest}
 use Rattle.definition.specs.MapText.{mapText, accepted, rejected, readMap}
 
+-- what is said, and the greys and the output afterwards
 pub record LowerTextOutcome : Type 0 where
   pub said : Said
   pub greys : List ℕ
   pub output : List ℕ
 
--- nothing is written
+-- refused: nothing is written (S 5.1)
 unfoldable pub textKept : ℕ → List ℕ → List ℕ → LowerTextOutcome
 textKept n greys output = record { said = refused n; greys = greys; output = output }
 
 -- the lowered greys and their one text, in front of what the buffers had behind them; the answer is the text's length
+-- (S 9.2)
 unfoldable pub textLowered : List ℕ → List ℕ → List ℕ → List ℕ → LowerTextOutcome
 textLowered low text greys output =
     record {
@@ -26,8 +28,8 @@ textLowered low text greys output =
       output = text ++ drop (length text) output;
     }
 
--- The text is read by the grammar, with the refusals 7, 1, 2, 7 of Map Text; then 8, if the output is shorter than the
--- text of the lowered greys.
+-- The text is read as a map text, with the refusals 7, 1, 2, 7; then comes 8, if the output is shorter than the text of
+-- the lowered greys (S 9.2, S 5.2).
 unfoldable pub lowerTextOf : List ℕ → List ℕ → List ℕ → LowerTextOutcome
 lowerTextOf text greys output =
     elim (readMap text (length greys)) [

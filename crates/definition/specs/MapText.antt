@@ -1,4 +1,5 @@
--- Document 01, "Map Text": the one text of a side and greys; the reader, with its refusals in their order; the call.
+-- Map texts: `mapText`, the one text of a side and greys; `readText` and `readMap`, which read by the grammar, with
+-- their refusals in order; and the call Map Text, `mapTextOf`.
 use mathlib.Core.Bool.{true, false}
 use mathlib.Core.List.{List, [], _∷_, _++_}
 use mathlib.Core.Option.{Option, some, none}
@@ -10,16 +11,16 @@ use Rattle.definition.specs.Lowering.{noneHigh}
 use Rattle.definition.specs.Refusals.{powerOf, greysRefusal}
 use Rattle.definition.specs.Text.{newline, line, lineEnds, field, malformed, fieldOf}
 
--- m lines of n numbers each
+-- m lines of n numbers each (S 6.1)
 unfoldable pub rowsText : ℕ → ℕ → List ℕ → List ℕ
 rowsText n zero values = []
 rowsText n (suc m) values = line (take n values) ++ rowsText n m (drop n values)
 
--- "a line with the side, then N lines of N greys parted by commas"
+-- the side on a line, then a line of N greys for each row (S 6.2)
 unfoldable pub mapText : ℕ → List ℕ → List ℕ
 mapText side greys = line (side ∷ []) ++ rowsText side side greys
 
--- numbers of at most `most` with these ends behind them, and "nothing after the last line"
+-- numbers of at most `most`, with these bytes behind them in turn, and no byte behind the last (S 6.2)
 unfoldable pub valuesOf : ℕ → List ℕ → List ℕ → Option (List ℕ)
 valuesOf most [] [] = some []
 valuesOf most [] (b ∷ rest) = none
@@ -29,7 +30,7 @@ valuesOf most (end ∷ ends) text =
       | field v rest ↦ elim (valuesOf most ends rest) [ none ↦ none | some values ↦ some (v ∷ values) ]
     ]
 
--- What a text is read as: a side and its numbers; or the number of a refusal, 7 where it does not fit the grammar.
+-- what a text is read as: a side and its numbers; or the number of a refusal, 7 where it does not fit the grammar
 pub data Reading : Type 0 where
   accepted : ℕ → List ℕ → Reading
   rejected : ℕ → Reading
@@ -38,13 +39,13 @@ pub data Reading : Type 0 where
 abbrev pub mapEnds : ℕ → List ℕ
 mapEnds side = repeated side (lineEnds side)
 
--- the numbers behind a first line, with these ends: one above 255 is none (document 01, Map Text)
+-- the numbers behind a first line, with these ends: one above 255 does not fit (S 6.2)
 unfoldable pub readNumbers : ℕ → List ℕ → List ℕ → Reading
 readNumbers side ends text = elim (valuesOf 255 ends text) [ none ↦ rejected 7 | some values ↦ accepted side values ]
 
 -- The reader of texts that begin with a line of the side: 7 if that isn't a number of one to three digits and byte 10,
--- then 1, then 2 for a greys buffer of `room` places, then 7 for the rest (document 01, When a call says no). `endsOf`
--- has the bytes behind the numbers that a side asks for.
+-- then 1, then 2 for a greys buffer of `room` places, then 7 for the rest (S 6.4). `endsOf` has the bytes behind the
+-- numbers that a side asks for.
 unfoldable pub readText : (ℕ → List ℕ) → List ℕ → ℕ → Reading
 readText endsOf text room =
     elim (fieldOf 999 newline text) [
@@ -54,11 +55,11 @@ readText endsOf text room =
           elim (greysRefusal r room) [ zero ↦ readNumbers side (endsOf side) rest | suc n ↦ rejected (suc n) ]
     ]
 
--- a map's text by the grammar
+-- a map's text by the grammar (S 6.2)
 abbrev pub readMap : List ℕ → ℕ → Reading
 readMap text room = readText mapEnds text room
 
--- Map Text's own reader: by the grammar, as `readMap` does, and then no grey may be above 240 (document 02, request 11)
+-- Map Text's own reader: by the grammar, as `readMap` does, and then no grey may be above 240 (S 9.1)
 unfoldable pub readLow : List ℕ → ℕ → Reading
 readLow text room =
     elim (readMap text room) [
@@ -66,7 +67,8 @@ readLow text room =
       | accepted side greys ↦ elim (noneHigh greys) [ true ↦ accepted side greys | false ↦ rejected 12 ]
     ]
 
--- "The call returns the side and writes the N² greys by row; places past them stay." A refusal leaves them all.
+-- the whole call: the side, and the N² greys in front of what the buffer has behind them; a refusal leaves it whole
+-- (S 9.1, S 2.9)
 unfoldable pub mapTextOf : List ℕ → List ℕ → GreysOutcome
 mapTextOf text greys =
     elim (readLow text (length greys)) [

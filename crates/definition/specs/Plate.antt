@@ -1,4 +1,5 @@
--- Document 01, "The program plate": what it prints for an input.
+-- The program `plate`: `plateOf` is what it prints for an input; `finishedOf` is a map run to its end, and
+-- `refusedText` the line with which a program says no.
 use mathlib.Core.Bool.{true, false}
 use mathlib.Core.List.{List, [], _∷_}
 use Prim.Native.Nat.{ℕ}
@@ -12,18 +13,18 @@ use Rattle.definition.specs.Text.{line}
 use Rattle.definition.specs.MapText.{accepted, rejected, readLow}
 use Rattle.definition.specs.DrillList.{drillText}
 
--- "or the line refused,n with n the refusal"
+-- "refused," and the number, as a line (S 14.7)
 unfoldable pub refusedText : ℕ → List ℕ
 refusedText n = 114 ∷ 101 ∷ 102 ∷ 117 ∷ 115 ∷ 101 ∷ 100 ∷ 44 ∷ line (n ∷ [])
 
--- a map run to its end on cloth of a knit: all dots that are due
+-- a map run to its end on cloth of a knit: all dots that are due (S 3.1, S 3.9)
 unfoldable pub finishedOf : ℕ → ℕ → List ℕ → Halftone
 finishedOf knit r greys =
     let fresh = modelStart r greys in
     steps (kernelOf knit) r (dotsDue (topOf (fresh .pyramid))) fresh
 
--- "input longer than 4,099 bytes: program only, before all else". "reads a map text on standard input, runs to finished and prints the
--- drill list"; "The program's greys buffer has 1,024 places".
+-- An input of more than 4,099 bytes is refused before all else. The map is read with room for 1,024 greys, run to its
+-- end on plain cloth, and its drill list printed (S 14.1, S 14.7).
 unfoldable pub plateOf : List ℕ → List ℕ
 plateOf input =
     elim (ltb 4099 (length input)) [

@@ -13,7 +13,7 @@ use Rattle.definition.specs.Diffusion.{Kernel, plain, kernelOf, weightAt
 use Rattle.definition.specs.Model.{Halftone, modelStart}
 use Rattle.definition.specs.Advance.{Reply}
 use Rattle.definition.specs.Quarters.{asRows}
-use Rattle.definition.specs.Calls.{
+use Rattle.definition.specs.AdvanceList.{
   Call,
   Held,
   heldAfterLoad,

@@ -1,7 +1,7 @@
--- Document 01's plates: P1 to P12 as one table; further plates, whose figures the reference wrote, as another; as a
--- third a row for each sentence that these leave open; and those of `StagePlates`, `KnitPlates`, `SpreadPlates`,
--- `LayoutPlates`, `LowPlates` and `SketchPlates`.
--- One proof computes all of it on the definitions. Rows that make holes ask the calls and the model.
+-- The plates, computed on the definitions: P1 to P12 as one table, `plates`; further plates, whose figures the
+-- reference wrote, as another, `furtherPlates`; as a third a row for each point that these leave open, `singlePlates`;
+-- and those of the other plate modules. `plates-hold` proves them all. Rows that make holes ask the calls and the
+-- model.
 use mathlib.Core.Path.{_≡_, refl}
 use mathlib.Core.Bool.{Bool, true, false, cond, not, _&&_}
 use mathlib.Core.List.{List, [], _∷_, _++_, map}
@@ -12,8 +12,31 @@ use lib.IntN.{ℤ, pos, _+ℤ_}
 use Rattle.definition.specs.Lists.{sumTo, sumZTo, allTo, tabulateFrom, joined, repeated, eqZ}
 use Rattle.definition.specs.Answers.{Said, finished, more, comparison, refused, numberOf, Compared}
 use Rattle.definition.specs.Answers as Answers
-use Rattle.definition.specs.Pyramid.{start, needed, cellCount, placeIn, rowAt, columnAt, levelOf, inLevel, entry, four, coarser, pyramidOver}
-use Rattle.definition.specs.Blocks.{blockSum, blockSumZ, greyAt, burnt, burntAt, greySum, greyTotal, dotsIn, allDots}
+use Rattle.definition.specs.Pyramid.{
+  start,
+  needed,
+  cellCount,
+  placeIn,
+  rowAt,
+  columnAt,
+  levelOf,
+  inLevel,
+  entry,
+  four,
+  coarser,
+  pyramidOver,
+}
+use Rattle.definition.specs.Blocks.{
+  blockSum,
+  blockSumZ,
+  greyAt,
+  burnt,
+  burntAt,
+  greySum,
+  greyTotal,
+  dotsIn,
+  allDots,
+}
 use Rattle.definition.specs.Descent.{
   candidate,
   firstOfEquals,
@@ -37,13 +60,35 @@ use Rattle.definition.specs.Diffusion.{
   diffuse,
 }
 use Rattle.definition.specs.Model.{topOf, modelStart, missing, placeDot, step, steps}
-use Rattle.definition.specs.Sound.{burntNear, everyEntry, fewDots, numbered, counted, unused, summed, bounded, owing, isSound}
+use Rattle.definition.specs.Sound.{
+  burntNear,
+  everyEntry,
+  fewDots,
+  numbered,
+  counted,
+  unused,
+  summed,
+  bounded,
+  owing,
+  isSound,
+}
 use Rattle.definition.specs.Refusals.{Row, powerUpTo, powerOf, lowest, greysRefusal}
 use Rattle.definition.specs.Lowering.{noneHigh, lowered}
 use Rattle.definition.specs.Load.{lowMap, loadRefusal, loaded, loadOf}
 use Rattle.definition.specs.Advance.{Reply, dotsDue, saidAt, sheetIn, advanceRefusal, advanced, advanceOf}
 use Rattle.definition.specs.Survey.{tallyRefusal, tallyOf, errorAt, squared, levelSum, levelsRefusal, levelsOf}
-use Rattle.definition.specs.Text.{digitsUpTo, decimal, rightAligned, line, lineEnds, isDigit, digitsThen, fieldOf, TextOutcome, textInto}
+use Rattle.definition.specs.Text.{
+  digitsUpTo,
+  decimal,
+  rightAligned,
+  line,
+  lineEnds,
+  isDigit,
+  digitsThen,
+  fieldOf,
+  TextOutcome,
+  textInto,
+}
 use Rattle.definition.specs.MapText.{rowsText, mapText, valuesOf, readNumbers, readText, readLow, mapTextOf}
 use Rattle.definition.specs.LowerText.{textKept, textLowered, lowerTextOf}
 use Rattle.definition.specs.DrillList.{dotLines, drillText, drillListRefusal, drillListOf}
@@ -100,7 +145,7 @@ use Rattle.definition.specs.ByQuarters.{
   relayRefusal,
   relayOf,
 }
-use Rattle.definition.specs.Calls.{
+use Rattle.definition.specs.AdvanceList.{
   heldAfterLoad,
   callOf,
   heldAfter,
@@ -254,13 +299,15 @@ use Rattle.definition.specs.Expected.{
 
 -- a map of side 2 with the sum of greys G comes to n holes, and so does the price list's floor((2G + 255) / 510)
 unfoldable pub total : List ℕ → ℕ → ℕ → Bool
-total greys G n = eqb (greyTotal 1 greys) G && answers 1 greys (9 ∷ []) ((n, finished) ∷ []) && eqb ((2 * G + 255) / 510) n
+total greys G n =
+    eqb (greyTotal 1 greys) G && answers 1 greys (9 ∷ []) ((n, finished) ∷ []) && eqb ((2 * G + 255) / 510) n
 
 unfoldable pub plates : List Row
 plates =
-    -- P1: side 2, greys 0: no hole, finished
+    -- P1: no grey, so no hole, and finished at once (S 17.1)
     (1, answers 1 p1 (9 ∷ []) ((0, finished) ∷ []))
-    -- P2, now with four greys of 240: a hole in each cell, by turns across; its sheet after two holes and after four
+    -- P2, four greys of 240: a hole in each cell, by turns across (S 17.2, S 3.3); its sheet after two holes and after
+    -- four
     ∷ (2, answers 1 p2 (9 ∷ []) ((4, finished) ∷ []))
     ∷ (
       2,
@@ -272,7 +319,7 @@ plates =
       leaves 1 p2 (9 ∷ []) (minus 15360 ∷ minus 7274 ∷ minus 1732 ∷ pos 0 ∷ minus 6354 ∷ [])
           (1 ∷ 3 ∷ 4 ∷ 2 ∷ []) (0 ∷ 3 ∷ 1 ∷ 2 ∷ []),
     )
-    -- P3, the greys 128 on a map of side 2: its sheet with one hole, then with both, finished
+    -- P3, the greys 128 on a map of side 2: its sheet with one hole, then with both, finished (S 17.3, S 3.4, S 2.7)
     ∷ (
       3,
       leaves 1 p3 (1 ∷ []) (map pos (65792 ∷ 0 ∷ 19763 ∷ 19763 ∷ 26266 ∷ []))
@@ -284,28 +331,28 @@ plates =
           (1 ∷ 0 ∷ 0 ∷ 2 ∷ []) (0 ∷ 3 ∷ 0 ∷ 0 ∷ []),
     )
     ∷ (3, answers 1 p3 (9 ∷ []) ((2, finished) ∷ []))
-    -- P4: P3 with budget 0, 1, 1 makes 0, 1, 1, saying more, more, finished
+    -- P4: P3 in three calls (S 17.3, S 7.3)
     ∷ (4, answers 1 p3 (0 ∷ 1 ∷ 1 ∷ []) ((0, more) ∷ (1, more) ∷ (1, finished) ∷ []))
-    -- P5: side 2, greys 127, 0, 0, 0: no hole
+    -- P5: a single grey of 127 is less than half a hole (S 17.1, S 3.1)
     ∷ (5, answers 1 (127 ∷ 0 ∷ 0 ∷ 0 ∷ []) (9 ∷ []) ((0, finished) ∷ []))
-    -- P6, a single dark cell: the sheet with its one hole
+    -- P6, a single dark cell: the sheet with its one hole (S 17.4, S 3.7)
     ∷ (6, answers 1 p6 (9 ∷ []) ((1, finished) ∷ []))
     ∷ (
       6,
       leaves 1 p6 (9 ∷ []) (minus 32512 ∷ pos 0 ∷ minus 13005 ∷ minus 13005 ∷ minus 6502 ∷ [])
           (1 ∷ 0 ∷ 0 ∷ 0 ∷ []) (0 ∷ 0 ∷ 0 ∷ 0 ∷ []),
     )
-    -- P7: what the eight around an inner cell get of 13, in turn
+    -- P7: what the eight around an inner cell get of 13, in turn (S 17.5, S 3.7)
     ∷ (7, same (shares 2 1 1 13) (1 ∷ 1 ∷ 1 ∷ 1 ∷ 2 ∷ 2 ∷ 2 ∷ 3 ∷ []))
-    -- P8: what the five around a cell of the top row get of 7
+    -- P8: what the five around a cell of the top row get of 7 (S 17.5, S 3.7)
     ∷ (8, same (shares 2 0 1 7) (0 ∷ 1 ∷ 2 ∷ 2 ∷ 2 ∷ []))
-    -- P9: what the three around the first cell get of 4
+    -- P9: what the three around the first cell get of 4 (S 17.5, S 3.7)
     ∷ (9, same (shares 2 0 0 4) (0 ∷ 2 ∷ 2 ∷ []))
-    -- P10: G = 382 gives 1 hole, 383 gives 2
+    -- P10: the holes of the grey sums 382 and 383 (S 17.6, S 15.3)
     ∷ (10, total (240 ∷ 142 ∷ 0 ∷ 0 ∷ []) 382 1 && total (240 ∷ 143 ∷ 0 ∷ 0 ∷ []) 383 2)
-    -- P11: Levels of P3 finished: 4, 65,026
+    -- P11: Levels of P3 at its end (S 17.6, S 8.2)
     ∷ (11, same (levelsOf 2 p3 (after 1 p3 (9 ∷ []) .serials) .sums) (4 ∷ 65026 ∷ 0 ∷ 0 ∷ 0 ∷ 0 ∷ 0 ∷ 0 ∷ 0 ∷ []))
-    -- P12: P3's fresh sheet with 1 added to the top: 5
+    -- P12: what Load makes of P3, but with a top that is 1 too large (S 17.6, S 4.5)
     ∷ (
       12,
       refuses
@@ -323,12 +370,15 @@ listP3 = 50 ∷ 44 ∷ 50 ∷ 10 ∷ 49 ∷ 44 ∷ 48 ∷ 44 ∷ 48 ∷ 10 ∷ 5
 
 -- Drill List of P3 finished, into a buffer of n places with 7s in them
 unfoldable pub listed : ℕ → TextOutcome
-listed n = let held = after 1 p3 (9 ∷ []) in drillListOf (held .progress) (held .pyramid) (held .serials) (held .order) (replicate n 7)
+listed n =
+    let held = after 1 p3 (9 ∷ []) in
+    drillListOf (held .progress) (held .pyramid) (held .serials) (held .order) (replicate n 7)
 
 -- a line of P3's quote page: "  a   b      xyz     h     c"
 unfoldable pub lineP3 : ℕ → ℕ → ℕ → ℕ → ℕ → ℕ → ℕ → List ℕ
 lineP3 a b x y z h c =
-    32 ∷ 32 ∷ (48 + a) ∷ 32 ∷ 32 ∷ 32 ∷ (48 + b) ∷ replicate 6 32 ++ (48 + x) ∷ (48 + y) ∷ (48 + z) ∷ replicate 5 32 ++ (48 + h) ∷ replicate 5 32 ++ (48 + c) ∷ 10 ∷ []
+    32 ∷ 32 ∷ (48 + a) ∷ 32 ∷ 32 ∷ 32 ∷ (48 + b) ∷ replicate 6 32 ++ (48 + x) ∷ (48 + y) ∷ (48 + z) ∷ replicate 5 32
+    ++ (48 + h) ∷ replicate 5 32 ++ (48 + c) ∷ 10 ∷ []
 
 -- the quote page of P3 finished, into a buffer of n places with 7s in them
 unfoldable pub quoted : ℕ → ℕ → TextOutcome
@@ -343,7 +393,8 @@ owedWith budget w =
 abbrev pub owed : ℕ → Reply
 owed w = owedWith 9 w
 
--- Advance on a sheet of side 2 with one hole made: these serials and this order; the first two cells owe y and z, the others −1 each; the top is `off` too much
+-- Advance on a sheet of side 2 with one hole made: these serials and this order; the first two cells owe y and z, the
+-- others −1 each; the top is `off` too much
 unfoldable pub altered : ℕ → List ℕ → List ℕ → ℤ → ℤ → Reply
 altered off serials order y z =
     advanceOf (onPlain 2 1) 9
@@ -353,7 +404,8 @@ altered off serials order y z =
 abbrev pub withCells : List ℤ → List ℤ → List ℤ
 withCells above cells = above ++ cells ++ pos 7 ∷ []
 
--- the renewal around a cell of side 4 with the debts 1 to 16, where all entries above are 9, leaves this top and this level 1
+-- the renewal around a cell of side 4 with the debts 1 to 16, where all entries above are 9, leaves this top and this
+-- level 1
 unfoldable pub renews4 : ℕ → ℕ → ℕ → List ℕ → Bool
 renews4 row column top level =
     let cells = tabulateFrom 1 16 pos in
@@ -369,11 +421,15 @@ renews8 row column above =
 
 -- no renewal here: the pyramid stays
 unfoldable pub leftAlone : ℕ → ℕ → ℕ → List ℤ → Bool
-leftAlone side row column pyramid = let outcome = renewalOf side row column pyramid in not (outcome .0) && sameZ (outcome .1) pyramid
+leftAlone side row column pyramid =
+    let outcome = renewalOf side row column pyramid in not (outcome .0) && sameZ (outcome .1) pyramid
 
--- the sample of side 2 from a seed on, into a buffer of five places with 7s in them, reaches this state and leaves these greys
+-- the sample of side 2 from a seed on, into a buffer of five places with 7s in them, reaches this state and leaves
+-- these greys
 unfoldable pub samples : ℕ → ℕ → List ℕ → Bool
-samples seed state greys = let outcome = sampleOf seed 2 (replicate 5 7) in same (saidAs (outcome .said)) (0 ∷ state ∷ []) && same (outcome .greys) (greys ++ 7 ∷ [])
+samples seed state greys =
+    let outcome = sampleOf seed 2 (replicate 5 7) in
+    same (saidAs (outcome .said)) (0 ∷ state ∷ []) && same (outcome .greys) (greys ++ 7 ∷ [])
 
 -- "32", "60,94,129,180," ..: what the program `sample` prints first
 unfoldable pub sampleBegins : List ℕ
@@ -381,15 +437,23 @@ sampleBegins = 51 ∷ 50 ∷ 10 ∷ 54 ∷ 48 ∷ 44 ∷ 57 ∷ 52 ∷ 44 ∷ 49
 
 unfoldable pub furtherPlates : List Row
 furtherPlates =
-    -- the map of side 4 run to its end in one call, and in several; its Levels; the same of side 8
-    (13, leaves 2 greys4 (99 ∷ []) pyramid4 serials4 order4 && leaves 2 greys4 (1 ∷ 0 ∷ 3 ∷ 99 ∷ []) pyramid4 serials4 order4)
+    -- the map of side 4 run to its end in one call, and in several (S 3.2, S 3.4, S 3.8, S 3.9, S 15.2)
+    (
+      13,
+      leaves 2 greys4 (99 ∷ []) pyramid4 serials4 order4
+          && leaves 2 greys4 (1 ∷ 0 ∷ 3 ∷ 99 ∷ []) pyramid4 serials4 order4,
+    )
+    -- its Levels (S 8.2)
     ∷ (14, same (levelsOf 4 greys4 serials4 .sums) levels4)
+    -- the same of side 8 (S 3.2, S 3.4, S 3.8, S 3.9, S 2.4)
     ∷ (15, leaves 3 greys8 (99 ∷ []) pyramid8 serials8 order8)
+    -- and its Levels (S 8.2)
     ∷ (16, same (levelsOf 8 greys8 serials8 .sums) levels8)
-    -- the program's example, whose input is the one text of its map; Drill List leaves the byte past its list
+    -- the program's example, whose input is the one text of its map (S 14.1, S 6.2)
     ∷ (17, same (plateOf textP3) listP3 && same (mapText 2 p3) textP3)
+    -- Drill List leaves the byte past its list (S 9.3, S 6.6, S 6.1)
     ∷ (18, same (saidAs (listed 17 .said)) (0 ∷ 16 ∷ []) && same (listed 17 .output) (listP3 ++ 7 ∷ []))
-    -- refusals, the lowest number first: Load, Tally (a hole counted before), Levels, Drill List, Map Text, the program
+    -- refusals, the lowest number first: Load (S 5.2)
     ∷ (
       19,
       refuses (loadOf 3 plain [] [] [] [] .said) 1 && refuses (loadOf 2 plain (0 ∷ []) [] [] [] .said) 2
@@ -400,44 +464,125 @@ furtherPlates =
       refuses (loadOf 2 plain p1 (replicate 5 (pos 0)) p1 [] .said) 4
           && refuses (loadOf 512 plain p1 [] [] [] .said) 1,
     )
-    ∷ (21, same (saidAs (tallyOf 2 (0 ∷ 7 ∷ 0 ∷ 0 ∷ []) 1 0 1)) (0 ∷ 1 ∷ []) && same (saidAs (tallyOf 2 (0 ∷ 7 ∷ 0 ∷ 0 ∷ []) 1 1 0)) (0 ∷ 0 ∷ []))
-    ∷ (22, refuses (tallyOf 0 [] 0 0 0) 1 && refuses (tallyOf 2 (0 ∷ []) 2 0 0) 4 && refuses (tallyOf 2 p1 2 0 0) 6 && refuses (tallyOf 2 p1 0 0 1) 6)
-    ∷ (23, refuses (levelsOf 2 (0 ∷ []) [] .said) 2 && refuses (levelsOf 2 p1 [] .said) 4 && refuses (listed 15 .said) 8)
-    ∷ (24, refuses (mapTextOf (48 ∷ 50 ∷ 10 ∷ []) [] .said) 7 && refuses (mapTextOf (51 ∷ 10 ∷ []) [] .said) 1 && refuses (mapTextOf textP3 (0 ∷ 0 ∷ 0 ∷ []) .said) 2)
-    ∷ (25, refuses (mapTextOf (textP3 ++ 10 ∷ []) p1 .said) 7 && same (mapTextOf textP3 (replicate 5 6) .greys) (p3 ++ 6 ∷ []))
+    -- Tally: a burnt cell counts, and an unburnt one does not (S 8.1, S 2.10)
+    ∷ (
+      21,
+      same (saidAs (tallyOf 2 (0 ∷ 7 ∷ 0 ∷ 0 ∷ []) 1 0 1)) (0 ∷ 1 ∷ [])
+          && same (saidAs (tallyOf 2 (0 ∷ 7 ∷ 0 ∷ 0 ∷ []) 1 1 0)) (0 ∷ 0 ∷ []),
+    )
+    -- its refusals, then those of Levels and Drill List (S 5.2)
+    ∷ (
+      22,
+      refuses (tallyOf 0 [] 0 0 0) 1 && refuses (tallyOf 2 (0 ∷ []) 2 0 0) 4 && refuses (tallyOf 2 p1 2 0 0) 6
+          && refuses (tallyOf 2 p1 0 0 1) 6,
+    )
+    ∷ (
+      23,
+      refuses (levelsOf 2 (0 ∷ []) [] .said) 2 && refuses (levelsOf 2 p1 [] .said) 4
+          && refuses (listed 15 .said) 8,
+    )
+    -- Map Text (S 5.2, S 6.4)
+    ∷ (
+      24,
+      refuses (mapTextOf (48 ∷ 50 ∷ 10 ∷ []) [] .said) 7 && refuses (mapTextOf (51 ∷ 10 ∷ []) [] .said) 1
+          && refuses (mapTextOf textP3 (0 ∷ 0 ∷ 0 ∷ []) .said) 2,
+    )
+    -- Map Text refuses a text with a byte more, and leaves the place past its greys (S 6.2, S 9.1, S 2.9)
+    ∷ (
+      25,
+      refuses (mapTextOf (textP3 ++ 10 ∷ []) p1 .said) 7
+          && same (mapTextOf textP3 (replicate 5 6) .greys) (p3 ++ 6 ∷ []),
+    )
     -- the threshold itself, on a sheet that no Load made: with a top of 32,640 one hole is due, with 32,639 none
+    -- (S 3.1, S 7.5)
     ∷ (26, replied ((1, finished) ∷ []) (owed 32640 ∷ []) && replied ((0, finished) ∷ []) (owed 32639 ∷ []))
-    -- a sound sheet with one hole; and with one condition broken at a time, each gives 5: order, count, unused places, sums, the two upper bounds, the lower one
+    -- a sound sheet with one hole, beside which the cells may be below 0 (S 4.7); and with one condition broken at a
+    -- time, each gives 5
     ∷ (27, replied ((0, finished) ∷ []) (altered 0 (1 ∷ 0 ∷ 0 ∷ 0 ∷ []) (0 ∷ 0 ∷ 0 ∷ 0 ∷ []) (pos 0) (minus 1) ∷ []))
+    -- the order (S 4.2)
     ∷ (28, refuses (altered 0 (1 ∷ 0 ∷ 0 ∷ 0 ∷ []) (1 ∷ 0 ∷ 0 ∷ 0 ∷ []) (pos 0) (minus 1) .said) 5)
+    -- the count (S 4.3)
     ∷ (29, refuses (altered 0 (1 ∷ 0 ∷ 0 ∷ 5 ∷ []) (0 ∷ 0 ∷ 0 ∷ 0 ∷ []) (pos 0) (minus 1) .said) 5)
+    -- the unused places (S 4.4)
     ∷ (30, refuses (altered 0 (1 ∷ 0 ∷ 0 ∷ 0 ∷ []) (0 ∷ 3 ∷ 0 ∷ 0 ∷ []) (pos 0) (minus 1) .said) 5)
+    -- the sums (S 4.5)
     ∷ (31, refuses (altered 1 (1 ∷ 0 ∷ 0 ∷ 0 ∷ []) (0 ∷ 0 ∷ 0 ∷ 0 ∷ []) (pos 0) (minus 1) .said) 5)
+    -- the two upper bounds (S 4.6)
     ∷ (32, refuses (altered 0 (1 ∷ 0 ∷ 0 ∷ 0 ∷ []) (0 ∷ 0 ∷ 0 ∷ 0 ∷ []) (pos 0) (pos 65281) .said) 5)
     ∷ (33, refuses (altered 0 (1 ∷ 0 ∷ 0 ∷ 0 ∷ []) (0 ∷ 0 ∷ 0 ∷ 0 ∷ []) (pos 1) (minus 1) .said) 5)
+    -- the lower one (S 4.7)
     ∷ (34, refuses (altered 0 (1 ∷ 0 ∷ 0 ∷ 0 ∷ []) (0 ∷ 0 ∷ 0 ∷ 0 ∷ []) (pos 0) (minus 65281) .said) 5)
-    -- document 02's quote page: P3's of level 0, with the byte past it, and of level 1; the cap where the quotient is just below a whole number, just above it, and above s²
-    ∷ (36, same (saidAs (quoted 0 30 .said)) (0 ∷ 29 ∷ []) && same (quoted 0 30 .output) (lineP3 0 0 5 1 2 2 4 ++ 7 ∷ []))
-    ∷ (37, same (quoted 1 116 .output) (lineP3 0 0 1 2 8 1 1 ++ lineP3 0 1 1 2 8 0 1 ++ lineP3 1 0 1 2 8 0 1 ++ lineP3 1 1 1 2 8 1 1))
+    -- the quote page: P3's of level 0, with the byte past it, and of level 1 (S 8.4, S 6.5, S 6.6)
+    ∷ (
+      36,
+      same (saidAs (quoted 0 30 .said)) (0 ∷ 29 ∷ [])
+          && same (quoted 0 30 .output) (lineP3 0 0 5 1 2 2 4 ++ 7 ∷ []),
+    )
+    ∷ (
+      37,
+      same (quoted 1 116 .output)
+          (lineP3 0 0 1 2 8 1 1 ++ lineP3 0 1 1 2 8 0 1 ++ lineP3 1 0 1 2 8 0 1 ++ lineP3 1 1 1 2 8 1 1),
+    )
+    -- the cap where the quotient is just below a whole number, just above it, and above s² (S 8.3)
     ∷ (38, eqb (quoteCap 2 85) 3 && eqb (quoteCap 2 86) 4 && eqb (quoteCap 2 1020) 4)
-    -- its refusals, the lowest number first
-    ∷ (39, refuses (quotePageOf 3 [] [] 9 [] .said) 1 && refuses (quotePageOf 2 (0 ∷ []) [] 2 [] .said) 2 && refuses (quotePageOf 2 p1 (0 ∷ []) 2 [] .said) 4)
-    ∷ (40, refuses (quoted 2 0 .said) 6 && refuses (quoted 1 115 .said) 8 && same (quoted 0 28 .output) (replicate 28 7))
-    -- document 02's renewal on a wrong pyramid: under one entry of level 1, under two, under all four; with a level more; with all entries at an end of the range,
-    -- whatever lies behind; and where it is not made
-    ∷ (41, renews4 0 0 41 (14 ∷ 9 ∷ 9 ∷ 9 ∷ []) && renews4 3 3 81 (9 ∷ 9 ∷ 9 ∷ 54 ∷ []) && renews4 0 1 54 (14 ∷ 22 ∷ 9 ∷ 9 ∷ []))
-    ∷ (42, renews4 1 1 136 (14 ∷ 22 ∷ 46 ∷ 54 ∷ []) && renews8 2 4 (70 ∷ 26 ∷ 26 ∷ 9 ∷ 9 ∷ 9 ∷ 4 ∷ 4 ∷ 9 ∷ 9 ∷ 4 ∷ 4 ∷ 9 ∷ replicate 8 9))
-    ∷ (43, renewalOf 2 1 1 (replicate 5 (pos (2 ^ 40))) .0 && renewalOf 2 1 1 (replicate 5 (minus (2 ^ 40)) ++ pos (2 ^ 50) ∷ []) .0)
-    ∷ (44, leftAlone 2 0 0 (pos (2 ^ 40 + 1) ∷ replicate 4 (pos 1)) && leftAlone 2 0 0 (replicate 4 (pos 1) ++ minus (2 ^ 40 + 1) ∷ []))
-    ∷ (45, leftAlone 2 2 0 (replicate 5 (pos 1)) && leftAlone 2 0 2 (replicate 5 (pos 1)) && leftAlone 2 0 0 (replicate 4 (pos 1)) && leftAlone 3 0 0 (replicate 21 (pos 1)))
-    -- document 02's sample: "Seed 0 begins 60, 71, 209, 170"; from the state reached; from the largest seed; its refusals; what the program prints
+    -- the page's refusals, the lowest number first (S 5.2)
+    ∷ (
+      39,
+      refuses (quotePageOf 3 [] [] 9 [] .said) 1 && refuses (quotePageOf 2 (0 ∷ []) [] 2 [] .said) 2
+          && refuses (quotePageOf 2 p1 (0 ∷ []) 2 [] .said) 4,
+    )
+    ∷ (
+      40,
+      refuses (quoted 2 0 .said) 6 && refuses (quoted 1 115 .said) 8
+          && same (quoted 0 28 .output) (replicate 28 7),
+    )
+    -- the renewal on a wrong pyramid: under one entry of level 1, under two, under all four; with a level more (S 12.3,
+    -- S 3.8, S 2.4)
+    ∷ (
+      41,
+      renews4 0 0 41 (14 ∷ 9 ∷ 9 ∷ 9 ∷ []) && renews4 3 3 81 (9 ∷ 9 ∷ 9 ∷ 54 ∷ [])
+          && renews4 0 1 54 (14 ∷ 22 ∷ 9 ∷ 9 ∷ []),
+    )
+    ∷ (
+      42,
+      renews4 1 1 136 (14 ∷ 22 ∷ 46 ∷ 54 ∷ [])
+          && renews8 2 4 (70 ∷ 26 ∷ 26 ∷ 9 ∷ 9 ∷ 9 ∷ 4 ∷ 4 ∷ 9 ∷ 9 ∷ 4 ∷ 4 ∷ 9 ∷ replicate 8 9),
+    )
+    -- with all entries at an end of the range, whatever lies behind; and where it is not made (S 12.3)
+    ∷ (
+      43,
+      renewalOf 2 1 1 (replicate 5 (pos (2 ^ 40))) .0
+          && renewalOf 2 1 1 (replicate 5 (minus (2 ^ 40)) ++ pos (2 ^ 50) ∷ []) .0,
+    )
+    ∷ (
+      44,
+      leftAlone 2 0 0 (pos (2 ^ 40 + 1) ∷ replicate 4 (pos 1))
+          && leftAlone 2 0 0 (replicate 4 (pos 1) ++ minus (2 ^ 40 + 1) ∷ []),
+    )
+    ∷ (
+      45,
+      leftAlone 2 2 0 (replicate 5 (pos 1)) && leftAlone 2 0 2 (replicate 5 (pos 1))
+          && leftAlone 2 0 0 (replicate 4 (pos 1)) && leftAlone 3 0 0 (replicate 21 (pos 1)),
+    )
+    -- the sample of seed 0 (S 12.1)
     ∷ (46, samples 0 2868466484 (60 ∷ 71 ∷ 209 ∷ 170 ∷ []))
-    ∷ (47, samples 2868466484 2748932008 (98 ∷ 159 ∷ 87 ∷ 163 ∷ []) && samples 4294967295 2709482403 (60 ∷ 48 ∷ 34 ∷ 161 ∷ []))
-    ∷ (48, refuses (sampleOf 0 3 [] .said) 1 && refuses (sampleOf 0 2 (7 ∷ 7 ∷ 7 ∷ []) .said) 2 && same (sampleOf 0 2 (7 ∷ 7 ∷ 7 ∷ []) .greys) (7 ∷ 7 ∷ 7 ∷ []))
+    -- from the state reached, and from the largest seed (S 12.1, S 15.13)
+    ∷ (
+      47,
+      samples 2868466484 2748932008 (98 ∷ 159 ∷ 87 ∷ 163 ∷ [])
+          && samples 4294967295 2709482403 (60 ∷ 48 ∷ 34 ∷ 161 ∷ []),
+    )
+    -- its refusals (S 5.2)
+    ∷ (
+      48,
+      refuses (sampleOf 0 3 [] .said) 1 && refuses (sampleOf 0 2 (7 ∷ 7 ∷ 7 ∷ []) .said) 2
+          && same (sampleOf 0 2 (7 ∷ 7 ∷ 7 ∷ []) .greys) (7 ∷ 7 ∷ 7 ∷ []),
+    )
+    -- what the program prints (S 14.3)
     ∷ (49, same (take 17 sampleText) sampleBegins)
     ∷ []
 
--- ---- rows for single sentences of the papers
+-- ---- rows for single points
 -- the number for each name of a refusal
 unfoldable pub numbers : List ℕ
 numbers =
@@ -574,12 +719,15 @@ shelfRefuses side n plates lent number =
 
 unfoldable pub singlePlates : List Row
 singlePlates =
-    -- the numbers of the table; the powers of 1, 2, 4 .. 512 as sides, and of other numbers; some needed lengths
+    -- the numbers of the refusals (S 5.1)
     (50, same numbers (1 ∷ 2 ∷ 3 ∷ 4 ∷ 5 ∷ 6 ∷ 7 ∷ 8 ∷ 9 ∷ 10 ∷ 11 ∷ 12 ∷ 13 ∷ 14 ∷ []))
+    -- the powers of 1, 2, 4 .. 512 as sides, and of other numbers (S 2.1)
     ∷ (51, same (tabulateFrom 0 10 (λ r. powerOf (2 ^ r))) (tabulateFrom 0 9 (λ r. r) ++ 0 ∷ []))
     ∷ (51, same (map powerOf (0 ∷ 3 ∷ 5 ∷ 31 ∷ 33 ∷ 255 ∷ 257 ∷ [])) (replicate 7 0))
+    -- some needed lengths (S 2.5, S 2.7)
     ∷ (52, eqb (needed 1) 5 && eqb (cellCount 1) 4 && eqb (needed 8) 87381 && eqb (cellCount 8) 65536)
     -- the numbers of Load, Advance and Drill List in turn: each buffer one place short, and all behind it bad too
+    -- (S 5.2)
     ∷ (53, refuses (loads 3 2 3 4 3 3) 1 && refuses (loads 2 2 3 4 3 3) 11 && refuses (loads 2 0 3 4 3 3) 2)
     ∷ (53, refuses (loads 2 0 4 4 3 3) 3 && refuses (loads 2 0 4 5 3 3) 4 && refuses (loads 2 0 4 5 4 3) 4)
     ∷ (53, says (loads 2 0 4 5 4 4) [] && says (loads 2 1 4 5 4 4) [] && refuses (loads 2 4294967295 4 5 4 4) 11)
@@ -590,31 +738,33 @@ singlePlates =
     ∷ (55, refuses (lists 2 0 5 3 3 1 3) 4 && refuses (lists 2 0 5 4 3 1 3) 4 && refuses (lists 2 0 5 4 4 1 3) 5)
     ∷ (55, refuses (lists 2 0 5 4 4 0 3) 8 && says (lists 2 0 5 4 4 0 4) (4 ∷ []))
     ∷ (55, says (lists 2 1 5 4 4 0 4) (4 ∷ []))
-    -- those of Tally, Levels and Quote Page
+    -- those of Tally, Levels and Quote Page (S 5.2)
     ∷ (56, refuses (tallyOf 3 [] 9 0 0) 1 && refuses (tallyOf 2 three 9 0 0) 4 && refuses (tallyOf 2 p1 1 2 0) 6)
     ∷ (57, refuses (levelsOf 3 [] [] .said) 1 && refuses (levelsOf 2 three [] .said) 2)
     ∷ (57, refuses (levelsOf 2 p1 three .said) 4 && says (levelsOf 2 p1 p1 .said) [])
     ∷ (58, refuses (quotePageOf 2 three three 2 [] .said) 2 && refuses (quotePageOf 2 p1 three 2 [] .said) 4)
-    -- Map Text: first lines of three and of four digits; its room; a grey of 240 and one of 256; the bytes just before
-    -- and just behind the digits, as a number's first and as its second
+    -- Map Text: first lines of three and of four digits (S 6.4)
     ∷ (59, refuses (reads (57 ∷ 57 ∷ 57 ∷ 10 ∷ []) 0) 1)
     ∷ (59, refuses (reads (49 ∷ 48 ∷ 48 ∷ 48 ∷ 10 ∷ []) 0) 7)
+    -- its room (S 5.2)
     ∷ (60, refuses (reads (textOfGrey (48 ∷ [])) 3) 2 && says (reads (textOfGrey (48 ∷ [])) 4) (2 ∷ []))
+    -- a grey of 240 and one of 256 (S 6.2)
     ∷ (61, says (reads (textOfGrey (50 ∷ 52 ∷ 48 ∷ [])) 4) (2 ∷ []))
     ∷ (61, refuses (reads (textOfGrey (50 ∷ 53 ∷ 54 ∷ [])) 4) 7)
+    -- the bytes just before and just behind the digits, as a number's first and as its second (S 6.1)
     ∷ (62, refuses (reads (textOfGrey (47 ∷ [])) 4) 7 && refuses (reads (textOfGrey (58 ∷ [])) 4) 7)
     ∷ (62, refuses (reads (textOfGrey (49 ∷ 47 ∷ [])) 4) 7 && refuses (reads (textOfGrey (49 ∷ 58 ∷ [])) 4) 7)
-    -- the record of a refused Load, and that of a refused Advance
+    -- the record of a refused Load, and that of a refused Advance (S 7.2, S 7.4)
     ∷ (
       63,
       let none = loadOf 2 ribbed [] [] [] [] .progress in
           eqb (none .side) 0 && eqb (none .dots) 0 && eqb (none .knit) 0,
     )
     ∷ (63, givesBack 3 7 0 && givesBack 2 7 1 && givesBack 2 7 9)
-    -- a top of just 32,640 and a budget of 0: a hole is due still
+    -- a top of just 32,640 and a budget of 0: a hole is due still (S 3.1, S 7.3)
     ∷ (64, replied ((0, more) ∷ []) (owedWith 0 32640 ∷ []))
     ∷ (64, replied ((0, finished) ∷ []) (owedWith 0 32639 ∷ []))
-    -- beside one hole, only the cells around it may owe −1: not the hole itself, and none further off
+    -- beside one hole, only the cells around it may owe −1: not the hole itself, and none further off (S 4.7, S 3.5)
     ∷ (65, same (lowBeside plain 0) (0 ∷ 1 ∷ 0 ∷ 0 ∷ 1 ∷ 1 ∷ replicate 10 0))
     ∷ (
       65,
@@ -622,49 +772,52 @@ singlePlates =
           (0 ∷ 1 ∷ 1 ∷ 1 ∷ 0 ∷ 1 ∷ 0 ∷ 1 ∷ 0 ∷ 1 ∷ 1 ∷ 1 ∷ replicate 4 0),
     )
     ∷ (65, same (lowBeside ribbed 6) (lowBeside plain 6))
-    -- the last place of the order list has to be unused too
+    -- the last place of the order list has to be unused too (S 4.4)
     ∷ (66, refuses (altered 0 (1 ∷ 0 ∷ 0 ∷ 0 ∷ []) (0 ∷ 0 ∷ 0 ∷ 3 ∷ []) (pos 0) (minus 1) .said) 5)
-    -- a list in which rows and columns differ
+    -- a list in which rows and columns differ (S 9.3, S 2.3)
     ∷ (67, same (plateOf textRight) listRight)
-    -- equal quarters above the cells: of each two neighbours in the order of the descent, the first; of four, in turn
-    -- the first and the last of those left
+    -- equal quarters above the cells: of each two neighbours in the order of the walk, the first; of four, in turn the
+    -- first and the last of those left (S 3.2, S 3.3)
     ∷ (68, same (orderOf (0 ∷ 2 ∷ [])) (0 ∷ 2 ∷ []) && same (orderOf (3 ∷ 12 ∷ [])) (3 ∷ 12 ∷ []))
     ∷ (68, same (orderOf (8 ∷ 15 ∷ [])) (8 ∷ 15 ∷ []))
     ∷ (68, same (orderOf (0 ∷ 3 ∷ 12 ∷ 15 ∷ [])) (0 ∷ 15 ∷ 3 ∷ 12 ∷ []))
     -- `plate`: no map text, side 3, side 64; an input of 4,099 bytes is read (this is no map text), one of 4,100 is not
+    -- (S 14.1, S 14.7)
     ∷ (69, plateRefuses textX 7 && plateRefuses (51 ∷ 10 ∷ []) 1 && plateRefuses text64 2)
     ∷ (69, plateRefuses (replicate 4099 48) 7 && plateRefuses (replicate 4100 48) 9)
     -- `quote`: P3's pages of both levels; a level too many, and the largest number of 32 bits; nothing, no number, a
-    -- leading zero, a number of 33 bits; the refusals of the map text
+    -- leading zero, a number of 33 bits; the refusals of the map text (S 14.2)
     ∷ (70, same (quoteOf (level0 ++ textP3)) (lineP3 0 0 5 1 2 2 4) && same (quoteOf (49 ∷ 10 ∷ textP3)) pageP3)
     ∷ (71, quoteRefuses (50 ∷ 10 ∷ textP3) 6 && quoteRefuses (tenDigits 53 ++ textP3) 6)
     ∷ (72, quoteRefuses [] 7 && quoteRefuses textX 7 && quoteRefuses (48 ∷ level0 ++ textP3) 7)
     ∷ (72, quoteRefuses (tenDigits 54 ++ textP3) 7)
     ∷ (73, quoteRefuses (level0 ++ textX) 7 && quoteRefuses (level0 ++ 51 ∷ 10 ∷ []) 1)
     ∷ (73, quoteRefuses (level0 ++ text64) 2)
-    -- document 02's turns, side 2: after the first hole two cells owe 49,664 each, and the second takes the later one;
-    -- and a flat map of side 4, in one call and in several
+    -- turns, side 2: after the first hole two cells owe 49,664 each, and the second takes the later one (S 3.3)
     ∷ (74, leaves 1 turns (9 ∷ []) turnsPyramid (1 ∷ 3 ∷ 2 ∷ 0 ∷ []) (0 ∷ 2 ∷ 1 ∷ 0 ∷ []))
+    -- and a flat map of side 4, in one call and in several (S 3.3, S 15.2)
     ∷ (75, leaves 2 greysFlat4 (99 ∷ []) pyramidFlat4 serialsFlat4 orderFlat4)
     ∷ (75, leaves 2 greysFlat4 (1 ∷ 1 ∷ 3 ∷ 99 ∷ []) pyramidFlat4 serialsFlat4 orderFlat4)
     ∷ (75, same (levelsOf 4 greysFlat4 serialsFlat4 .sums) levelsFlat4)
-    -- document 02's comparison: fewer holes come first, whatever is burnt, and no cell is named; with as many, the cell
-    -- by row then column, and the plate unburnt there; the serials themselves and what lies past the map do not count
+    -- Compare: fewer holes come first, whatever is burnt, and no cell is named (S 11.1)
     ∷ (76, compares (1 ∷ 0 ∷ 0 ∷ 0 ∷ []) (0 ∷ 0 ∷ 1 ∷ 2 ∷ []) Answers.before)
     ∷ (76, compares (0 ∷ 0 ∷ 1 ∷ 2 ∷ []) (1 ∷ 0 ∷ 0 ∷ 0 ∷ []) Answers.after)
+    -- with as many, the cell by row then column, and the plate unburnt there (S 11.1, S 15.12)
     ∷ (77, compares (0 ∷ 1 ∷ 0 ∷ 0 ∷ []) (0 ∷ 0 ∷ 1 ∷ 0 ∷ []) (Answers.afterAt 0 1))
     ∷ (77, compares (0 ∷ 0 ∷ 1 ∷ 0 ∷ []) (0 ∷ 1 ∷ 0 ∷ 0 ∷ []) (Answers.beforeAt 0 1))
     ∷ (77, same (saidAs (compareOf 4 (burntIn 11) (burntIn 9))) (4 ∷ comparedAs (Answers.beforeAt 2 1)))
+    -- the serials themselves and what lies past the map do not count (S 11.1, S 2.9)
     ∷ (78, compares (1 ∷ 0 ∷ 0 ∷ 2 ∷ []) (9 ∷ 0 ∷ 0 ∷ 4294967295 ∷ []) Answers.same)
     ∷ (78, compares (1 ∷ 2 ∷ 0 ∷ 0 ∷ 3 ∷ []) (2 ∷ 1 ∷ 0 ∷ 0 ∷ 0 ∷ []) Answers.same)
+    -- its refusals (S 5.2)
     ∷ (79, refuses (compareOf 3 [] []) 1 && refuses (compareOf 2 three p1) 4 && refuses (compareOf 2 p1 three) 4)
-    -- its shelf: five plates, the place past them left; no plate, with and without a list; one plate; two that are
-    -- the same and two that are not
+    -- Shelf: five plates, the place past them left; no plate, with and without a list; one plate; two that are the same
+    -- and two that are not (S 11.2, S 15.12)
     ∷ (80, shelves 5 fivePlates 6 (3 ∷ 1 ∷ 0 ∷ 2 ∷ 4 ∷ 9 ∷ []))
     ∷ (81, shelves 0 [] 0 [] && shelves 0 fivePlates 1 (9 ∷ []) && shelves 1 fivePlates 1 (0 ∷ []))
     ∷ (81, shelves 2 (1 ∷ 0 ∷ 0 ∷ 0 ∷ 2 ∷ 0 ∷ 0 ∷ 0 ∷ []) 2 (0 ∷ 1 ∷ []))
     ∷ (81, shelves 2 fivePlates 2 (1 ∷ 0 ∷ []))
-    -- its refusals, the lowest number first; a shelf of 2³² places would hold just these 65,536 plates
+    -- its refusals, the lowest number first; a shelf of 2³² places would hold just these 65,536 plates (S 5.2, S 11.2)
     ∷ (82, shelfRefuses 3 9 0 0 1 && shelfRefuses 2 2 7 1 4 && shelfRefuses 2 2 8 1 8)
     ∷ (82, shelfRefuses 256 65536 0 0 4 && shelfRefuses 256 4294967295 9 9 4)
     ∷ []
@@ -684,6 +837,7 @@ pub plates-there : length allPlates ≡ 244
 unfolding plates furtherPlates singlePlates stagePlates knitPlates spreadPlates layoutPlates lowPlates sketchPlates
 plates-there = refl
 
+-- the plates to work by hand are in `plates` (S 17.1, S 17.2, S 17.3, S 17.4, S 17.5, S 17.6)
 pub plates-hold : firstFailing allPlates ≡ 0
 unfolding sumTo sumZTo allTo tabulateFrom joined repeated eqZ numberOf start placeIn rowAt columnAt
     levelOf inLevel entry four coarser pyramidOver blockSum blockSumZ greyAt burnt burntAt greySum greyTotal

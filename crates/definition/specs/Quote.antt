@@ -1,4 +1,5 @@
--- The program `quote` (docs/DECISIONS.md 61): what it prints for an input, a line with a level and then a map text.
+-- The program `quote`: `quoteOf` is what it prints for an input, a line with a level and then a map text
+-- (docs/DECISIONS.md 69).
 use mathlib.Core.Bool.{true, false}
 use mathlib.Core.List.{List}
 use Prim.Native.Nat.{ℕ}
@@ -10,7 +11,7 @@ use Rattle.definition.specs.MapText.{accepted, rejected, readLow}
 use Rattle.definition.specs.QuotePage.{quoteText}
 use Rattle.definition.specs.Plate.{refusedText, finishedOf}
 
--- the quote page of the finished map for a level; 6 for a level that the map hasn't
+-- the quote page of the finished map for a level; 6 for a level that the map hasn't (S 14.2)
 unfoldable pub quoteOfMap : ℕ → ℕ → List ℕ → List ℕ
 quoteOfMap level side greys =
     let r = powerOf side in
@@ -19,13 +20,13 @@ quoteOfMap level side greys =
       | false ↦ quoteText r greys (finishedOf plain r greys .serials) level
     ]
 
--- the map text behind the level's line is read as `plate` reads its own, with room for 1,024 greys
+-- the map text behind the level's line is read as `plate` reads its own, with room for 1,024 greys (S 14.2)
 unfoldable pub quoteOfText : ℕ → List ℕ → List ℕ
 quoteOfText level text =
     elim (readLow text 1024) [ accepted side greys ↦ quoteOfMap level side greys | rejected n ↦ refusedText n ]
 
 -- What is printed of a level and the text behind its line. A level is any number of 32 bits; where the input doesn't
--- begin with one on its line, that is 7.
+-- begin with one on its line, that is 7 (S 14.2, S 14.5).
 unfoldable pub behindLevel : (ℕ → List ℕ → List ℕ) → List ℕ → List ℕ
 behindLevel printed input =
     elim (fieldOf 4294967295 newline input) [
@@ -33,5 +34,6 @@ behindLevel printed input =
       | field level text ↦ printed level text
     ]
 
+-- all of it (S 14.2)
 abbrev pub quoteOf : List ℕ → List ℕ
 quoteOf input = behindLevel quoteOfText input

@@ -1,4 +1,4 @@
--- The rows for document 02's request 12: the text of a sketch, its totals and caps, the refusals in their order, and
+-- The rows for sketches, `sketchPlates`: the text of a sketch, its totals and caps, the refusals in their order, and
 -- what the program `sketch` prints.
 use mathlib.Core.Bool.{Bool, not, _&&_}
 use mathlib.Core.List.{List, [], _∷_, _++_}
@@ -80,34 +80,36 @@ sketchRefuses input digit =
 
 unfoldable pub sketchPlates : List Row
 sketchPlates =
-    -- the one text of a sketch; its numbers put together and taken apart; equal ends are no fall
+    -- the one text of a sketch; its numbers put together and taken apart; equal ends are no fall (S 6.3)
     (130, same (sketchText 2 lowTwo highTwo) textTwo)
     ∷ (130, same (lowsOf (paired lowTwo highTwo)) lowTwo && same (highsOf (paired lowTwo highTwo)) highTwo)
     ∷ (130, pairsRise (3 ∷ 3 ∷ 0 ∷ 9 ∷ []) && not (pairsRise (3 ∷ 2 ∷ [])) && not (pairsRise (0 ∷ 9 ∷ 1 ∷ 0 ∷ [])))
     -- totals and caps: one square, squares of one cell, four squares by row then column; just enough room, and more
+    -- (S 9.4, S 8.3)
     ∷ (131, sketches 2 lowTwo highTwo 0 0 1 2 (4 ∷ []) && sketches 2 lowTwo highTwo 1 1 1 2 (1 ∷ 1 ∷ 1 ∷ 1 ∷ []))
     ∷ (131, sketches 4 lowFour highFour 1 3 0 2 (3 ∷ 4 ∷ 3 ∷ 4 ∷ []))
     ∷ (131, sketches 4 lowFour highFour 0 0 0 2 (8 ∷ []))
-    -- the ends of the range may be one map; 240 is no high grey
+    -- the ends of the range may be one map; 240 is no high grey (S 9.4)
     ∷ (132, sketches 2 highTwo highTwo 0 1 2 2 (4 ∷ []) && sketches 2 lowTwo (replicate 4 240) 0 0 1 4 (4 ∷ []))
     -- refused, each together with what comes behind it: a first line that is none; side 3; three places for lows, and
-    -- for highs
+    -- for highs (S 5.2, S 6.4)
     ∷ (133, sketchesNothing (48 ∷ textTwo) 2 3 3 0 7 && sketchesNothing (51 ∷ 10 ∷ []) 2 3 3 0 1)
     ∷ (133, sketchesNothing (textTwo ++ 10 ∷ []) 2 3 4 0 2 && sketchesNothing (textTwo ++ 10 ∷ []) 2 4 3 0 2)
-    -- a text that goes on; N numbers a line; a pair too few, and one too many; 256
+    -- a text that goes on; N numbers a line; a pair too few, and one too many; 256 (S 6.3)
     ∷ (134, sketchesNothing (textTwo ++ 10 ∷ []) 2 4 4 0 7 && sketchesNothing (mapText 2 lowTwo) 0 4 4 1 7)
     ∷ (134, sketchesNothing (mapText 2 (1 ∷ 2 ∷ 3 ∷ 4 ∷ 5 ∷ 6 ∷ 7 ∷ 8 ∷ [])) 0 4 4 1 7)
     ∷ (134, sketchesNothing (50 ∷ 10 ∷ 48 ∷ 44 ∷ 49 ∷ 44 ∷ 48 ∷ 44 ∷ 49 ∷ 10 ∷ 48 ∷ 44 ∷ 49 ∷ 10 ∷ []) 0 4 4 1 7)
     ∷ (134, sketchesNothing (textTwo ++ 48 ∷ 44 ∷ 49 ∷ 10 ∷ []) 0 4 4 1 7 && sketchesNothing (lastPair 0 256) 2 4 4 0 7)
     -- a high grey among highs or lows, before a pair that falls; a pair that falls, before the level; the level before
-    -- the caps; too few places for caps
+    -- the caps; too few places for caps (S 5.2, S 9.4)
     ∷ (135, sketchesNothing (firstPair 0 241) 2 4 4 0 12 && sketchesNothing (lastPair 241 9) 2 4 4 0 12)
     ∷ (135, sketchesNothing (sketchText 2 (9 ∷ 0 ∷ 0 ∷ 0 ∷ []) (8 ∷ 241 ∷ 0 ∷ 0 ∷ [])) 0 4 4 1 12)
     ∷ (135, sketchesNothing (firstPair 10 9) 2 4 4 0 13 && sketchesNothing (lastPair 240 239) 0 4 4 1 13)
     ∷ (135, sketchesNothing textTwo 2 4 4 0 6 && sketchesNothing textTwo 1 4 4 3 8 && sketchesNothing textTwo 0 5 5 0 8)
-    -- the program: totals and caps, and its refusals
+    -- the program: totals and caps (S 14.5, S 6.5)
     ∷ (136, same (sketchOf (48 ∷ 10 ∷ textTwo)) pageTwo)
     ∷ (136, same (sketchOf (49 ∷ 10 ∷ sketchText 4 lowFour highFour)) pageFour)
+    -- its refusals (S 14.5, S 14.7)
     ∷ (137, same (sketchOf (57 ∷ 10 ∷ firstPair 10 9)) refusedFall && sketchRefuses (57 ∷ 10 ∷ textTwo) 54)
     ∷ (137, sketchRefuses textTwo 55 && sketchRefuses (48 ∷ 48 ∷ 10 ∷ textTwo) 55 && sketchRefuses [] 55)
     ∷ (137, sketchRefuses (48 ∷ 10 ∷ 54 ∷ 52 ∷ 10 ∷ []) 50 && sketchRefuses (48 ∷ 10 ∷ 57 ∷ 10 ∷ []) 49)

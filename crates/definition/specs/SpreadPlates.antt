@@ -1,4 +1,4 @@
--- The rows for document 02's order of the spread: which neighbour bears the odd units, place by place.
+-- The rows for the order of the spread, `spreadPlates`: which neighbour bears the odd units, place by place.
 use mathlib.Core.Bool.{Bool}
 use mathlib.Core.List.{List, [], _∷_, map}
 use Prim.Native.Nat.{ℕ}
@@ -16,6 +16,7 @@ spreads knit row column d taken =
 unfoldable pub spreadPlates : List Row
 spreadPlates =
     -- inside plain cloth the sums of the weights are 1, 2, 3, 4, 6, 8, 10, 12 of 12. Of 1, only the last is a whole one
+    -- (S 3.6, S 3.7)
     (
       99,
       spreads plain 1 1 1
@@ -57,8 +58,8 @@ spreadPlates =
           ∷ 0 ∷ 1 ∷ 1 ∷ 0
           ∷ 0 ∷ 0 ∷ 0 ∷ 0 ∷ []),
     )
-    -- on its right side 1, 2, 4, 6, 8 of 8: above left, below left, up, left, down; in its lower left corner 1, 3, 5
-    -- of 5
+    -- on its right side 1, 2, 4, 6, 8 of 8: above left, below left, up, left, down; in its lower left corner 1, 3, 5 of
+    -- 5 (S 3.6, S 3.5)
     ∷ (
       100,
       spreads plain 1 3 4
@@ -75,7 +76,7 @@ spreadPlates =
           ∷ 1 ∷ 0 ∷ 0 ∷ 0
           ∷ 0 ∷ 2 ∷ 0 ∷ 0 ∷ []),
     )
-    -- inside ribbed cloth 1, 2, 3, 4 of 4: of 1 the last, of 2 each second one, of 3 all but the first
+    -- inside ribbed cloth 1, 2, 3, 4 of 4: of 1 the last, of 2 each second one, of 3 all but the first (S 3.6)
     ∷ (
       101,
       spreads ribbed 1 1 1

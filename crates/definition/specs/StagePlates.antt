@@ -1,4 +1,4 @@
--- The rows for document 02's names: Keep, Restore, and lists of calls with them.
+-- The rows for names, `stagePlates`: Keep, Restore, and lists of calls with them.
 use mathlib.Core.Bool.{Bool, _&&_}
 use mathlib.Core.List.{List, [], _∷_, _++_}
 use Prim.Native.Nat.{ℕ}
@@ -117,31 +117,32 @@ keptThree = keeping 1 ∷ advancing1 1 ∷ keeping 8 ∷ keeping 0 ∷ keeping 9
 
 unfoldable pub stagePlates : List Row
 stagePlates =
-    -- document 02's names: Keep under the first and the last, where something is kept already, of no dot, of any count;
-    -- its refusals, the lowest number first
+    -- Keep under the first name and the last, where something is kept already, of no dot, of any count (S 10.1, S 2.11)
     (83, keeps 2 1 (replicate 8 0) 1 (2 ∷ replicate 7 0) && keeps 2 0 (replicate 8 7) 8 (replicate 7 7 ++ 1 ∷ []))
     ∷ (83, keeps 256 4294967295 (replicate 8 0) 2 (0 ∷ 4294967296 ∷ replicate 6 0))
+    -- its refusals, the lowest number first (S 5.2, S 10.1)
     ∷ (84, keepRefuses 3 7 twoKept 9 1 && keepRefuses 2 7 twoKept 9 10 && keepRefuses 2 7 twoKept 0 10)
     -- Restore on P3 finished: to no dot, to one, to the total; forwards from a fresh sheet; to one dot of other greys
+    -- (S 10.2)
     ∷ (85, goesBack (9 ∷ []) p3 twoKept 7 0 && goesBack (9 ∷ []) p3 twoKept 8 1)
     ∷ (85, goesBack (9 ∷ []) p3 (3 ∷ replicate 7 0) 1 2 && goesBack [] p3 twoKept 8 1)
     ∷ (85, goesBack (9 ∷ []) (240 ∷ 143 ∷ 0 ∷ 0 ∷ 9 ∷ []) twoKept 8 1)
-    -- its refusals in turn, each buffer one place short, and all behind it bad too; then the names 9 and 0, an empty
-    -- one, one with a dot too many, and the only one left
+    -- its refusals in turn, each buffer one place short, and all behind it bad too (S 5.2)
     ∷ (86, refuses (restores 3 2 3 4 3 3 1 0 9) 1 && refuses (restores 2 2 3 4 3 3 1 0 9) 11)
     ∷ (86, refuses (restores 2 0 3 4 3 3 1 0 9) 2)
     ∷ (86, refuses (restores 2 0 4 4 3 3 1 0 9) 3 && refuses (restores 2 0 4 5 3 3 1 0 9) 4)
     ∷ (86, refuses (restores 2 0 4 5 4 3 1 0 9) 4 && refuses (restores 2 0 4 5 4 4 1 0 9) 5)
+    -- then the names 9 and 0, an empty one, one with a dot too many, and the only one left (S 10.3)
     ∷ (87, refuses (restores 2 0 4 5 4 4 0 1 9) 10 && refuses (restores 2 0 4 5 4 4 0 1 0) 10)
     ∷ (87, refuses (restores 2 0 4 5 4 4 0 0 1) 10 && refuses (restores 2 0 4 5 4 4 0 2 1) 10)
     ∷ (87, says (restores 2 0 4 5 4 4 0 1 1) [])
-    -- refused, it gives back everything: an empty name, and one with a dot more than P3 comes to; greys past the map
-    -- do not raise its total
+    -- refused, it gives back everything: an empty name, and one with a dot more than P3 comes to; greys past the map do
+    -- not raise its total (S 10.3)
     ∷ (88, staysThere (1 ∷ []) twoKept 1 10 && staysThere (1 ∷ []) (4 ∷ replicate 7 0) 1 10)
     ∷ (88, staysThereOn ribbed (1 ∷ []) twoKept 1 10)
     ∷ (88, refuses (restoresP3 plain [] (p1 ++ 255 ∷ 255 ∷ []) twoKept 8 .said) 10)
     -- lists of calls: three names kept; back to each of them and forwards again; to an empty one and to none; a name
-    -- kept anew
+    -- kept anew (S 15.9)
     ∷ (89, leavesStage keptThree (9 ∷ []) (1 ∷ 3 ∷ replicate 5 0 ++ 2 ∷ []))
     ∷ (89, leavesStage (keptThree ++ returning1 8 ∷ []) (1 ∷ []) (1 ∷ 3 ∷ replicate 5 0 ++ 2 ∷ []))
     ∷ (

@@ -1,6 +1,6 @@
--- Document 02, request 7: lists of Advance, Keep and Restore calls after one Load, each with the record and value that
--- the calls before it left; and the model fed with them. In the model a name holds the whole sheet, and a return puts
--- that sheet back.
+-- Lists of Advance, Keep and Restore calls after one Load, each with the record and value that the calls before it left
+-- (`callerAfterAll`, `answersOf`); and the model fed with them (`memoryAfterAll`, `modelAnswers`), in which a name
+-- holds the whole sheet, and a return puts that sheet back.
 use mathlib.Core.Bool.{Bool, true, false, _&&_}
 use mathlib.Core.List.{List, [], _∷_, _++_, map}
 use mathlib.Core.Option.{Option, some, none}
@@ -11,13 +11,13 @@ use Rattle.definition.specs.Answers.{Said, returned, refused}
 use Rattle.definition.specs.Model.{Halftone, modelStart}
 use Rattle.definition.specs.Refusals.{greysShort, pyramidShort, sheetShort, lowest}
 use Rattle.definition.specs.Advance.{Reply}
-use Rattle.definition.specs.Calls.{Call, Held, heldAfterLoad, callOf, heldAfter, modelCall, modelReply}
+use Rattle.definition.specs.AdvanceList.{Call, Held, heldAfterLoad, callOf, heldAfter, modelCall, modelReply}
 use Rattle.definition.specs.Checkpoints.{isName, nameUnknown, keepOf, RestoreOutcome}
 use Rattle.definition.specs.ByQuarters.{restoreByQuarters}
 use Rattle.definition.specs.declared.Progress.{Progress}
 use Rattle.definition.specs.declared.Checkpoints.{Checkpoints}
 
--- a return to a name, and how many places of the greys that were loaded and of the buffers it is lent
+-- a return to a name, and how many places of the greys that were loaded and of the buffers it is lent (S 15.9)
 pub record Return : Type 0 where
   pub name : ℕ
   pub greysLent : ℕ
@@ -25,7 +25,7 @@ pub record Return : Type 0 where
   pub serialsLent : ℕ
   pub orderLent : ℕ
 
--- a call of the list
+-- a call of the list (S 15.9)
 pub data Action : Type 0 where
   advancing : Call → Action
   keeping : ℕ → Action
@@ -43,7 +43,7 @@ pub record Caller : Type 0 where
   pub held : Held
   pub checkpoints : Checkpoints
 
--- after Load, with all names empty
+-- after Load, with all names empty (S 2.11)
 unfoldable pub callerAtFirst : ℕ → ℕ → List ℕ → List ℤ → List ℕ → List ℕ → Caller
 callerAtFirst side knit greys pyramid serials order =
     record {
@@ -51,7 +51,7 @@ callerAtFirst side knit greys pyramid serials order =
       checkpoints = record { kept = replicate 8 0 };
     }
 
--- a return: what was lent comes back in front of what wasn't
+-- a return: what was lent comes back in front of what wasn't (S 15.9)
 unfoldable pub returnOf : List ℕ → Caller → Return → RestoreOutcome
 returnOf greys caller b =
     let held = caller .held in
@@ -74,6 +74,7 @@ callerAfter out =
       checkpoints = out .checkpoints;
     }
 
+-- what is held after a call
 unfoldable pub act : List ℕ → Caller → Action → Caller
 act greys caller (advancing call) =
     record { held = heldAfter (callOf (caller .held) call); checkpoints = caller .checkpoints }
@@ -87,6 +88,7 @@ act greys caller (keeping name) =
     }
 act greys caller (returning b) = callerAfter (returnOf greys caller b)
 
+-- and what it answers
 unfoldable pub answerOf : List ℕ → Caller → Action → Answer
 answerOf greys caller (advancing call) = replied (callOf (caller .held) call .reply)
 answerOf greys caller (keeping name) = noted (keepOf (caller .held .progress) (caller .checkpoints) name .said)
@@ -94,7 +96,7 @@ answerOf greys caller (returning b) =
     let out = returnOf greys caller b in
     back (out .progress) (out .said)
 
--- a list of calls: what the caller holds after all of them, and what they answered
+-- a list of calls: what the caller holds after all of them, and what they answered (S 15.9)
 unfoldable pub callerAfterAll : List ℕ → Caller → List Action → Caller
 callerAfterAll greys caller [] = caller
 callerAfterAll greys caller (a ∷ rest) = callerAfterAll greys (act greys caller a) rest
@@ -105,7 +107,7 @@ answersOf greys caller (a ∷ rest) =
     answerOf greys caller a ∷ answersOf greys (act greys caller a) rest
 
 -- ---- the model
--- the sheet there is, and for each name the whole sheet at the time of its last keep
+-- the sheet there is, and for each name the whole sheet at the time of its last keep (S 15.9)
 pub record Memory : Type 0 where
   pub sheet : Halftone
   pub names : List (Option Halftone)
@@ -120,7 +122,7 @@ unfoldable pub isKept : Option Halftone → Bool
 isKept none = false
 isKept (some sheet) = true
 
--- A part lent too short answers 2, 3 or 4; a name that isn't one of the eight, or was never kept, 10.
+-- A part lent too short answers 2, 3 or 4; a name that isn't one of the eight, or was never kept, 10 (S 15.9).
 unfoldable pub modelReturnRefusal : ℕ → Memory → Return → ℕ
 modelReturnRefusal r memory b =
     lowest
@@ -133,6 +135,7 @@ unfoldable pub orElse : Option Halftone → Halftone → Halftone
 orElse none sheet = sheet
 orElse (some kept) sheet = kept
 
+-- a return: the sheet that was kept under the name, put back (S 15.9)
 unfoldable pub modelReturn : ℕ → Memory → Return → Halftone
 modelReturn r memory b =
     elim (modelReturnRefusal r memory b) [
@@ -161,6 +164,7 @@ modelAnswer knit r memory (returning b) =
     let progress : Progress = record { side = 2 ^ r; dots = modelReturn r memory b .dots; knit = knit } in
     back progress (saidOf (modelReturnRefusal r memory b))
 
+-- a list of calls: the model after all of them, and what it answered (S 15.9)
 unfoldable pub memoryAfterAll : ℕ → ℕ → Memory → List Action → Memory
 memoryAfterAll knit r memory [] = memory
 memoryAfterAll knit r memory (a ∷ rest) = memoryAfterAll knit r (modelAct knit r memory a) rest
@@ -170,7 +174,7 @@ modelAnswers knit r memory [] = []
 modelAnswers knit r memory (a ∷ rest) =
     modelAnswer knit r memory a ∷ modelAnswers knit r (modelAct knit r memory a) rest
 
--- the value that goes with the names: 0 for an empty one, else 1 more than the dots of its sheet
+-- the value that goes with the names: 0 for an empty one, else 1 more than the dots of its sheet (S 2.11)
 unfoldable pub countOf : Option Halftone → ℕ
 countOf none = 0
 countOf (some sheet) = suc (sheet .dots)

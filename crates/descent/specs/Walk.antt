@@ -1,4 +1,6 @@
--- Why the code of the descent meets the definition, on the pyramid written row after row.
+-- Why the code of the descent meets the definition, on the pyramid written row after row: the sum with its tie
+-- (`candidate-is`), the one that is taken (`taken-is`), one level down (`next-asked`), and the cell back from its
+-- number (`cell-is`).
 use mathlib.Core.Path.{_≡_, refl, sym, ap, ap₂, _∙_}
 use mathlib.Core.Bool.{Bool, true, false, cond}
 use mathlib.Core.List.{List}
@@ -24,9 +26,9 @@ use Rattle.quadtree.specs.Levels.{start-thrice, start-suc, start-mono, quadrupl
 use Rattle.quadtree.specs.Guidance.{equals-fair, largest-quarter}
 use Rattle.layouts.specs.Interleaved.{quarter, interleaved-lt}
 use Rattle.layouts.specs.Relaid.{rows-entry}
-use Rattle.pyramid.specs.Asked.{Within}
+use Rattle.pyramid.specs.PyramidPart.{Within}
 use Rattle.descent.specs.declared.Candidate.{Candidate}
-use Rattle.descent.specs.Asked.{
+use Rattle.descent.specs.Candidates.{
   shown,
   candidateAt,
   betterOf,

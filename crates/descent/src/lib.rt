@@ -1,12 +1,13 @@
-// The descent: from an entry of the pyramid down to a cell, always to the largest of the four entries below. The
-// pyramid lies by quarters: below the entry at place i of the whole pyramid are those at the places 4i + 1 to 4i + 4.
+// The descent: from an entry of the pyramid down to a cell, always to the largest of the four entries below
+// (`descend`). The pyramid lies by quarters: below the entry at place i of the whole pyramid are those at the places
+// 4i + 1 to 4i + 4.
 ghost use mathlib.Core.Path.{_≡_};
 ghost use Prim.Native.Nat.{_+_, _-_, _^_, _<_};
 ghost use lib.ListN.{length};
 ghost use Rattle.definition.specs.Descent.{ofEquals, descend};
 ghost use Rattle.definition.specs.Quarters.{rowsFrom};
-ghost use Rattle.pyramid.specs.Asked.{Within};
-ghost use Rattle.descent.specs.Asked.{candidateAt, betterOf, FourAsked, Taken, DescentAsked, numberOf};
+ghost use Rattle.pyramid.specs.PyramidPart.{Within};
+ghost use Rattle.descent.specs.Candidates.{candidateAt, betterOf, FourAsked, Taken, DescentAsked, numberOf};
 
 // A cell of the map.
 pub struct Cell {
@@ -33,7 +34,7 @@ fn candidate_at(pyramid: &[i64], first: usize, quarter: usize) -> Candidate
 }
 
 // The next one where the best so far is below its sum + tie, else the best. With tie 0 the first of equals is kept,
-// with tie 1 the last is taken; added to the sum, the choice costs no branch.
+// with tie 1 the last is taken (S 3.3); added to the sum, the choice costs no branch.
 fn better(best: Candidate, next: Candidate, last: bool) -> Candidate
     requires { ⌜ Within (2 ^ 40) (next .sum) ⌝ }
     ensures { λ c. ⌜ c ≡ betterOf last best next ⌝ }
@@ -82,7 +83,8 @@ fn walk(pyramid: &[i64], r: usize, k: usize, at: usize, a: usize, b: usize, last
     )
 }
 
-// The cell that the descent reaches from entry (a, b) of level k, which is at place `at`.
+// The cell that the descent (S 3.2) reaches from entry (a, b) of level k, which is at place `at`, by the last of equals
+// or by the first (S 3.3).
 pub fn descend(
     pyramid: &[i64],
     r: usize,

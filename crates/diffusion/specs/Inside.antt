@@ -1,5 +1,6 @@
--- A cell inside the map: all nine places around it lie on the map, so that no weight is cut off, the weights' sum is
--- known, and each neighbour's place is the sum of its row's part and its column's.
+-- A cell inside the map (`told-inside`): all nine places around it lie on the map, so that no weight is cut off
+-- (`weight-inside`), the weights' sum is known, and each neighbour's place is its row's part and its column's, added
+-- (`inside-turn`).
 use mathlib.Core.Path.{_≡_, refl, sym, ap, ap₂, _∙_}
 use mathlib.Core.Bool.{Bool, true, false}
 use mathlib.Core.List.{List}
@@ -25,7 +26,7 @@ use Rattle.layouts.specs.Interleaved.{interleaved-lt}
 use Rattle.layouts.specs.Cells.{rowsLevel}
 use Rattle.places.specs.declared.Parts.{Parts}
 use Rattle.places.specs.Parts.{partsAround, place-parts}
-use Rattle.diffusion.specs.Asked.{
+use Rattle.diffusion.specs.OneTurn.{
   isInside,
   oneOfThree,
   shareTaken,

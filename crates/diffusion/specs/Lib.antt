@@ -1,4 +1,4 @@
-pub mod Asked
+pub mod OneTurn
 pub mod Places
 pub mod Weights
 pub mod Shares

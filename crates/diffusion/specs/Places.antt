@@ -1,4 +1,5 @@
--- Places of a map: where a cell lies among the cells by quarters, and that the numbers on the way to it are small.
+-- Places of a map: where a cell lies among the cells by quarters (`place-in`, `read-there`, `stored-there`), and that
+-- the numbers on the way to it are small.
 use mathlib.Core.Path.{_≡_, sym, ap, _∙_}
 use mathlib.Core.List.{List}
 use Prim.Native.Nat.{ℕ, _+_, _*_, _/_, _%_, _^_, _≤_, _<_}
@@ -13,7 +14,7 @@ use Rattle.definition.specs.Quarters.{interleaved}
 use Rattle.quadtree.specs.Levels.{cells-few}
 use Rattle.layouts.specs.Interleaved.{interleaved-lt}
 use Rattle.layouts.specs.Cells.{rowsLevel, rows-in, rows-set}
-use Rattle.diffusion.specs.Asked.{CellAsked}
+use Rattle.diffusion.specs.OneTurn.{CellAsked}
 
 pub side-small : (r : ℕ) → r ≤ 8 → 2 ^ r ≤ 256
 side-small r h = pow-mono {i = r} {j = 8} h

@@ -1,5 +1,5 @@
--- What placing a dot rests on: the cell's residual is read, what it lacks of a dot is no negative number, and the
--- diffusion is asked for just that.
+-- What placing a dot rests on: the cell's residual is read, what it lacks of a dot is no negative number (`lack-sign`),
+-- and the diffusion is asked for just that (`lack-asked`, `burnt`).
 use mathlib.Core.Path.{_≡_, _∙_}
 use mathlib.Core.List.{List}
 use Prim.Native.Nat.{ℕ, _*_, _^_, _≤_, _<_}
@@ -17,8 +17,8 @@ use Rattle.definition.specs.Diffusion.{kernelOf, diffuse}
 use Rattle.integers.specs.Linear.{zz, ints, natAbs-within}
 use Rattle.integers.specs.Machine.{words, machine, cast-asks64}
 use Rattle.layouts.specs.Cells.{rowsLevel}
-use Rattle.pyramid.specs.Asked.{Within}
-use Rattle.diffusion.specs.Asked.{DiffuseAsked, PlaceAsked}
+use Rattle.pyramid.specs.PyramidPart.{Within}
+use Rattle.diffusion.specs.OneTurn.{DiffuseAsked, PlaceAsked}
 use Rattle.diffusion.specs.Places.{place-in, bytes-fit, read-there, stored-there}
 use Rattle.diffusion.specs.Shares.{set-within}
 

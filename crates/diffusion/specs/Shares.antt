@@ -1,4 +1,4 @@
--- A share, and what taking it off a neighbour does.
+-- A share (`share-fair`), and what taking it off a neighbour does (`share-taken`).
 use mathlib.Core.Path.{_≡_, sym, ap, _∙_}
 use mathlib.Core.Logic.{_≢_}
 use mathlib.Core.List.{List, [], _∷_}
@@ -19,9 +19,9 @@ use Rattle.integers.specs.Linear.{zz, ints}
 use Rattle.integers.specs.Machine.{words, machine, of-bits, div-mono}
 use Rattle.layouts.specs.Interleaved.{interleaved-any}
 use Rattle.layouts.specs.Cells.{rowsLevel}
-use Rattle.pyramid.specs.Asked.{Within}
+use Rattle.pyramid.specs.PyramidPart.{Within}
 use Rattle.pyramid.specs.Four.{within-mono}
-use Rattle.diffusion.specs.Asked.{shareTaken, ShareAsked, TakeAsked}
+use Rattle.diffusion.specs.OneTurn.{shareTaken, ShareAsked, TakeAsked}
 use Rattle.diffusion.specs.Places.{side-small, place-in, bytes-fit, read-there, stored-there}
 
 -- ---- a share

@@ -1,4 +1,4 @@
--- The turns of the diffusion.
+-- The turns of the diffusion, one neighbour after the other (`Turns`, `turn`), up to the ninth (`turns-all`).
 use mathlib.Core.Path.{_≡_, refl, sym, _∙_}
 use mathlib.Core.Logic.{_≢_}
 use mathlib.Core.List.{List}
@@ -11,10 +11,10 @@ use lib.IntN.{ℤ, pos}
 use Rattle.definition.specs.Lists.{sumTo}
 use Rattle.definition.specs.Diffusion.{placesInTurn, kernelOf, rowNear, columnNear, weightAt, share, diffuse}
 use Rattle.layouts.specs.Cells.{rowsLevel}
-use Rattle.pyramid.specs.Asked.{Within}
+use Rattle.pyramid.specs.PyramidPart.{Within}
 use Rattle.pyramid.specs.Four.{within-mono}
 use Rattle.shares.specs.Neighbours.{weight-on-map}
-use Rattle.diffusion.specs.Asked.{shareTaken, ShareAsked, DiffuseAsked}
+use Rattle.diffusion.specs.OneTurn.{shareTaken, ShareAsked, DiffuseAsked}
 use Rattle.diffusion.specs.Weights.{turn-nine, sum-none, sum-next, sum-more}
 use Rattle.diffusion.specs.Shares.{share-down, share-fair, taken-within}
 

@@ -1,5 +1,5 @@
--- The turns of the spread and the weights around a cell, as the code finds them; the weights' sums are small, and the
--- sum of all isn't 0.
+-- The turns of the spread (`turn-is`) and the weights around a cell (`weight-plain`, `weight-ribbed`), as the code
+-- finds them; the weights' sums are small (`sum-fits`), and the sum of all isn't 0 (`sum-some`).
 use mathlib.Core.Path.{_≡_, refl, sym, _∙_}
 use mathlib.Core.Logic.{_⊎_, inl, inr}
 use mathlib.Core.Bool.{Bool, _||_}
@@ -19,7 +19,7 @@ use Rattle.integers.specs.Sums.{sumTo-none, sumTo-suc, sumTo-bound}
 use Rattle.shares.specs.Kernels.{knit-fit}
 use Rattle.shares.specs.Neighbours.{on, on-yes, on-no, weight-is}
 use Rattle.shares.specs.Outflow.{weights-some}
-use Rattle.diffusion.specs.Asked.{CellAsked}
+use Rattle.diffusion.specs.OneTurn.{CellAsked}
 
 -- ---- the weights of the nine places: what holds for all is tested for each
 pub weight-own : (knit p : ℕ) → p ≡ 4 → 0 ≡ getD (weightsOf knit) p 0

@@ -1,5 +1,5 @@
-// Diffusion: what a dot lacks of its worth is taken from the neighbours of its cell, each its share. The cells lie by
-// quarters; what becomes of them is said of the cells written row after row.
+// Diffusion: what a dot lacks of its worth is taken from the neighbours of its cell, each its share (`place`,
+// `diffuse`). The cells lie by quarters; what becomes of them is said of the cells written row after row.
 use places::Parts;
 ghost use mathlib.Core.Path.{_≡_};
 ghost use Prim.Native.Nat.{_*_, _/_, _^_, _<_, _≤_};
@@ -12,7 +12,7 @@ ghost use Rattle.definition.specs.Diffusion.{weightsOf, placesInTurn, kernelOf,
 ghost use Rattle.layouts.specs.Cells.{rowsLevel};
 ghost use Rattle.places.specs.Table.{places};
 ghost use Rattle.places.specs.Parts.{partsAround};
-ghost use Rattle.diffusion.specs.Asked.{
+ghost use Rattle.diffusion.specs.OneTurn.{
   shareTaken,
   isInside,
   oneOfThree,
@@ -31,9 +31,9 @@ const TURNS: usize = 0x475318620;
 // What one dot is worth.
 const DOT: i64 = 65280;
 
-// The weight of place p of the nine around a cell, three by three. The cell itself, in the middle, weighs nothing; a
-// straight neighbour, whose place is odd, 2 on plain cloth, which is knit 0, and 1 on ribbed; a diagonal one 1 and
-// nothing.
+// The weight of place p of the nine around a cell, three by three (S 3.5). The cell itself, in the middle, weighs
+// nothing; a straight neighbour, whose place is odd, 2 on plain cloth, which is knit 0, and 1 on ribbed; a diagonal one
+// 1 and nothing.
 fn knit_weight(knit: u32, p: usize) -> usize
     requires { ⌜ p < 9 ⌝ }
     ensures { λ w. ⌜ w ≡ getD (weightsOf knit) p 0 ⌝ }
@@ -47,7 +47,7 @@ fn knit_weight(knit: u32, p: usize) -> usize
     1 + p % 2
 }
 
-// The place of the nine that comes in turn n.
+// The place of the nine that comes in turn n (S 3.6).
 fn turn(n: usize) -> usize
     requires { ⌜ n < 9 ⌝ }
     ensures { λ p. ⌜ p ≡ getD placesInTurn n 4 ⌝ }
@@ -79,7 +79,8 @@ fn weight(knit: u32, r: usize, row: usize, column: usize, n: usize) -> usize
     knit_weight(knit, p)
 }
 
-// The sum of the weights: inside the map, on a side, in a corner it is 12, 8, 5 on plain cloth and 4, 3, 2 on ribbed.
+// The sum of the weights (S 3.5): inside the map, on a side, in a corner it is 12, 8, 5 on plain cloth and 4, 3, 2 on
+// ribbed.
 fn weight_sum(knit: u32, r: usize, row: usize, column: usize) -> usize
     requires { ⌜ CellAsked r row column ⌝ }
     ensures { λ sum. ⌜ sum ≡ sumTo 9 (weightAt (kernelOf knit) r row column) ⌝ }
@@ -128,7 +129,7 @@ fn take_share(
 }
 
 // Takes d off the residuals of the neighbours of a cell. The share of a neighbour is what goes to those up to its turn
-// less what was given to those before it.
+// less what was given to those before it (S 3.6, S 3.7).
 pub fn diffuse(
     cells: &mut [i64],
     table: &[u16; 1024],
@@ -294,8 +295,9 @@ fn diffuse_at(
     diffuse(cells, table, knit, r, row, column, d);
 }
 
-// Places a dot at a cell, which lies at place `at` of the cells: its residual becomes 0, and what it lacks of a whole
-// dot is taken from its neighbours. The parts are those of the places around the cell.
+// Places a dot at a cell, which lies at place `at` of the cells: its residual becomes 0 (S 3.4), and what it lacks of a
+// whole dot is taken from its neighbours, by weight (S 3.5), in turn (S 3.6), each its share (S 3.7). The parts are
+// those of the places around the cell.
 pub fn place(
     cells: &mut [i64],
     table: &[u16; 1024],

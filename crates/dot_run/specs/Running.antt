@@ -1,4 +1,5 @@
--- Dots made one after the other, while one is due and the budget lasts.
+-- Dots made one after the other, while one is due and the budget lasts: `Going` is kept (`begins`, `goes-on`), and
+-- `Ran` is left.
 use mathlib.Core.Path.{_≡_, refl, sym, _∙_}
 use mathlib.Core.Bool.{true, false}
 use mathlib.Core.List.{List}
@@ -22,7 +23,7 @@ use Rattle.quadtree.specs.Levels.{start-suc, cells-few}
 use Rattle.layouts.specs.Relaid.{rows-entry}
 use Rattle.shares.specs.Kernels.{knit-fit}
 use Rattle.dots.specs.Steps.{Sheet, top-entry, due-is, steps-sheet, steps-due}
-use Rattle.dot.specs.Asked.{DotAsked}
+use Rattle.place_dot.specs.DotDue.{DotAsked}
 use Rattle.dot_run.specs.Tops.{none-owed, some-owed}
 
 -- a sheet of just the needed lengths, sound

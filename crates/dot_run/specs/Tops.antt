@@ -1,4 +1,4 @@
--- The test of the top, made on a word: whether a dot is due.
+-- The test of the top, made on a word: whether a dot is due (`none-owed`, `some-owed`).
 use mathlib.Core.Path.{_≡_}
 use mathlib.Core.Bool.{true, false}
 use lib.IntN.{ℤ, pos}

@@ -1,5 +1,5 @@
-// A run of dots: one after the other, while one is due and the budget lasts. The pyramid lies by quarters; what becomes
-// of it is said of the pyramid written row after row.
+// A run of dots: one after the other, while one is due and the budget lasts (`run`). The pyramid lies by quarters; what
+// becomes of it is said of the pyramid written row after row.
 ghost use mathlib.Core.Path.{_≡_};
 ghost use Prim.Native.Nat.{_+_};
 ghost use lib.ListN.{length};
@@ -11,8 +11,8 @@ ghost use Rattle.dot_run.specs.Running.{RunAsked, Ran};
 // From this top on a dot is due.
 const HALF_DOT: i64 = 32640;
 
-// Makes the dots that are due on cloth of a knit, as far as the budget lasts, on a sound sheet of just the needed
-// lengths, and returns how many. The table has the places.
+// Makes the dots that are due (S 3.1) on cloth of a knit, as far as the budget lasts, on a sound sheet of just the
+// needed lengths, and returns how many. The table has the places.
 pub fn run(
     pyramid: &mut [i64],
     serials: &mut [u32],
@@ -52,7 +52,7 @@ pub fn run(
         if top < HALF_DOT {
             return made;
         }
-        dot::place_dot(pyramid, serials, order, table, knit, r, dots + made);
+        place_dot::place_dot(pyramid, serials, order, table, knit, r, dots + made);
         made += 1;
     }
     made

@@ -1,4 +1,5 @@
--- What a dot does to the serial sheet and the order list of a sheet whose holes are in order: one cell more is burnt, and they stay in order.
+-- What a dot does to the serial sheet and the order list of a sheet whose holes are in order (`Ordered`): one cell more
+-- is burnt (`burnt-at`), and they stay in order (`ordered'`).
 use mathlib.Core.Path.{_≡_, refl, sym, ap, _∙_}
 use mathlib.Core.Logic.{_⊎_, inl, inr}
 use mathlib.Core.List.{List}
@@ -33,13 +34,15 @@ pub burntAt-le : (r : ℕ) (serials : List ℕ) (x y : ℕ) → burntAt r serial
 unfolding burntAt
 burntAt-le r serials x y = burnt-le (getD serials (cellNumber r x y) 0)
 
--- the part of a sound sheet that speaks of serials and order alone
+-- the part of a sound sheet that speaks of serials and order alone (S 2.7, S 4.2, S 4.3, S 4.4)
 pub record Ordered (r : ℕ) (serials order : List ℕ) (dots : ℕ) : Type 0 where
-  pub in-order : (j : ℕ) → 1 ≤ j → j ≤ dots → (getD order (j - 1) 0 < cellCount r) × (getD serials (getD order (j - 1) 0) 0 ≡ j)
+  pub in-order : (j : ℕ) → 1 ≤ j → j ≤ dots
+      → (getD order (j - 1) 0 < cellCount r) × (getD serials (getD order (j - 1) 0) 0 ≡ j)
   pub count : sumTo (cellCount r) (λ i. burnt (getD serials i 0)) ≡ dots
   pub unused : (i : ℕ) → dots ≤ i → i < cellCount r → getD order i 0 ≡ 0
 
-module _ (r : ℕ) (serials order : List ℕ) (dots : ℕ) (serials-long : length serials ≡ cellCount r) (order-long : length order ≡ cellCount r)
+module _ (r : ℕ) (serials order : List ℕ) (dots : ℕ) (serials-long : length serials ≡ cellCount r)
+    (order-long : length order ≡ cellCount r)
     (row column : ℕ) (i : row < 2 ^ r) (j : column < 2 ^ r) (fresh : burntAt r serials row column ≡ 0) where
   abbrev cell : ℕ
   cell = cellNumber r row column
@@ -61,17 +64,21 @@ module _ (r : ℕ) (serials order : List ℕ) (dots : ℕ) (serials-long : lengt
   marked = getD-set-same serials cell (suc dots) 0 (omega (arith, cell-in))
 
   -- one cell more is burnt
-  pub burnt-at : (x y : ℕ) → x < 2 ^ r → y < 2 ^ r → burntAt r serials' x y ≡ burntAt r serials x y + δ row x * δ column y
+  pub burnt-at : (x y : ℕ) → x < 2 ^ r → y < 2 ^ r
+      → burntAt r serials' x y ≡ burntAt r serials x y + δ row x * δ column y
   unfolding burntAt
   burnt-at x y p q = go (hit row column x y)
     where
-      go : ((row ≡ x) × (column ≡ y)) ⊎ (δ row x * δ column y ≡ 0) → burnt (getD serials' (cellNumber r x y) 0) ≡ burnt (getD serials (cellNumber r x y) 0) + δ row x * δ column y
+      go : ((row ≡ x) × (column ≡ y)) ⊎ (δ row x * δ column y ≡ 0)
+          → burnt (getD serials' (cellNumber r x y) 0) ≡ burnt (getD serials (cellNumber r x y) 0) + δ row x
+          * δ column y
       go (inl e) = rw (← e .0, ← e .1, marked, δδ-same row column) (omega (arith, burnt-suc dots, fresh))
       go (inr z) =
           rw (
             z,
             getD-set-other serials cell (cellNumber r x y) (suc dots) 0
-                (λ e. let k = cell-same (2 ^ r) x y row column q j e in omega (arith, δδ-same row column, rw (k .0, k .1) at z)),
+                (λ e. let k = cell-same (2 ^ r) x y row column q j e in omega
+                (arith, δδ-same row column, rw (k .0, k .1) at z)),
           ) (sym (add-zero _))
 
   module _ (ordered : Ordered r serials order dots) where
@@ -81,7 +88,8 @@ module _ (r : ℕ) (serials order : List ℕ) (dots : ℕ) (serials-long : lengt
         let fresh' : burnt (getD serials cell 0) ≡ 0 = fresh in
         omega (
           arith,
-          sumTo-change (cellCount r) cell (λ m. burnt (getD serials' m 0)) (λ m. burnt (getD serials m 0)) cell-in (λ m k ne. ap burnt (getD-set-other serials cell m (suc dots) 0 ne)),
+          sumTo-change (cellCount r) cell (λ m. burnt (getD serials' m 0)) (λ m. burnt (getD serials m 0)) cell-in
+              (λ m k ne. ap burnt (getD-set-other serials cell m (suc dots) 0 ne)),
           ordered .count,
           ap burnt marked,
           burnt-suc dots,
@@ -89,7 +97,13 @@ module _ (r : ℕ) (serials order : List ℕ) (dots : ℕ) (serials-long : lengt
         )
 
     pub room : dots < cellCount r
-    room = omega (arith, count', sumTo-bound (cellCount r) 1 (λ m. burnt (getD serials' m 0)) (λ m k. burnt-le (getD serials' m 0)))
+    room =
+        omega (
+          arith,
+          count',
+          sumTo-bound (cellCount r) 1 (λ m. burnt (getD serials' m 0))
+              (λ m k. burnt-le (getD serials' m 0)),
+        )
 
     pub ordered' : Ordered r serials' order' (suc dots)
     ordered' =
@@ -99,11 +113,15 @@ module _ (r : ℕ) (serials order : List ℕ) (dots : ℕ) (serials-long : lengt
           unused = λ k l m. getD-set-other order dots k cell 0 (λ e. omega arith) ∙ ordered .unused k (omega arith) m;
         }
       where
-        go : (k : ℕ) → 1 ≤ k → k ≤ suc dots → Dec (k ≡ suc dots) → (getD order' (k - 1) 0 < cellCount r) × (getD serials' (getD order' (k - 1) 0) 0 ≡ k)
+        go : (k : ℕ) → 1 ≤ k → k ≤ suc dots → Dec (k ≡ suc dots)
+            → (getD order' (k - 1) 0 < cellCount r) × (getD serials' (getD order' (k - 1) 0) 0 ≡ k)
         go k l m (yes e) =
             let z : k - 1 ≡ dots = omega arith in
             rw (z, getD-set-same order dots cell 0 (omega (arith, room))) (cell-in, marked ∙ sym e)
         go k l m (no e) =
             let old = ordered .in-order k l (omega arith) in
-            rw (getD-set-other order dots (k - 1) cell 0 (λ z. omega arith))
-            (old .0, getD-set-other serials cell (getD order (k - 1) 0) (suc dots) 0 (λ z. omega (arith, old .1, unmarked, ap (λ (c : ℕ). getD serials c 0) z)) ∙ old .1)
+            rw (getD-set-other order dots (k - 1) cell 0 (λ z. omega arith)) (
+              old .0,
+              getD-set-other serials cell (getD order (k - 1) 0) (suc dots) 0
+                  (λ z. omega (arith, old .1, unmarked, ap (λ (c : ℕ). getD serials c 0) z)) ∙ old .1,
+            )

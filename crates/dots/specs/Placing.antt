@@ -1,5 +1,6 @@
--- What placing a dot does to the lists: each residual falls by what the dot takes there, the cell's own to 0; its serial is the next number; the order
--- list has its cell number at the next place; and the pyramid is summed anew.
+-- What placing a dot does to the lists: each residual falls by what the dot takes there, the cell's own to 0
+-- (`placed-falls`); its serial is the next number, and the order list has its cell number at the next place; lengths
+-- stay (`placed-sized`), and the pyramid is summed anew (`placed-summed`).
 use mathlib.Core.Path.{_≡_, sym, ap, _∙_}
 use mathlib.Core.Logic.{_⊎_, inl, inr}
 use mathlib.Core.List.{List}
@@ -39,24 +40,32 @@ less-less : (z : ℤ) (a b : ℕ) → z -ℤ pos a -ℤ pos b ≡ z -ℤ pos (a 
 less-less z a b = simp zz (omega arith)
 
 -- ---- one residual falls by v
-module _ (r : ℕ) (cells : List ℤ) (long : length cells ≡ cellCount r) (row column v : ℕ) (i : row < 2 ^ r) (j : column < 2 ^ r) where
+module _ (r : ℕ) (cells : List ℤ) (long : length cells ≡ cellCount r) (row column v : ℕ) (i : row < 2 ^ r)
+    (j : column < 2 ^ r) where
   level-fall : (x y : ℕ) → x < 2 ^ r → y < 2 ^ r
-      → inLevel r (set cells (placeIn r row column) (inLevel r cells row column -ℤ pos v)) x y ≡ inLevel r cells x y -ℤ pos (δ row x * δ column y * v)
+      → inLevel r (set cells (placeIn r row column) (inLevel r cells row column -ℤ pos v)) x y ≡ inLevel r cells x y
+      -ℤ pos (δ row x * δ column y * v)
   unfolding inLevel
   level-fall x y p q = go (hit row column x y)
     where
       go : ((row ≡ x) × (column ≡ y)) ⊎ (δ row x * δ column y ≡ 0)
-          → getD (set cells (placeIn r row column) (getD cells (placeIn r row column) (pos 0) -ℤ pos v)) (placeIn r x y) (pos 0) ≡ getD cells (placeIn r x y) (pos 0) -ℤ pos (δ row x * δ column y * v)
+          → getD (set cells (placeIn r row column) (getD cells (placeIn r row column) (pos 0) -ℤ pos v)) (placeIn r x y)
+          (pos 0) ≡ getD cells (placeIn r x y) (pos 0) -ℤ pos (δ row x * δ column y * v)
       go (inl e) =
-          rw (← e .0, ← e .1, δδ-same row column, one-mul) (getD-set-same cells (placeIn r row column) _ (pos 0) (omega (arith, place-lt r row column i j)))
+          rw (← e .0, ← e .1, δδ-same row column, one-mul)
+          (getD-set-same cells (placeIn r row column) _ (pos 0) (omega (arith, place-lt r row column i j)))
       go (inr z) =
-          getD-set-other cells (placeIn r row column) (placeIn r x y) _ (pos 0) (λ e. apart row column x y z (place-same r x y row column q j e))
+          getD-set-other cells (placeIn r row column) (placeIn r x y) _ (pos 0)
+          (λ e. apart row column x y z (place-same r x y row column q j e))
           ∙ sym (rw (z, zero-mul) (less-zero (getD cells (placeIn r x y) (pos 0))))
 
 -- ---- the spread
-module _ (kernel : Kernel) (r row column d : ℕ) (cells : List ℤ) (long : length cells ≡ cellCount r) (some : 0 < sumTo 9 (weightAt kernel r row column)) where
+module _ (kernel : Kernel) (r row column d : ℕ) (cells : List ℤ) (long : length cells ≡ cellCount r)
+    (some : 0 < sumTo 9 (weightAt kernel r row column)) where
   abbrev taken : ℕ → ℕ → ℕ → ℕ
-  taken n x y = sumTo n (λ m. δ (rowNear row (kernel .turn m) - 1) x * δ (columnNear column (kernel .turn m) - 1) y * share 9 (weightAt kernel r row column) d m)
+  taken n x y =
+      sumTo n (λ m. δ (rowNear row (kernel .turn m) - 1) x * δ (columnNear column (kernel .turn m) - 1) y
+      * share 9 (weightAt kernel r row column) d m)
 
   record Taken (n : ℕ) (after : List ℤ) : Type 0 where
     long' : length after ≡ cellCount r
@@ -67,12 +76,15 @@ module _ (kernel : Kernel) (r row column d : ℕ) (cells : List ℤ) (long : len
   diffuse-taken zero = record { long' = long; at = λ x y p q. sym (less-zero (inLevel r cells x y)) }
   diffuse-taken (suc n) = go (ℕ-discrete (weightAt kernel r row column n) 0) (diffuse-taken n)
     where
-      go : Dec (weightAt kernel r row column n ≡ 0) → Taken n (diffuse kernel r row column d n cells) → Taken (suc n) (diffuse kernel r row column d (suc n) cells)
+      go : Dec (weightAt kernel r row column n ≡ 0) → Taken n (diffuse kernel r row column d n cells)
+          → Taken (suc n) (diffuse kernel r row column d (suc n) cells)
       go (yes z) h =
           rw (eq-eqb (weightAt kernel r row column n) 0 z, diffuse)
           (record {
             long' = h .long';
-            at = λ x y p q. h .at x y p q ∙ rw (share-none 9 (weightAt kernel r row column) some d n z, mul-zero, add-zero);
+            at =
+                λ x y p q. h .at x y p q
+                ∙ rw (share-none 9 (weightAt kernel r row column) some d n z, mul-zero, add-zero);
           })
       go (no z) h =
           let o = weight-on-map kernel r row column n z in
@@ -80,14 +92,19 @@ module _ (kernel : Kernel) (r row column d : ℕ) (cells : List ℤ) (long : len
           (record {
             long' = simp length-set (h .long');
             at = λ x y p q.
-                level-fall r _ (h .long') _ _ (share 9 (weightAt kernel r row column) d n) (omega arith) (omega arith) x y p q
-                ∙ ap (λ (e : ℤ). e -ℤ pos (δ (rowNear row (kernel .turn n) - 1) x * δ (columnNear column (kernel .turn n) - 1) y * share 9 (weightAt kernel r row column) d n)) (h .at x y p q)
+                level-fall r _ (h .long') _ _ (share 9 (weightAt kernel r row column) d n) (omega arith) (omega arith) x
+                y p q
+                ∙ ap (λ (e : ℤ). e -ℤ pos
+                (δ (rowNear row (kernel .turn n) - 1) x * δ (columnNear column (kernel .turn n) - 1) y
+                * share 9 (weightAt kernel r row column) d n)) (h .at x y p q)
                 ∙ less-less (inLevel r cells x y) (taken n x y) _;
           })
 
 -- ---- the dot
-module _ (kernel : Kernel) (r : ℕ) (s : Halftone) (sized : Sized r s) (row column w : ℕ) (i : row < 2 ^ r) (j : column < 2 ^ r)
-    (some : 0 < sumTo 9 (weightAt kernel r row column)) (owes : entry (s .pyramid) r row column ≡ pos w) (most : w ≤ oneDot) where
+module _ (kernel : Kernel) (r : ℕ) (s : Halftone) (sized : Sized r s) (row column w : ℕ) (i : row < 2 ^ r)
+    (j : column < 2 ^ r)
+    (some : 0 < sumTo 9 (weightAt kernel r row column)) (owes : entry (s .pyramid) r row column ≡ pos w)
+    (most : w ≤ oneDot) where
   abbrev placed : Halftone
   placed = placeDot kernel r s (row, column)
 
@@ -110,17 +127,24 @@ module _ (kernel : Kernel) (r : ℕ) (s : Halftone) (sized : Sized r s) (row col
   abbrev cleared : List ℤ
   cleared = set before (placeIn r row column) (pos 0)
 
-  spread-taken : Taken kernel r row column (oneDot - w) cleared (length-set before (placeIn r row column) (pos 0) ∙ long) some 9 after
-  spread-taken = diffuse-taken kernel r row column (oneDot - w) cleared (length-set before (placeIn r row column) (pos 0) ∙ long) some 9
+  spread-taken : Taken kernel r row column (oneDot - w) cleared
+      (length-set before (placeIn r row column) (pos 0) ∙ long) some 9 after
+  spread-taken =
+      diffuse-taken kernel r row column (oneDot - w) cleared (length-set before (placeIn r row column) (pos 0) ∙ long)
+      some 9
 
-  after-at : (x y : ℕ) → x < 2 ^ r → y < 2 ^ r → inLevel r after x y ≡ entry (s .pyramid) r x y -ℤ pos (fall kernel r row column w x y)
+  after-at : (x y : ℕ) → x < 2 ^ r → y < 2 ^ r
+      → inLevel r after x y ≡ entry (s .pyramid) r x y -ℤ pos (fall kernel r row column w x y)
   unfolding fall spread
   after-at x y p q =
-      let zero-is : inLevel r before row column -ℤ pos w ≡ pos 0 = rw (entry-drop (s .pyramid) r row column, owes) (simp zz (omega ints)) in
+      let zero-is : inLevel r before row column -ℤ pos w
+      ≡ pos 0 = rw (entry-drop (s .pyramid) r row column, owes) (simp zz (omega ints)) in
       spread-taken .at x y p q
-      ∙ ap (λ (z : ℤ). z -ℤ pos (spread kernel r row column (oneDot - w) x y)) (rw zero-is at (level-fall r before long row column w i j x y p q))
+      ∙ ap (λ (z : ℤ). z -ℤ pos (spread kernel r row column (oneDot - w) x y))
+      (rw zero-is at (level-fall r before long row column w i j x y p q))
       ∙ less-less (inLevel r before x y) (δ row x * δ column y * w) (spread kernel r row column (oneDot - w) x y)
-      ∙ ap (λ (z : ℤ). z -ℤ pos (δ row x * δ column y * w + spread kernel r row column (oneDot - w) x y)) (entry-drop (s .pyramid) r x y)
+      ∙ ap (λ (z : ℤ). z -ℤ pos (δ row x * δ column y * w + spread kernel r row column (oneDot - w) x y))
+      (entry-drop (s .pyramid) r x y)
 
   pyramid-is : placed .pyramid ≡ pyramidOver r after
   unfolding placeDot
@@ -139,5 +163,6 @@ module _ (kernel : Kernel) (r : ℕ) (s : Halftone) (sized : Sized r s) (row col
   pub placed-summed : Summed r (placed .pyramid)
   placed-summed = rw pyramid-is (pyramid-summed r after)
 
-  pub placed-falls : (x y : ℕ) → x < 2 ^ r → y < 2 ^ r → entry (placed .pyramid) r x y ≡ entry (s .pyramid) r x y -ℤ pos (fall kernel r row column w x y)
+  pub placed-falls : (x y : ℕ) → x < 2 ^ r → y < 2 ^ r
+      → entry (placed .pyramid) r x y ≡ entry (s .pyramid) r x y -ℤ pos (fall kernel r row column w x y)
   placed-falls x y p q = rw pyramid-is (pyramid-cells r after x y ∙ after-at x y p q)

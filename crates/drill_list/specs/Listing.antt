@@ -1,4 +1,5 @@
--- The list written line by line, and into a buffer that has room for it or not.
+-- The list written line by line (`head-wrote`, `dot-wrote`, `list-wrote`), and into a buffer that has room for it
+-- (`list-written`) or not (`list-short`).
 use mathlib.Core.Path.{_≡_, refl, sym, ap, _∙_}
 use mathlib.Core.List.{List, [], _∷_, _++_, append-assoc, append-nil}
 use Prim.Native.Nat.{ℕ, suc, _+_, _-_, _/_, _%_, _^_, _<_, _≤_}
@@ -46,16 +47,21 @@ module _ {side : ℕ} (r : ℕ) (e : side ≡ 2 ^ r) where
   some-side = omega (arith, pow-pos r)
 
   module _ {l l₁ l₂ : List ℕ} {at a b : ℕ} where
-    pub head-wrote : (dots : ℕ) → Wrote l at (fieldText dots comma) a l₁ → Wrote l₁ a (fieldText side newline) b l₂ → Wrote l at (line (dots ∷ 2 ^ r ∷ [])) b l₂
+    pub head-wrote : (dots : ℕ) → Wrote l at (fieldText dots comma) a l₁ → Wrote l₁ a (fieldText side newline) b l₂
+        → Wrote l at (line (dots ∷ 2 ^ r ∷ [])) b l₂
     head-wrote dots x y = rw (← e, line-two dots side) (wrote-append x y)
 
-    pub dot-wrote : {l₃ : List ℕ} {c : ℕ} (serial cell : ℕ) → Wrote l at (fieldText serial comma) a l₁ → Wrote l₁ a (fieldText (cell / side) comma) b l₂
-        → Wrote l₂ b (fieldText (cell % side) newline) c l₃ → Wrote l at (line (serial ∷ cell / 2 ^ r ∷ cell % 2 ^ r ∷ [])) c l₃
-    dot-wrote serial cell x y z = rw (← e, line-three serial (cell / side) (cell % side)) (wrote-append x (wrote-append y z))
+    pub dot-wrote : {l₃ : List ℕ} {c : ℕ} (serial cell : ℕ) → Wrote l at (fieldText serial comma) a l₁
+        → Wrote l₁ a (fieldText (cell / side) comma) b l₂
+        → Wrote l₂ b (fieldText (cell % side) newline) c l₃
+        → Wrote l at (line (serial ∷ cell / 2 ^ r ∷ cell % 2 ^ r ∷ [])) c l₃
+    dot-wrote serial cell x y z =
+        rw (← e, line-three serial (cell / side) (cell % side)) (wrote-append x (wrote-append y z))
 
 -- ---- the lines of dots
 dotLines-snoc : (r j : ℕ) (cells : List ℕ) (cell : ℕ)
-    → dotLines r j (cells ++ cell ∷ []) ≡ dotLines r j cells ++ line ((j + length cells) ∷ cell / 2 ^ r ∷ cell % 2 ^ r ∷ [])
+    → dotLines r j (cells ++ cell ∷ []) ≡ dotLines r j cells
+    ++ line ((j + length cells) ∷ cell / 2 ^ r ∷ cell % 2 ^ r ∷ [])
 unfolding dotLines
 dotLines-snoc r j [] cell = rw (add-zero j, append-nil)
 dotLines-snoc r j (x ∷ cells) cell =
@@ -85,18 +91,33 @@ module _ (r : ℕ) (order : List ℕ) (j : ℕ) (h : j < length order) where
 -- ---- how long a line is, and where it ends
 pub length-two : (a b : ℕ) → length (line (a ∷ b ∷ [])) ≡ length (decimal a) + length (decimal b) + 2
 unfolding line
-length-two a b = omega (arith, length-append (decimal a) (comma ∷ (decimal b ++ newline ∷ [])), length-append (decimal b) (newline ∷ []))
+length-two a b =
+    omega (
+      arith,
+      length-append (decimal a) (comma ∷ (decimal b ++ newline ∷ [])),
+      length-append (decimal b)
+          (newline ∷ []),
+    )
 
-pub length-three : (a b c : ℕ) → length (line (a ∷ b ∷ c ∷ [])) ≡ length (decimal a) + length (decimal b) + length (decimal c) + 3
+pub length-three : (a b c : ℕ)
+    → length (line (a ∷ b ∷ c ∷ [])) ≡ length (decimal a) + length (decimal b) + length (decimal c) + 3
 unfolding line
 length-three a b c = omega (arith, length-append (decimal a) (comma ∷ line (b ∷ c ∷ [])), length-two b c)
 
 module _ {l l₁ : List ℕ} {at next : ℕ} (r : ℕ) where
   pub head-end : (dots : ℕ) → dots < 2 ^ 64 → r ≤ 8 → Wrote l at (line (dots ∷ 2 ^ r ∷ [])) next l₁ → next ≤ at + 42
   head-end dots p small w =
-      omega (arith, w .place, length-two dots (2 ^ r), length-number dots p, length-number (2 ^ r) (omega (arith, pow-mono {i = r} {j = 8} small)))
+      omega (
+        arith,
+        w .place,
+        length-two dots (2 ^ r),
+        length-number dots p,
+        length-number (2 ^ r)
+            (omega (arith, pow-mono {i = r} {j = 8} small)),
+      )
 
-  pub dot-end : (serial cell : ℕ) → serial < 2 ^ 64 → cell < 2 ^ 64 → Wrote l at (line (serial ∷ cell / 2 ^ r ∷ cell % 2 ^ r ∷ [])) next l₁ → next ≤ at + 63
+  pub dot-end : (serial cell : ℕ) → serial < 2 ^ 64 → cell < 2 ^ 64
+      → Wrote l at (line (serial ∷ cell / 2 ^ r ∷ cell % 2 ^ r ∷ [])) next l₁ → next ≤ at + 63
   dot-end serial cell p q w =
       let row = cell / 2 ^ r in
       let column = cell % 2 ^ r in
@@ -140,7 +161,8 @@ unfolding listText
 list-adds r dots order x y = rw length-append (omega arith)
 
 -- ---- the whole list
-pub list-wrote : {l l₁ l₂ : List ℕ} {a b : ℕ} (r dots : ℕ) (order : List ℕ) → Wrote l 0 (line (dots ∷ 2 ^ r ∷ [])) a l₁ → Wrote l₁ a (dotLines r 1 (take dots order)) b l₂
+pub list-wrote : {l l₁ l₂ : List ℕ} {a b : ℕ} (r dots : ℕ) (order : List ℕ) → Wrote l 0 (line (dots ∷ 2 ^ r ∷ [])) a l₁
+    → Wrote l₁ a (dotLines r 1 (take dots order)) b l₂
     → Wrote l 0 (listText r dots order) b l₂
 unfolding listText
 list-wrote r dots order x y = wrote-append x y

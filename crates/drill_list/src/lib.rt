@@ -1,4 +1,5 @@
-// Drill List: the number of dots and the side on one line, then a line for each dot with its serial, row and column.
+// Drill List (`drill_list`): the number of dots and the side on one line, then a line for each dot with its serial, row
+// and column.
 use checks::Check;
 use definition::Progress;
 use definition::Refusal;
@@ -27,7 +28,9 @@ fn put_head(out: &mut [u8], dots: u64, r: usize) -> usize
 // The line of one dot.
 fn put_dot(out: &mut [u8], at: usize, serial: u64, cell: u64, r: usize) -> usize
     requires { ⌜ (at ≤ 2 ^ 61) × (r ≤ 8) ⌝ }
-    ensures { λ next. ⌜ Wrote (now (out .entry)) at (line (serial ∷ cell / 2 ^ r ∷ cell % 2 ^ r ∷ [])) next (now (out .exit)) ⌝ }
+    ensures { λ next. ⌜
+        Wrote (now (out .entry)) at (line (serial ∷ cell / 2 ^ r ∷ cell % 2 ^ r ∷ [])) next (now (out .exit))
+        ⌝ }
 {
     let side = sizes::pow2(r) as u64;
     let row = decimals::put_field(out, at, serial, 44);
@@ -38,7 +41,9 @@ fn put_dot(out: &mut [u8], at: usize, serial: u64, cell: u64, r: usize) -> usize
 // The lines of the first `dots` cells of the order list.
 fn put_dots(out: &mut [u8], from: usize, order: &[u32], dots: usize, r: usize) -> usize
     requires { ⌜ (from ≤ 2 ^ 60) × ListAsked r dots (length (now order)) ⌝ }
-    ensures { λ next. ⌜ Wrote (now (out .entry)) from (dotLines r 1 (take dots (now (order .entry)))) next (now (out .exit)) ⌝ }
+    ensures { λ next. ⌜
+        Wrote (now (out .entry)) from (dotLines r 1 (take dots (now (order .entry)))) next (now (out .exit))
+        ⌝ }
 {
     let mut at = from;
     let mut j = 0;
@@ -103,7 +108,13 @@ fn list_length(order: &[u32], dots: usize, r: usize) -> usize
 // Works out the list's length, then writes it where there is room.
 fn write_list(out: &mut [u8], order: &[u32], dots: usize, r: usize) -> TextAnswer
     requires { ⌜ ListAsked r dots (length (now order)) ⌝ }
-    ensures { λ a. ⌜ record { said = textSays a; output = now (out .exit) } ≡ listedIn (listText r dots (now (order .entry))) (now (out .entry)) ⌝ }
+    ensures { λ a. ⌜
+        record {
+          said = textSays a;
+          output = now (out .exit);
+        }
+        ≡ listedIn (listText r dots (now (order .entry))) (now (out .entry))
+        ⌝ }
 {
     let length = list_length(order, dots, r);
     if out.len() < length {
@@ -113,6 +124,7 @@ fn write_list(out: &mut [u8], order: &[u32], dots: usize, r: usize) -> TextAnswe
     TextAnswer::Length(written)
 }
 
+// Drill List (S 9.3), with its checks in order (S 5.2); the text from the output's first byte on (S 6.6).
 pub fn drill_list(
     progress: Progress,
     pyramid: &[i64],

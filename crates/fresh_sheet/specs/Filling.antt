@@ -1,4 +1,4 @@
--- What the filling of a fresh sheet is asked, and what it leaves.
+-- What the filling of a fresh sheet is asked (`FillLent`), and what it leaves (`Filled`, `all-filled`).
 use mathlib.Core.Path.{_≡_, sym, _∙_}
 use mathlib.Core.List.{List, _++_}
 use Prim.Native.Nat.{ℕ, _≤_, _<_}
@@ -9,7 +9,7 @@ use lib.IntN.{ℤ}
 use Rattle.definition.specs.Pyramid.{needed, cellCount}
 use Rattle.definition.specs.Quarters.{quartersFrom}
 use Rattle.refusals.specs.Lowest.{LoadLent}
-use Rattle.pyramid.specs.Asked.{FillAsked, freshPyramid}
+use Rattle.pyramid.specs.PyramidPart.{FillAsked, freshPyramid}
 
 -- a power, and lengths that are enough for it
 pub record FillLent (r greys pyramid serials order : ℕ) : Type 0 where

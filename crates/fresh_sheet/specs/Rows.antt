@@ -1,4 +1,5 @@
--- The greys of the map among those lent: `cells` is what the code has worked out for their number.
+-- The greys of the map among those lent: whether they are low (`low-short`, `low-front`). `cells` is what the code has
+-- worked out for their number.
 use mathlib.Core.Path.{_≡_, sym, ap, _∙_}
 use mathlib.Core.Bool.{Bool}
 use mathlib.Core.List.{List}

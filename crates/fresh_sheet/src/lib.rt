@@ -1,4 +1,5 @@
-// The sheet that a map starts with: the check of what is lent for it, and the filling of the three buffers.
+// The sheet that a map starts with: the check of what is lent for it (`check_load`, `low_map`), and the filling of the
+// three buffers (`fill`).
 use checks::Check;
 use definition::Refusal;
 ghost use mathlib.Core.Path.{_≡_};
@@ -10,8 +11,8 @@ ghost use Rattle.places.specs.Table.{places};
 ghost use Rattle.checks.specs.Checks.{checked};
 ghost use Rattle.fresh_sheet.specs.Filling.{FillLent, Filled};
 
-// Whether no grey of the map is above 240. What lies behind its cells is not looked at; where fewer greys are lent,
-// those are.
+// Whether no grey of the map is above 240 (S 2.2). What lies behind its cells is not looked at; where fewer greys are
+// lent, those are.
 pub fn low_map(r: usize, greys: &[u8]) -> bool
     requires { ⌜ r ≤ 8 ⌝ }
     ensures { λ b. ⌜ b ≡ lowMap r (now (greys .entry)) ⌝ }
@@ -23,8 +24,8 @@ pub fn low_map(r: usize, greys: &[u8]) -> bool
     lower::none_high(&greys[..cells])
 }
 
-// Load's refusals 1, 11, 2, 3, 4, 12, from the side's power, the knit, the lengths lent, and whether the map's greys
-// are low.
+// Load's refusals 1, 11, 2, 3, 4, 12 (S 5.2), from the side's power, the knit, the lengths lent, and whether the map's
+// greys are low.
 pub fn check_load(
     r: usize,
     knit: u32,
@@ -75,7 +76,7 @@ fn clear(places: &mut [u32], count: usize)
     }
 }
 
-// Fills the three buffers, the pyramid by quarters.
+// Fills the three buffers with the model's start (S 3.9), the pyramid by quarters.
 pub fn fill(
     r: usize,
     table: &[u16; 1024],

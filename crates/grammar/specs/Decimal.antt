@@ -1,4 +1,5 @@
--- The decimal digits of a number: one for a number below 10, else those of a tenth of it and one more; and induction by digits.
+-- The decimal digits of a number: one for a number below 10 (`decimal-below-ten`), else those of a tenth of it and one
+-- more (`decimal-from-ten`); and induction by digits (`by-digits`).
 use mathlib.Core.Path.{_≡_, _∙_}
 use mathlib.Core.List.{[], _∷_, _++_}
 use Prim.Native.Nat.{ℕ, zero, suc, _+_, _*_, _/_, _%_, _<_, _≤_}
@@ -23,16 +24,23 @@ digitsUpTo-enough (suc a) (suc b) n p q =
     elim (decLt n 10) [
       | yes h ↦ rw (digitsUpTo-below-ten a n h, digitsUpTo-below-ten b n h)
       | no h ↦
-          rw (digitsUpTo-from-ten a n (omega arith), digitsUpTo-from-ten b n (omega arith), digitsUpTo-enough a b (n / 10) (omega arith) (omega arith))
+          rw (
+            digitsUpTo-from-ten a n (omega arith),
+            digitsUpTo-from-ten b n (omega arith),
+            digitsUpTo-enough a b
+                (n / 10) (omega arith) (omega arith),
+          )
     ]
 
 pub decimal-below-ten : (n : ℕ) → n < 10 → decimal n ≡ (48 + n) ∷ []
 unfolding decimal
 decimal-below-ten n h = digitsUpTo-below-ten n n h
 
+-- no leading zero: digits are added behind those of a tenth (S 6.1)
 pub decimal-from-ten : (n : ℕ) → 10 ≤ n → decimal n ≡ decimal (n / 10) ++ (48 + n % 10) ∷ []
 unfolding decimal
-decimal-from-ten n h = rw (digitsUpTo-from-ten n n h, digitsUpTo-enough n (suc (n / 10)) (n / 10) (omega arith) (omega arith))
+decimal-from-ten n h =
+    rw (digitsUpTo-from-ten n n h, digitsUpTo-enough n (suc (n / 10)) (n / 10) (omega arith) (omega arith))
 
 pub decimal-snoc : (v d : ℕ) → 0 < v → d < 10 → decimal (10 * v + d) ≡ decimal v ++ (48 + d) ∷ []
 decimal-snoc v d p h =
@@ -41,7 +49,8 @@ decimal-snoc v d p h =
     decimal-from-ten (10 * v + d) (omega arith) ∙ rw (q, r)
 
 -- what holds of the numbers below 10, and of 10 v + d if it holds of v, holds of every number
-pub by-digits : (P : ℕ → Type 0) → ((n : ℕ) → n < 10 → P n) → ((v d : ℕ) → 0 < v → d < 10 → P v → P (10 * v + d)) → (n : ℕ) → P n
+pub by-digits : (P : ℕ → Type 0) → ((n : ℕ) → n < 10 → P n) → ((v d : ℕ) → 0 < v → d < 10 → P v → P (10 * v + d))
+    → (n : ℕ) → P n
 by-digits P one more n = go (suc n) n (omega arith)
   where
     go : (bound n : ℕ) → n < bound → P n

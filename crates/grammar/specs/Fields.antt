@@ -1,5 +1,5 @@
--- A field is a number and the byte that ends it. The reader reads a number of at most `most` from its decimal digits with the end behind
--- them, and from no other text.
+-- A field is a number and the byte that ends it. The reader reads a number of at most `most` from its decimal digits
+-- with the end behind them (`field-of-decimal`), and from no other text (`text-of-field`).
 use mathlib.Core.Path.{_≡_, refl, sym, _∙_}
 use mathlib.Core.Bool.{Bool, true, false, not, _&&_, Bool-discrete, and-eq-true-iff}
 use mathlib.Core.List.{List, [], _∷_, _++_}
@@ -41,7 +41,12 @@ isNextDigit-iff most v b = (
       let t = and-eq-true-iff (isDigit b) (not (eqb v 0)) .0 (s .0) in
       let n = eqb-false v 0 (not-true (eqb v 0) (t .1)) in
       omega (arith, isDigit-iff b .0 (t .0), leb-true (10 * v + (b - 48)) most (s .1)),
-  λ d. rw (isDigit-iff b .1 (d .low, d .high), ne-eqb v 0 (λ e. omega arith), le-leb (10 * v + (b - 48)) most (d .small)),
+  λ d. rw (
+    isDigit-iff b .1 (d .low, d .high),
+    ne-eqb v 0 (λ e. omega arith),
+    le-leb (10 * v + (b - 48)) most
+        (d .small),
+  ),
 )
 
 module _ (most end : ℕ) where
@@ -50,7 +55,8 @@ module _ (most end : ℕ) where
   digitsThen-end v rest = rw (eq-eqb end end refl, digitsThen)
 
   module _ (v b : ℕ) (rest : List ℕ) (n : b ≡ end → ⊥) where
-    pub digitsThen-digit : isNextDigit most v b ≡ true → digitsThen most end v (b ∷ rest) ≡ digitsThen most end (10 * v + (b - 48)) rest
+    pub digitsThen-digit : isNextDigit most v b ≡ true
+        → digitsThen most end v (b ∷ rest) ≡ digitsThen most end (10 * v + (b - 48)) rest
     unfolding digitsThen isNextDigit
     digitsThen-digit t = rw (ne-eqb b end n, t, digitsThen)
 
@@ -68,7 +74,8 @@ module _ (most end : ℕ) where
     fieldOf-other t = rw (t, fieldOf)
 
   -- behind digits with the value v: these and the text are the digits of the number that is read, its end and the rest
-  pub text-of-digitsThen : (v : ℕ) (text : List ℕ) (n : ℕ) (rest : List ℕ) → v ≤ most → digitsThen most end v text ≡ field n rest
+  pub text-of-digitsThen : (v : ℕ) (text : List ℕ) (n : ℕ) (rest : List ℕ) → v ≤ most
+      → digitsThen most end v text ≡ field n rest
       → (decimal v ++ text ≡ decimal n ++ end ∷ rest) × (n ≤ most)
   unfolding digitsThen
   text-of-digitsThen v [] n rest p e = absurd (suc-ne-zero 0 (cc))
@@ -83,13 +90,15 @@ module _ (most end : ℕ) where
             elim (Bool-discrete (isNextDigit most v b) true) [
               | yes t ↦
                   let d = isNextDigit-iff most v b .0 t in
-                  let r = text-of-digitsThen (10 * v + (b - 48)) text n rest (d .small) (sym (digitsThen-digit v b text h t) ∙ e) in
+                  let r = text-of-digitsThen (10 * v + (b - 48)) text n rest (d .small)
+                  (sym (digitsThen-digit v b text h t) ∙ e) in
                   let b-is : 48 + (b - 48) ≡ b = omega arith in
                   (rw (decimal-snoc v (b - 48) (d .no-leading-zero) (omega arith), b-is, append-snoc) at (r .0), r .1)
               | no t ↦ absurd (suc-ne-zero 0 (cc (digitsThen-other v b text h (eq-false-of-not-eq-true t))))
             ]
       ]
 
+  -- a text that is read as a number is its digits and the end (S 6.1)
   pub text-of-field : (text : List ℕ) (n : ℕ) (rest : List ℕ) → 9 ≤ most → fieldOf most end text ≡ field n rest
       → (text ≡ decimal n ++ end ∷ rest) × (n ≤ most)
   unfolding fieldOf
@@ -108,7 +117,8 @@ module _ (most end : ℕ) where
     digit-no-end : (d : ℕ) → d < 10 → 48 + d ≡ end → ⊥
     digit-no-end d h e = suc-ne-zero 0 (cc (isDigit-iff (48 + d) .1 (omega arith)))
 
-    fieldOf-below-ten : (n : ℕ) → n < 10 → (text : List ℕ) → n ≤ most → fieldOf most end (decimal n ++ text) ≡ digitsThen most end n text
+    fieldOf-below-ten : (n : ℕ) → n < 10 → (text : List ℕ) → n ≤ most
+        → fieldOf most end (decimal n ++ text) ≡ digitsThen most end n text
     fieldOf-below-ten n h text k =
         let n-is : 48 + n - 48 ≡ n = omega arith in
         rw (decimal-below-ten n h, fieldOf-digit (48 + n) text (isDigit-iff (48 + n) .1 (omega arith)), n-is)
@@ -117,13 +127,20 @@ module _ (most end : ℕ) where
         → digitsThen most end v ((48 + d) ∷ text) ≡ digitsThen most end (10 * v + d) text
     digitsThen-snoc v d text p h k =
         let d-is : 48 + d - 48 ≡ d = omega arith in
-        rw (digitsThen-digit v (48 + d) text (digit-no-end d h) (isNextDigit-iff most v (48 + d) .1 (omega arith)), d-is)
+        rw (
+          digitsThen-digit v (48 + d) text (digit-no-end d h) (isNextDigit-iff most v (48 + d) .1 (omega arith)),
+          d-is,
+        )
 
     -- behind the digits of n the reader has read n
-    pub fieldOf-decimal : (n : ℕ) (text : List ℕ) → n ≤ most → fieldOf most end (decimal n ++ text) ≡ digitsThen most end n text
+    pub fieldOf-decimal : (n : ℕ) (text : List ℕ) → n ≤ most
+        → fieldOf most end (decimal n ++ text) ≡ digitsThen most end n text
     fieldOf-decimal =
-        by-digits (λ n. (text : List ℕ) → n ≤ most → fieldOf most end (decimal n ++ text) ≡ digitsThen most end n text) fieldOf-below-ten
-        (λ v d p h ih text k. rw (decimal-snoc v d p h, append-snoc, ih ((48 + d) ∷ text) (omega arith), digitsThen-snoc v d text p h k))
+        by-digits (λ n. (text : List ℕ) → n ≤ most → fieldOf most end (decimal n ++ text) ≡ digitsThen most end n text)
+        fieldOf-below-ten
+        (λ v d p h ih text k.
+        rw (decimal-snoc v d p h, append-snoc, ih ((48 + d) ∷ text) (omega arith), digitsThen-snoc v d text p h k))
 
-    pub field-of-decimal : (n : ℕ) (rest : List ℕ) → n ≤ most → fieldOf most end (decimal n ++ end ∷ rest) ≡ field n rest
+    pub field-of-decimal : (n : ℕ) (rest : List ℕ) → n ≤ most
+        → fieldOf most end (decimal n ++ end ∷ rest) ≡ field n rest
     field-of-decimal n rest k = fieldOf-decimal n (end ∷ rest) k ∙ digitsThen-end n rest

@@ -1,6 +1,6 @@
--- The grammar of texts that begin with a line of the side: the reader accepts one exactly if it is that line and,
--- behind it, so many lines of as many numbers as are asked for, each a byte, where they fit. One law for maps and
--- sketches; so a map's text is accepted exactly if it is the text of a map that fits, and a written text is read back.
+-- `text-read-iff`, one law for maps and sketches: a text is read just if it is a line of the side and, behind it, so
+-- many lines of as many numbers as are asked for, each a byte, where they fit. So a map's text is read just if it is
+-- that of a map that fits (`grammar`), and a written one is read back (`written-text-accepted`).
 use mathlib.Core.Path.{_≡_, refl, _∙_}
 use mathlib.Core.List.{List, [], _∷_, _++_}
 use mathlib.Core.Logic.{_↔_}
@@ -146,6 +146,7 @@ pub mapText-fields : (side : ℕ) (greys : List ℕ) → 0 < side → length gre
 unfolding mapText
 mapText-fields side greys p h = text-fields same (λ side p. p) side greys p h
 
+-- just the text of a map is read as that map (S 6.2)
 pub grammar : (text : List ℕ) (room side : ℕ) (greys : List ℕ)
     → (readMap text room ≡ accepted side greys) ↔ MapOf text room side greys
 unfolding mapText

@@ -1,5 +1,5 @@
--- Lines of numbers are the fields of these numbers, with the lines' ends. The reader reads numbers of at most `most` from their fields,
--- and from no other text.
+-- Lines of numbers are the fields of these numbers, with the lines' ends (`rowsText-fields`). The reader reads numbers
+-- of at most `most` from their fields (`values-of-fields`), and from no other text (`fields-of-values`).
 use mathlib.Core.Path.{_≡_, refl, sym, ap, _∙_}
 use mathlib.Core.Bool.{false}
 use mathlib.Core.List.{List, [], _∷_, _++_, append-assoc}
@@ -21,7 +21,8 @@ fieldsText [] ends = []
 fieldsText (v ∷ values) [] = []
 fieldsText (v ∷ values) (end ∷ ends) = decimal v ++ end ∷ fieldsText values ends
 
-pub fieldsText-append : (a b c d : List ℕ) → length a ≡ length c → fieldsText (a ++ b) (c ++ d) ≡ fieldsText a c ++ fieldsText b d
+pub fieldsText-append : (a b c d : List ℕ) → length a ≡ length c
+    → fieldsText (a ++ b) (c ++ d) ≡ fieldsText a c ++ fieldsText b d
 unfolding fieldsText
 fieldsText-append [] b [] d h = refl
 fieldsText-append [] b (end ∷ c) d h = absurd (omega arith)
@@ -40,7 +41,8 @@ length-lineEnds n p = simp (length-append, length-replicate) (omega arith)
 pub length-repeated-lineEnds : (n m : ℕ) → 0 < n → length (repeated m (lineEnds n)) ≡ m * n
 unfolding repeated
 length-repeated-lineEnds n zero p = omega arith
-length-repeated-lineEnds n (suc m) p = rw length-append (omega (arith, length-lineEnds n p, length-repeated-lineEnds n m p, suc-mul m n))
+length-repeated-lineEnds n (suc m) p =
+    rw length-append (omega (arith, length-lineEnds n p, length-repeated-lineEnds n m p, suc-mul m n))
 
 pub line-fields : (values : List ℕ) → 0 < length values → line values ≡ fieldsText values (lineEnds (length values))
 unfolding line fieldsText
@@ -57,8 +59,16 @@ rowsText-fields n zero (v ∷ values) p h = absurd (omega arith)
 rowsText-fields n (suc m) values p h =
     let s = suc-mul m n in
     let t = length-take-le n values (omega arith) in
-    let a = fieldsText-append (take n values) (drop n values) (lineEnds n) (repeated m (lineEnds n)) (t ∙ sym (length-lineEnds n p)) in
-    rw (line-fields (take n values) (omega arith), t, rowsText-fields n m (drop n values) p (omega (arith, length-drop n values)), ← a, take-append-drop)
+    let a = fieldsText-append (take n values) (drop n values) (lineEnds n) (repeated m (lineEnds n))
+    (t ∙ sym (length-lineEnds n p)) in
+    rw (
+      line-fields (take n values) (omega arith),
+      t,
+      rowsText-fields n m (drop n values) p
+          (omega (arith, length-drop n values)),
+      ← a,
+      take-append-drop,
+    )
 
 -- ---- the reader
 -- none of the ends is a digit; past the last, 0 is none either
@@ -106,17 +116,21 @@ module _ (most : ℕ) where
       )
 
   module _ (nine : 9 ≤ most) where
-    pub fields-of-values : (ends text values : List ℕ) → valuesOf most ends text ≡ some values → FieldsOf most ends text values
+    -- numbers that are read are their digits, each with the byte that ends it (S 6.1)
+    pub fields-of-values : (ends text values : List ℕ) → valuesOf most ends text ≡ some values
+        → FieldsOf most ends text values
     unfolding valuesOf fieldsText
     fields-of-values [] [] values e =
-        let values-is : [] ≡ values = cc in rw (← values-is) (record { bytes = refl; count = refl; small = λ i h. absurd (omega arith) })
+        let values-is : [] ≡ values = cc in
+        rw (← values-is) (record { bytes = refl; count = refl; small = λ i h. absurd (omega arith) })
     fields-of-values [] (b ∷ text) values e = absurd (suc-ne-zero 0 (cc))
     fields-of-values (end ∷ ends) text values e =
         (elim (fieldOf most end text) as (λ f. fieldOf most end text ≡ f → FieldsOf most (end ∷ ends) text values) [
           | malformed ↦ λ q. absurd (suc-ne-zero 0 (cc (rw (q, valuesOf) at e)))
           | field v rest ↦
               λ q.
-              (elim (valuesOf most ends rest) as (λ o. valuesOf most ends rest ≡ o → FieldsOf most (end ∷ ends) text values) [
+              (elim (valuesOf most ends rest) as
+              (λ o. valuesOf most ends rest ≡ o → FieldsOf most (end ∷ ends) text values) [
                 | none ↦ λ r. absurd (suc-ne-zero 0 (cc (rw (q, r, valuesOf) at e)))
                 | some others ↦
                     λ r.
@@ -124,7 +138,11 @@ module _ (most : ℕ) where
                     let f = text-of-field most end text v rest nine q in
                     let t = fields-of-values ends rest others r in
                     rw (← values-is)
-                    (record { bytes = rw (← t .bytes) (f .0); count = ap suc (t .count); small = atMost-cons most v others (f .1) (t .small) })
+                    (record {
+                      bytes = rw (← t .bytes) (f .0);
+                      count = ap suc (t .count);
+                      small = atMost-cons most v others (f .1) (t .small);
+                    })
               ]) refl
         ]) refl
 

@@ -1,5 +1,6 @@
--- What Lower Text makes of a text (document 02, request 11): the one text of the lowered greys. It is read back as
--- these, is the text itself if no grey was too high, is just as long in any case, and stays when converted again.
+-- What Lower Text makes of a text: the one text of the lowered greys (`converted`). It is read back as these
+-- (`reads-lowered`), is the text itself if no grey was too high (`copied-if-low`), is just as long in any case
+-- (`lowered-as-long`), and stays when converted again (`once-is-enough`).
 use mathlib.Core.Path.{_≡_, refl, sym, ap, _∙_}
 use mathlib.Core.Bool.{true}
 use mathlib.Core.List.{List, [], _∷_, _++_}
@@ -60,6 +61,7 @@ module _ {text : List ℕ} {room side : ℕ} {values : List ℕ} (m : MapOf text
   pub lowered-count : length (lowered values) ≡ side * side
   lowered-count = lowered-length values ∙ m .count
 
+  -- the text that is written is as long as the one that was read (S 9.2)
   pub lowered-as-long : length (mapText side (lowered values)) ≡ length text
   lowered-as-long =
       let p = side-positive side (m .one-of-eight) in
@@ -90,6 +92,7 @@ module _ {text : List ℕ} {room side : ℕ} {values : List ℕ} (m : MapOf text
 
 -- ---- the call, on a text of the grammar
 module _ (text greys output : List ℕ) (side : ℕ) (values : List ℕ) (m : MapOf text (length greys) side values) where
+  -- what the call answers and leaves (S 9.2)
   pub lower-text-outcome : length text ≤ length output
       → lowerTextOf text greys output
       ≡ record {
@@ -180,6 +183,7 @@ module _ (text greys output : List ℕ) (side : ℕ) (values : List ℕ) (m : Ma
         twice = λ buffer other k l. rw taken (lowered-again m buffer other k l);
       })
 
+-- all that is promised of a converted text (S 15.10)
 pub converted : (text greys output : List ℕ) (n : ℕ) → lowerTextOf text greys output .said ≡ returned (n ∷ [])
     → Converted text greys output n (lowerTextOf text greys output)
 unfolding lowerTextOf textKept
@@ -224,13 +228,16 @@ module _ (text greys output : List ℕ) (n : ℕ) (said : lowerTextOf text greys
   pub never-longer : n ≤ length text
   never-longer = omega (arith, c .as-long)
 
+  -- it is read back as the lowered greys (S 15.10)
   pub reads-lowered : (buffer : List ℕ) → c .side * c .side ≤ length buffer → mapTextOf made buffer
       ≡ record { said = returned (c .side ∷ []); greys = lowered (c .values) ++ drop (c .side * c .side) buffer }
   reads-lowered = c .reads-back
 
+  -- it is the same text if none was too high (S 15.10)
   pub copied-if-low : noneHigh (c .values) ≡ true → made ≡ text
   copied-if-low = c .copied
 
+  -- it stays when lowered again (S 15.10)
   pub once-is-enough : (buffer other : List ℕ) → c .side * c .side ≤ length buffer → n ≤ length other
       → lowerTextOf made buffer other .output ≡ made ++ drop n other
   once-is-enough buffer other h k = ap (λ (o : LowerTextOutcome). o .output) (c .twice buffer other h k)

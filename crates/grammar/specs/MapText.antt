@@ -1,5 +1,5 @@
--- What Map Text takes (document 02, request 11): a text of the grammar that has no grey above 240. On such a text, and
--- on no other, the call returns the map's side and leaves its greys.
+-- What Map Text takes: a text of the grammar that has no grey above 240 (`read-low-iff`). On such a text, and on no
+-- other, the call returns the map's side and leaves its greys (`map-text-returned-iff`, `map-text-outcome`).
 use mathlib.Core.Path.{_≡_, refl, sym, ap, ap₂, _∙_}
 use mathlib.Core.Bool.{Bool, true, false}
 use mathlib.Core.List.{List, [], _∷_, _++_}
@@ -21,6 +21,7 @@ pub record LowMapOf (text : List ℕ) (room side : ℕ) (greys : List ℕ) : Typ
   pub map : MapOf text room side greys
   pub low : (i : ℕ) → i < length greys → getD greys i 0 ≤ 240
 
+-- Map Text reads a text just if it is that of a map that fits and is low (S 15.10)
 pub read-low-iff : (text : List ℕ) (room side : ℕ) (greys : List ℕ)
     → (readLow text room ≡ accepted side greys) ↔ LowMapOf text room side greys
 unfolding readLow
@@ -47,7 +48,7 @@ read-low-iff text room side greys = (
               low = λ i h. omega (arith, low-at greys (ap noneHigh (sym values-is) ∙ f) i h);
             }
 
--- the call returns the side, and leaves the greys with the rest of the buffer behind them
+-- the call returns the side, and leaves the greys with the rest of the buffer behind them (S 9.1)
 pub map-text-outcome : (text buffer : List ℕ) (side : ℕ) (greys : List ℕ) → LowMapOf text (length buffer) side greys
     → mapTextOf text buffer ≡ record { said = returned (side ∷ []); greys = greys ++ drop (side * side) buffer }
 unfolding mapTextOf

@@ -1,6 +1,6 @@
--- The grammar of sketches (document 02, request 12): pairs taken apart into lows and highs and put together again; the
--- text that the call takes, told by its lows and highs; what the call answers and leaves on such a text, and that on no
--- other it returns figures.
+-- The grammar of sketches: pairs taken apart into lows and highs and put together again (`apart`); the text that the
+-- call takes, told by its lows and highs (`sketch-read-iff`); what the call answers and leaves on such a text
+-- (`sketch-outcome`), and that on no other it returns figures (`sketch-returned-iff`).
 use mathlib.Core.Path.{_≡_, refl, ap, _∙_}
 use mathlib.Core.Bool.{true, not}
 use mathlib.Core.List.{List, [], _∷_, _++_}
@@ -190,6 +190,7 @@ module _ (text : List ℕ) (roomLows roomHighs side : ℕ) (lows highs : List �
       }
 
   -- the reader accepts the pairs of these lows and highs, and they pass, exactly if the text is that of this sketch
+  -- (S 6.3)
   pub sketch-read-iff : ((length lows ≡ length highs) × SketchRead text room side (paired lows highs))
       ↔ SketchOf text roomLows roomHighs side lows highs
   sketch-read-iff = (
@@ -237,6 +238,7 @@ sketch-none r pairs k room = (
 
 module _ (text : List ℕ) (k : ℕ) (lows₀ highs₀ caps₀ : List ℕ) (side : ℕ) where
   -- the answer has the side and both totals; lows, highs and caps stand in front of what the buffers had behind them
+  -- (S 9.4)
   pub sketch-outcome : (lows highs : List ℕ)
       → Quotable text k (length lows₀) (length highs₀) (length caps₀) side lows highs
       → sketchQuoteOf text k lows₀ highs₀ caps₀

@@ -1,5 +1,6 @@
--- An instance of demand 3, so that it is seen to speak of something: P3, side 2 and greys 128, with budgets 0, 1, 1 and, after the first of them, a call
--- that is lent a pyramid of four places, one too few. The buffers are one place longer than needed.
+-- An instance of the price list, so that it is seen to speak of something (`holds-here`): P3, side 2 and greys 128,
+-- with budgets 0, 1, 1 and, after the first of them, a call that is lent a pyramid of four places, one too few. The
+-- buffers are one place longer than needed.
 use mathlib.Core.Path.{_≡_, refl}
 use mathlib.Core.List.{List, [], _∷_}
 use Prim.Native.Nat.{ℕ}
@@ -34,7 +35,18 @@ use Rattle.definition.specs.Diffusion.{
   diffuse,
 }
 use Rattle.definition.specs.Model.{topOf, modelStart, missing, placeDot, step, steps}
-use Rattle.definition.specs.Sound.{burntNear, everyEntry, fewDots, numbered, counted, unused, summed, bounded, owing, isSound}
+use Rattle.definition.specs.Sound.{
+  burntNear,
+  everyEntry,
+  fewDots,
+  numbered,
+  counted,
+  unused,
+  summed,
+  bounded,
+  owing,
+  isSound,
+}
 use Rattle.definition.specs.Refusals.{powerUpTo, powerOf, lowest}
 use Rattle.definition.specs.Lowering.{noneHigh}
 use Rattle.definition.specs.Load.{lowMap, loadRefusal, loaded, loadOf}
@@ -52,10 +64,10 @@ use Rattle.definition.specs.Quarters.{
   asQuarters,
 }
 use Rattle.definition.specs.ByQuarters.{loadByQuarters, advanceByQuarters}
-use Rattle.definition.specs.Calls.{Call, heldAfterLoad, callOf, heldAfter, outcomesOf, repliesOf}
-use Rattle.guarantee.specs.Demand3.{Accepted, HoldsFrom, Demand3}
+use Rattle.definition.specs.AdvanceList.{Call, heldAfterLoad, callOf, heldAfter, outcomesOf, repliesOf}
+use Rattle.guarantee.specs.PriceList.{Accepted, HoldsFrom, PriceList}
 use Rattle.guarantee.specs.Lent.{heldOf}
-use Rattle.guarantee.specs.Theorem.{loaded-before, demand-3}
+use Rattle.guarantee.specs.Theorem.{loaded-before, price-list}
 
 abbrev greys : List ℕ
 greys = 128 ∷ 128 ∷ 128 ∷ 128 ∷ []
@@ -82,13 +94,13 @@ unfolding loadByQuarters asRows relaid rowsFrom joined levelOf tabulateFrom load
     lowest powerOf powerUpTo start
 accepted-ribbed = record { bytes = accepted .bytes; said = refl }
 
-pub holds-here : Demand3 2 plain greys pyramid sheet sheet calls
-holds-here = demand-3 2 plain greys pyramid sheet sheet accepted calls
+pub holds-here : PriceList 2 plain greys pyramid sheet sheet calls
+holds-here = price-list 2 plain greys pyramid sheet sheet accepted calls
 
-pub holds-ribbed : Demand3 2 ribbed greys pyramid sheet sheet calls
-holds-ribbed = demand-3 2 ribbed greys pyramid sheet sheet accepted-ribbed calls
+pub holds-ribbed : PriceList 2 ribbed greys pyramid sheet sheet calls
+holds-ribbed = price-list 2 ribbed greys pyramid sheet sheet accepted-ribbed calls
 
--- the same calls on a sheet that was loaded before request 11, of four greys of 255
+-- the same calls on a sheet that was loaded when greys went up to 255, of four such greys (S 7.5)
 abbrev dark : List ℕ
 dark = 255 ∷ 255 ∷ 255 ∷ 255 ∷ []
 

@@ -1,4 +1,5 @@
--- Buffers that begin with a sheet. A part of one is lent, from its first place on, and comes back in front of what was not lent.
+-- Buffers that begin with a sheet. A part of one is lent, from its first place on (`lent-part`), and comes back in
+-- front of what was not lent (`lent-back`); of a pyramid by quarters likewise (`rows-part`, `rows-over`).
 use mathlib.Core.Path.{_≡_, sym, ap, ap₂, _∙_}
 use mathlib.Core.List.{List, _++_, append-assoc}
 use Prim.Native.Nat.{ℕ, _+_, _-_, _^_, _≤_, _<_}
@@ -12,7 +13,7 @@ use borrow.Author.Tests.{lt-ltb, le-ltb}
 use Rattle.definition.specs.Model.{Halftone}
 use Rattle.definition.specs.Quarters.{rowsFrom, quartersFrom, asRows, asQuarters}
 use Rattle.definition.specs.Pyramid.{needed}
-use Rattle.definition.specs.Calls.{Held}
+use Rattle.definition.specs.AdvanceList.{Held}
 use Rattle.layouts.specs.Relaid.{length-quarters, rows-back}
 use Rattle.layouts.specs.Lent.{rows-taken, rows-take, rows-drop, as-quarters-part, quarters-rows}
 
@@ -41,15 +42,18 @@ module _ {A : Type 0} where
   rest-of : (a t : List A) (m d : ℕ) → length a ≡ m → drop m (take (m + d) (a ++ t)) ++ drop (m + d) (a ++ t) ≡ t
   rest-of a t m d e =
       ap₂ _++_
-      (ap (drop m) (take-add m d (a ++ t) ∙ ap₂ _++_ (take-at a t m e) (ap (take d) (drop-at a t m e))) ∙ drop-at a (take d t) m e)
+      (ap (drop m) (take-add m d (a ++ t) ∙ ap₂ _++_ (take-at a t m e) (ap (take d) (drop-at a t m e)))
+      ∙ drop-at a (take d t) m e)
       (sym (drop-drop d m (a ++ t)) ∙ ap (drop d) (drop-at a t m e))
       ∙ take-append-drop d t
 
   -- and the whole buffer after b was written over it
-  pub lent-back : (a b t : List A) (m n : ℕ) → length a ≡ m → m ≤ n → (b ++ drop m (take n (a ++ t))) ++ drop n (a ++ t) ≡ b ++ t
+  pub lent-back : (a b t : List A) (m n : ℕ) → length a ≡ m → m ≤ n
+      → (b ++ drop m (take n (a ++ t))) ++ drop n (a ++ t) ≡ b ++ t
   lent-back a b t m n e h =
       let z : m + (n - m) ≡ n = omega arith in
-      append-assoc b (drop m (take n (a ++ t))) (drop n (a ++ t)) ∙ ap (λ (l : List A). b ++ l) (rw z at (rest-of a t m (n - m) e))
+      append-assoc b (drop m (take n (a ++ t))) (drop n (a ++ t))
+      ∙ ap (λ (l : List A). b ++ l) (rw z at (rest-of a t m (n - m) e))
 
 -- ---- the same of a pyramid by quarters, of which a part is lent
 module _ (r : ℕ) (a p : List ℤ) (n : ℕ) (whole : length a ≡ needed r) where

@@ -1,4 +1,4 @@
-pub mod Demand3
+pub mod PriceList
 pub mod Floor
 pub mod Quote
 pub mod Capped

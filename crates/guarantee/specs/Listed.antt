@@ -85,6 +85,7 @@ module _ (side knit : ℕ) (known : knit ≤ 1) (some : 0 < powerOf side)
         ∙ lowest-past 8 (ltb (length output) (length (drillText r run))) _ (le-ltb _ _ room)
         ∙ unfold lowest in refl
 
+    -- Drill List prints the sheet (S 9.3)
     pub lists : drillListByQuarters (record { side = side; dots = run .dots; knit = knit }) held
         (run .serials ++ s) (run .order ++ o) output ≡ listedOf r run output
     unfolding drillListByQuarters drillListOf textInto

@@ -1,5 +1,6 @@
--- A list of Advance calls on buffers that begin with a sound sheet, and the model fed with it: same buffers, same record, same replies. In all, the model
--- makes as many steps as the budgets of the calls not refused allow, that is, the smaller of their sum and the dots due.
+-- A list of Advance calls on buffers that begin with a sound sheet, and the model fed with it: same buffers and record
+-- (`calls-held`), same replies (`calls-replies`). In all, the model makes the smaller of the dots due and the budgets
+-- of the calls not refused (`calls-number`).
 use mathlib.Core.Path.{_≡_, refl, sym, ap, ap₂, _∙_}
 use mathlib.Core.Logic.{_↔_}
 use mathlib.Core.Bool.{Bool, true, false, cond, true≢false}
@@ -15,7 +16,19 @@ use Rattle.definition.specs.Diffusion.{kernelOf}
 use Rattle.definition.specs.Model.{Halftone, topOf, steps}
 use Rattle.definition.specs.Refusals.{powerOf}
 use Rattle.definition.specs.Advance.{Reply, AdvanceOutcome, dotsDue, saidAt}
-use Rattle.definition.specs.Calls.{Call, outcomesOf, heldAfterCalls, repliesOf, modelRefusal, modelCall, modelReply, modelAfterCalls, modelReplies, isRefusal, granted}
+use Rattle.definition.specs.AdvanceList.{
+  Call,
+  outcomesOf,
+  heldAfterCalls,
+  repliesOf,
+  modelRefusal,
+  modelCall,
+  modelReply,
+  modelAfterCalls,
+  modelReplies,
+  isRefusal,
+  granted,
+}
 use Rattle.integers.specs.Linear.{ints, up-or-dn}
 use Rattle.shares.specs.Kernels.{knit-fit}
 use Rattle.dots.specs.Steps.{Sheet, due-is, steps-sheet, steps-due, steps-made, steps-min, steps-add}
@@ -37,7 +50,10 @@ finished-due t = go (ltZ t (pos halfDot)) refl
   where
     go : (b : Bool) → ltZ t (pos halfDot) ≡ b → (cond b finished more ≡ finished) ↔ (dotsDue t ≡ 0)
     go true e = ((λ h. omega (ints, due-is t, up-or-dn t)), (λ h. refl))
-    go false e = ((λ h. let z : _≡_ {A = ℕ} 0 1 = cc in absurd (omega arith)), (λ h. absurd (omega (ints, due-is t, up-or-dn t))))
+    go false e = (
+      (λ h. let z : _≡_ {A = ℕ} 0 1 = cc in absurd (omega arith)),
+      (λ h. absurd (omega (ints, due-is t, up-or-dn t))),
+    )
 
 module _ (knit : ℕ) (known : knit ≤ 1) (r : ℕ) (big : 2 ≤ 2 ^ r) (power : powerOf (2 ^ r) ≡ r) where
   -- ---- one call of the model: taken, or refused
@@ -85,6 +101,7 @@ module _ (knit : ℕ) (known : knit ≤ 1) (r : ℕ) (big : 2 ≤ 2 ^ r) (power 
 
   -- ---- the same buffers, the same record, the same replies
   module _ (p : List ℤ) (s o : List ℕ) where
+    -- what the caller holds is the model's (S 15.2)
     pub calls-held : (cs : List Call) (t : Halftone) → Sheet r t
         → heldAfterCalls (heldOf knit r t p s o) cs ≡ heldOf knit r (modelAfterCalls knit r t cs) p s o
     unfolding heldAfterCalls modelAfterCalls
@@ -93,6 +110,7 @@ module _ (knit : ℕ) (known : knit ≤ 1) (r : ℕ) (big : 2 ≤ 2 ^ r) (power 
         rw (held-same knit known r big power t sheet p s o c)
         (calls-held cs (modelCall knit r t c) (call-sheet t sheet c))
 
+    -- and so is every reply (S 15.2)
     pub calls-replies : (cs : List Call) (t : Halftone) → Sheet r t
         → repliesOf (heldOf knit r t p s o) cs ≡ modelReplies knit r t cs
     unfolding repliesOf outcomesOf modelReplies
@@ -129,7 +147,7 @@ module _ (knit : ℕ) (known : knit ≤ 1) (r : ℕ) (big : 2 ≤ 2 ^ r) (power 
           (ih ∙ ap (λ (u : Halftone). steps (kernelOf knit) r
           (granted cs (modelReplies knit r (modelCall knit r t c) cs)) u) e)
 
-  -- so the dots made are the smaller of these and the dots due
+  -- so the dots made are the smaller of these and the dots due (S 15.3)
   pub calls-number : (cs : List Call) (t : Halftone) → Sheet r t
       → modelAfterCalls knit r t cs .dots
       ≡ t .dots + min (granted cs (modelReplies knit r t cs)) (dotsDue (topOf (t .pyramid)))
@@ -146,7 +164,7 @@ module _ (knit : ℕ) (known : knit ≤ 1) (r : ℕ) (big : 2 ≤ 2 ^ r) (power 
       ∙ ap (λ (n : ℕ). steps (kernelOf knit) r n t) (omega (arith, calls-number cs t sheet))
 
   -- ---- finished
-  -- a call that isn't refused says finished exactly if no dot is due then
+  -- a call that isn't refused says finished exactly if no dot is due then (S 15.3)
   pub reply-finished : (t : Halftone) → Sheet r t → (c : Call)
       → isRefusal (modelReply knit r t c .said) ≡ false → (modelReply knit r t c .said ≡ finished)
       ↔ (dotsDue (topOf (modelCall knit r t c .pyramid)) ≡ 0)

@@ -1,4 +1,5 @@
--- One Advance call on parts of buffers that begin with a sound sheet does as the model does: the same steps, the same reply, the rest untouched.
+-- One Advance call on parts of buffers that begin with a sound sheet does as the model does: the same steps and the
+-- same reply (`call-same`), the rest untouched (`held-same`).
 use mathlib.Core.Path.{_≡_, refl, ap, _∙_}
 use mathlib.Core.Bool.{Bool, true, false, cond, not}
 use mathlib.Core.List.{List, _++_}
@@ -17,7 +18,7 @@ use Rattle.definition.specs.Refusals.{powerOf, lowest}
 use Rattle.definition.specs.Advance.{AdvanceOutcome, dotsDue, saidAt, sheetIn, advanceRefusal, advanced, advanceOf}
 use Rattle.definition.specs.Quarters.{quartersFrom, asRows}
 use Rattle.definition.specs.ByQuarters.{advanceByQuarters}
-use Rattle.definition.specs.Calls.{Call, callOf, heldAfter, modelRefusal, modelCall, modelReply}
+use Rattle.definition.specs.AdvanceList.{Call, callOf, heldAfter, modelRefusal, modelCall, modelReply}
 use Rattle.definition.specs.declared.Progress.{Progress}
 use Rattle.integers.specs.Tests.{true-T}
 use Rattle.refusals.specs.Lowest.{lowest-none}
@@ -29,7 +30,8 @@ use Rattle.dots.specs.SoundTest.{sound-test}
 use Rattle.guarantee.specs.Lent.{heldOf, lent-test, lent-part, lent-back, rows-part, rows-over, rows-stay}
 
 -- what the model does not refuse is long enough
-enough : (r : ℕ) (c : Call) → modelRefusal r c ≡ 0 → (needed r ≤ c .pyramidLent) × (cellCount r ≤ c .serialsLent) × (cellCount r ≤ c .orderLent)
+enough : (r : ℕ) (c : Call) → modelRefusal r c ≡ 0
+    → (needed r ≤ c .pyramidLent) × (cellCount r ≤ c .serialsLent) × (cellCount r ≤ c .orderLent)
 unfolding modelRefusal
 enough r c e =
     let r₃ = lowest-none 3 (ltb (c .pyramidLent) (needed r)) _ (omega arith) e in
@@ -57,7 +59,8 @@ module _ (knit : ℕ) (known : knit ≤ 1) (r : ℕ) (big : 2 ≤ 2 ^ r) (power 
   lentSheet = sheetIn r (t .dots) lentRows lentSerials lentOrder
 
   -- long enough, they hold the sheet
-  sheet-lent : (needed r ≤ c .pyramidLent) × (cellCount r ≤ c .serialsLent) × (cellCount r ≤ c .orderLent) → lentSheet ≡ t
+  sheet-lent : (needed r ≤ c .pyramidLent) × (cellCount r ≤ c .serialsLent) × (cellCount r ≤ c .orderLent)
+      → lentSheet ≡ t
   unfolding sheetIn
   sheet-lent h =
       λ i.
@@ -79,18 +82,26 @@ module _ (knit : ℕ) (known : knit ≤ 1) (r : ℕ) (big : 2 ≤ 2 ^ r) (power 
         rows-length r lentPyramid,
         lent-test (quartersFrom r (t .pyramid) ++ p) (c .pyramidLent) (needed r)
             (omega (arith, length-append (quartersFrom r (t .pyramid)) p, length-quarters r (t .pyramid))),
-        lent-test (t .serials ++ s) (c .serialsLent) (cellCount r) (omega (arith, length-append (t .serials) s, sheet .sized .serials)),
-        lent-test (t .order ++ o) (c .orderLent) (cellCount r) (omega (arith, length-append (t .order) o, sheet .sized .order)),
+        lent-test (t .serials ++ s) (c .serialsLent) (cellCount r)
+            (omega (arith, length-append (t .serials) s, sheet .sized .serials)),
+        lent-test (t .order ++ o) (c .orderLent) (cellCount r)
+            (omega (arith, length-append (t .order) o, sheet .sized .order)),
       )
-      (go (ltb (c .pyramidLent) (needed r)) refl (ltb (c .serialsLent) (cellCount r)) refl (ltb (c .orderLent) (cellCount r)) refl)
+      (go (ltb (c .pyramidLent) (needed r)) refl (ltb (c .serialsLent) (cellCount r)) refl
+      (ltb (c .orderLent) (cellCount r)) refl)
     where
-      go : (a : Bool) → ltb (c .pyramidLent) (needed r) ≡ a → (b : Bool) → ltb (c .serialsLent) (cellCount r) ≡ b → (d : Bool) → ltb (c .orderLent) (cellCount r) ≡ d
-          → _≡_ {A = ℕ} (cond a 3 (cond b 4 (cond d 4 (cond (not (isSound r lentSheet)) 5 0)))) (cond a 3 (cond b 4 (cond d 4 0)))
+      go : (a : Bool) → ltb (c .pyramidLent) (needed r) ≡ a → (b : Bool) → ltb (c .serialsLent) (cellCount r) ≡ b
+          → (d : Bool) → ltb (c .orderLent) (cellCount r) ≡ d
+          → _≡_ {A = ℕ} (cond a 3 (cond b 4 (cond d 4 (cond (not (isSound r lentSheet)) 5 0))))
+          (cond a 3 (cond b 4 (cond d 4 0)))
       go true x b y d z = refl
       go false x true y d z = refl
       go false x false y true z = refl
       go false x false y false z =
-          let e : isSound r lentSheet ≡ true = ap (isSound r) (sheet-lent (ltb-false _ _ x, ltb-false _ _ y, ltb-false _ _ z)) ∙ true-T (isSound r t) (sound-test r t (sheet .sound)) in
+          let e : isSound r lentSheet
+          ≡ true =
+          ap (isSound r) (sheet-lent (ltb-false _ _ x, ltb-false _ _ y, ltb-false _ _ z))
+          ∙ true-T (isSound r t) (sound-test r t (sheet .sound)) in
           rw e
 
   abbrev given : Progress
@@ -145,7 +156,8 @@ module _ (knit : ℕ) (known : knit ≤ 1) (r : ℕ) (big : 2 ≤ 2 ^ r) (power 
   pub reply-refused : (n : ℕ) → modelRefusal r c ≡ suc n
       → modelReply knit r t c ≡ record { progress = given; made = 0; said = refused (suc n) }
   unfolding modelReply
-  reply-refused n e = rw (e, model-refused n e) (λ i. record { progress = given; made = none i; said = refused (suc n) })
+  reply-refused n e =
+      rw (e, model-refused n e) (λ i. record { progress = given; made = none i; said = refused (suc n) })
     where
       none : t .dots - t .dots ≡ 0
       none = omega arith
@@ -181,7 +193,8 @@ module _ (knit : ℕ) (known : knit ≤ 1) (r : ℕ) (big : 2 ≤ 2 ^ r) (power 
           said = saidAt (topOf (done .pyramid));
         };
         pyramid = rows-over r (t .pyramid) p (c .pyramidLent) (sheet .sized .pyramid) (done .pyramid) long (h .0) i;
-        serials = lent-back (t .serials) (done .serials) s (cellCount r) (c .serialsLent) (sheet .sized .serials) (h .1) i;
+        serials =
+            lent-back (t .serials) (done .serials) s (cellCount r) (c .serialsLent) (sheet .sized .serials) (h .1) i;
         order = lent-back (t .order) (done .order) o (cellCount r) (c .orderLent) (sheet .sized .order) (h .2) i;
       })
 

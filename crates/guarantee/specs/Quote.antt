@@ -1,5 +1,5 @@
--- The quote page (document 02, request 2): every figure fits its width, for all greys and serials; and where the cap holds, the printed holes never exceed
--- the printed cap.
+-- The quote page: every figure fits its width, for all greys and serials (`figures-fit`); and where the cap holds, no
+-- line of the page has more holes than its cap (`under-quote`).
 use mathlib.Core.List.{List}
 use Prim.Native.Nat.{ℕ, _*_, _^_, _≤_, _<_}
 use native.Mathlib.Omega.{arith}
@@ -11,7 +11,7 @@ use Rattle.definition.specs.Blocks.{blockSide, greyAt, burntAt, greySum, dotsIn
 use Rattle.definition.specs.QuotePage.{quoteCap, figures}
 use Rattle.quadtree.specs.Areas.{block-most}
 use Rattle.dots.specs.Marks.{burntAt-le}
-use Rattle.guarantee.specs.Demand3.{Each, UnderCap, InWidth, printed}
+use Rattle.guarantee.specs.PriceList.{Each, UnderCap, InWidth, printed}
 
 module _ (r : ℕ) (greys serials : List ℕ) (k a b : ℕ) where
   abbrev s : ℕ
@@ -25,7 +25,9 @@ module _ (r : ℕ) (greys serials : List ℕ) (k a b : ℕ) where
   unfolding greySum greyAt
   greys-most bytes = block-most r (greyAt r greys) 255 k a b (λ x y. bytes (cellNumber r x y))
 
-  pub figures-fit : r ≤ 8 → k ≤ r → a < 2 ^ k → b < 2 ^ k → ((i : ℕ) → getD greys i 0 ≤ 255) → Each InWidth (figures r greys serials k a b)
+  -- every figure fits its column (S 6.5, S 8.4)
+  pub figures-fit : r ≤ 8 → k ≤ r → a < 2 ^ k → b < 2 ^ k → ((i : ℕ) → getD greys i 0 ≤ 255)
+      → Each InWidth (figures r greys serials k a b)
   unfolding figures quoteCap
   figures-fit small level u v bytes =
       let n = pow-mono {i = k} {j = 8} (omega arith) in
@@ -34,6 +36,8 @@ module _ (r : ℕ) (greys serials : List ℕ) (k a b : ℕ) where
       let square = mul-le-mul side side in
       (omega arith, (omega arith, (omega (arith, greys-most bytes), (omega (arith, dots-most), (omega arith, tt)))))
 
-  pub under-quote : UnderCap r greys serials k a b → printed (figures r greys serials k a b) 3 ≤ printed (figures r greys serials k a b) 4
+  -- under the cap, the printed holes are at most the printed cap (S 8.3, S 15.4)
+  pub under-quote : UnderCap r greys serials k a b
+      → printed (figures r greys serials k a b) 3 ≤ printed (figures r greys serials k a b) 4
   unfolding figures quoteCap
   under-quote cap = omega (arith, dots-most)

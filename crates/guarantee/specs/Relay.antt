@@ -1,6 +1,6 @@
--- An older sheet whose pyramid Relay wrote by quarters is sound by quarters, and goes on as it would have row after
--- row: Drill List and every Advance answer the same, and what Advance leaves is again an older sheet and its pyramid
--- relaid.
+-- An older sheet whose pyramid Relay wrote by quarters is sound by quarters (`relaid-sound`), and goes on as it would
+-- have row after row: Drill List and every Advance answer the same (`relaid-lists`, `relaid-goes-on`), and what Advance
+-- leaves is again an older sheet and its pyramid relaid.
 use mathlib.Core.Path.{_≡_, refl, sym, ap, _∙_}
 use mathlib.Core.Bool.{Bool, true, false, not}
 use mathlib.Core.List.{List, [], _∷_, _++_}
@@ -337,18 +337,18 @@ module _ (progress : Progress) (old : List ℤ) (s o : List ℕ) (second : List 
           is = take-at (quartersFrom r₀ old) (drop (needed r₀) second) (needed r₀) whole;
         })
 
-    -- with the same serials, order and record it is a sound sheet
+    -- with the same serials, order and record it is a sound sheet (S 15.14)
     pub relaid-sound : isSound r₀ (sheetIn r₀ (progress .dots) (asRows r₀ left) s o) ≡ true
     relaid-sound =
         ap (isSound r₀) (sheet-new r₀ old left relaid (progress .dots) s o) ∙ accepts (none-refusing done) .2
 
-    -- what the second pyramid has past the needed length stays
+    -- what the second pyramid has past the needed length stays (S 2.9, S 12.2)
     pub relaid-rest : drop (needed r₀) left ≡ drop (needed r₀) second
     relaid-rest =
         ap (drop (needed r₀)) (left-is (none-refusing done))
         ∙ drop-at (quartersFrom r₀ old) (drop (needed r₀) second) (needed r₀) (length-quarters r₀ old)
 
-    -- and it goes on as the older one would
+    -- and it goes on as the older one would (S 15.14)
     pub relaid-goes-on : (budget : ℕ)
         → GoesOn r₀ left (advanceOf progress budget old s o) (advanceByQuarters progress budget left s o)
     relaid-goes-on budget = goes-on progress old left s o relaid budget

@@ -1,5 +1,6 @@
--- How sharp the floor is. Side 16: a quarter of grey 241 with 25 dots, the rest of grey 89 with 34 dots in each quarter. Cap and total hold of them, and the
--- first quarter has as few dots as these two facts allow: with 2,039 for 2,040, or with 1,523 for 1,530, the floor would not follow. (No engine made these dots.)
+-- How sharp the floor is (`at-floor`). Side 16: a quarter of grey 241 with 25 dots, the rest of grey 89 with 34 dots in
+-- each quarter. `cap` and `total` hold of them, and the first quarter has as few dots as these allow: with 2,039 for
+-- 2,040, or with 1,523 for 1,530, the floor would not follow. (No engine made these dots.)
 use mathlib.Core.Path.{_≡_, refl}
 use mathlib.Core.Bool.{Bool}
 use mathlib.Core.List.{List, [], _∷_, _++_}
@@ -22,7 +23,7 @@ use Rattle.definition.specs.Blocks.{
 }
 use Rattle.definition.specs.Sound.{everyEntry}
 use Rattle.integers.specs.Tests.{allTo-at, everyEntry-at}
-use Rattle.guarantee.specs.Demand3.{EachBlock, UnderCap}
+use Rattle.guarantee.specs.PriceList.{EachBlock, UnderCap}
 
 abbrev greys : List ℕ
 greys = repeated 8 (replicate 8 241 ++ replicate 8 89) ++ replicate 128 89
@@ -53,13 +54,15 @@ unfolding allTo everyEntry dotsIn greySum blockSum sumTo greyAt burntAt burnt re
 computed = tt
 
 pub cap : EachBlock 4 (UnderCap 4 greys serials)
-cap k a b h u v = ltb→lt _ _ (everyEntry-at k (under k) (allTo-at 5 (λ k. everyEntry k (under k)) computed k (omega arith)) a b u v)
+cap k a b h u v =
+    ltb→lt _ _ (everyEntry-at k (under k) (allTo-at 5 (λ k. everyEntry k (under k)) computed k (omega arith)) a b u v)
 
 pub total : allDots 4 serials ≡ totalOf (greyTotal 4 greys)
 unfolding allDots greyTotal greySum dotsIn blockSum sumTo greyAt burntAt burnt repeated
 total = refl
 
 -- 30,848 = 510 × 25 + 254 + 1,524 + 2,040 × 8; the floor asks for less than 510 × 25 + 255 + 1,530 + 2,040 × 8
-pub at-floor : 2 * greySum 4 greys 1 0 0 ≡ 510 * dotsIn 4 serials 1 0 0 + 254 + 1524 * 1 + 2040 * (2 ^ 4 - blockSide 4 1)
+pub at-floor : 2 * greySum 4 greys 1 0 0 ≡ 510 * dotsIn 4 serials 1 0 0 + 254 + 1524 * 1 + 2040
+    * (2 ^ 4 - blockSide 4 1)
 unfolding greySum dotsIn blockSum sumTo greyAt burntAt burnt repeated
 at-floor = refl

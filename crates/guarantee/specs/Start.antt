@@ -1,4 +1,5 @@
--- The model's start, on greys that are bytes: a sound sheet, with every square's cap and the total. And what an accepted Load leaves is that start.
+-- The model's start, on greys that are bytes: a sound sheet (`start-sheet`), with every square's cap and the total
+-- (`start-capped`). And what an accepted Load leaves is that start (`loaded-held`).
 use mathlib.Core.Path.{_≡_, refl, sym, ap, _∙_}
 use mathlib.Core.Bool.{true}
 use mathlib.Core.List.{List, [], _∷_, _++_}
@@ -18,7 +19,7 @@ use Rattle.definition.specs.Load.{lowMap, loadRefusal, loaded, loadOf}
 use Rattle.definition.specs.Advance.{dotsDue}
 use Rattle.definition.specs.Quarters.{quartersFrom, asRows, asQuarters}
 use Rattle.definition.specs.ByQuarters.{loadByQuarters}
-use Rattle.definition.specs.Calls.{heldAfterLoad}
+use Rattle.definition.specs.AdvanceList.{heldAfterLoad}
 use Rattle.lowering.specs.Low.{low-at, at-low}
 use Rattle.integers.specs.Linear.{zz, ints, up-or-dn}
 use Rattle.integers.specs.Lists.{getD-replicate-self, tabulate-ext}
@@ -33,7 +34,7 @@ use Rattle.layouts.specs.Lent.{rows-length, rows-drop, as-quarters-part}
 use Rattle.dots.specs.Placing.{Sized}
 use Rattle.dots.specs.Kept.{sound-summed}
 use Rattle.dots.specs.Steps.{Sheet, top-area, due-is}
-use Rattle.guarantee.specs.Demand3.{Each, Accepted}
+use Rattle.guarantee.specs.PriceList.{Each, Accepted}
 use Rattle.guarantee.specs.Capped.{Capped}
 use Rattle.guarantee.specs.Lent.{heldOf}
 
@@ -73,7 +74,8 @@ module _ (r : ℕ) (greys : List ℕ) (bytes : Each (λ grey. grey ≤ 255) grey
 
   fresh-entry : (x y : ℕ) → x < 2 ^ r → y < 2 ^ r → entry (fresh .pyramid) r x y ≡ pos (256 * greyAt r greys x y)
   unfolding modelStart
-  fresh-entry x y p q = pyramid-cells r cells x y ∙ level-entry r (λ row column. pos (256 * greyAt r greys row column)) x y p q
+  fresh-entry x y p q =
+      pyramid-cells r cells x y ∙ level-entry r (λ row column. pos (256 * greyAt r greys row column)) x y p q
 
   fresh-burnt : (x y : ℕ) → burntAt r (fresh .serials) x y ≡ 0
   unfolding modelStart burntAt burnt
@@ -110,7 +112,8 @@ module _ (r : ℕ) (greys : List ℕ) (bytes : Each (λ grey. grey ≤ 255) grey
   start-sheet = record { sized = start-sized; sound = start-sound }
 
   -- no cell is burnt, and the residuals are 256 × grey
-  fresh-residue : (p q n : ℕ) → p + n ≤ 2 ^ r → q + n ≤ 2 ^ r → areaZ p q n (entry (fresh .pyramid) r) ≡ pos (256 * area p q n (greyAt r greys))
+  fresh-residue : (p q n : ℕ) → p + n ≤ 2 ^ r → q + n ≤ 2 ^ r
+      → areaZ p q n (entry (fresh .pyramid) r) ≡ pos (256 * area p q n (greyAt r greys))
   fresh-residue p q n low wide =
       areaZ-ext p q n _ (λ x y. pos (256 * greyAt r greys x y)) (λ x y i j. fresh-entry x y (omega arith) (omega arith))
       ∙ areaZ-pos p q n (λ x y. 256 * greyAt r greys x y)
@@ -129,11 +132,17 @@ module _ (r : ℕ) (greys : List ℕ) (bytes : Each (λ grey. grey ≤ 255) grey
         flow = λ p q n low wide. rw (fresh-residue p q n low wide, fresh-area p q n) (simp zz (omega arith));
         cap = λ j k a b e u v. omega (arith, fresh-area (a * 2 ^ j) (b * 2 ^ j) (2 ^ j));
         total =
-            rw (start-dots, top-area r (fresh .pyramid) (sound-summed start-sound), fresh-residue 0 0 (2 ^ r) (omega arith) (omega arith), total-area r greys)
+            rw (
+              start-dots,
+              top-area r (fresh .pyramid) (sound-summed start-sound),
+              fresh-residue 0 0 (2 ^ r)
+                  (omega arith) (omega arith),
+              total-area r greys,
+            )
             (simp zz (omega arith));
       }
 
-  -- at the start, the dots due are the total
+  -- at the start, the dots due are the total (S 15.3)
   pub start-due : fresh .dots + dotsDue (topOf (fresh .pyramid)) ≡ totalOf (greyTotal r greys)
   start-due =
       let t = topOf (fresh .pyramid) in
@@ -212,7 +221,7 @@ module _ (side knit : ℕ) (greys : List ℕ) (pyramid : List ℤ) (serials orde
       go zero e = e
       go (suc n) e = let s = said-no n e in let t = h .said in let z : _≡_ {A = ℕ} 0 1 = cc in absurd (omega arith)
 
-  -- it leaves the model's start in front of what lay past the needed lengths
+  -- it leaves the model's start (S 3.9) in front of what lay past the needed lengths (S 2.9)
   pub loaded-held : Loaded side knit greys pyramid serials order → heldAfterLoad side knit greys pyramid serials order
       ≡ heldOf knit (powerOf side) (modelStart (powerOf side) greys) (drop (needed (powerOf side)) pyramid)
       (drop (cellCount (powerOf side)) serials) (drop (cellCount (powerOf side)) order)

@@ -1,4 +1,5 @@
--- Demand 3, for every list of calls after an accepted Load.
+-- `price-list`: the price list, for either knit and every list of calls after an accepted Load; from `loaded-before`,
+-- which says it of every map that Load took before greys above 240 were refused.
 use mathlib.Core.Path.{_≡_, refl, sym, ap, _∙_}
 use mathlib.Core.Logic.{_≢_, _↔_}
 use mathlib.Core.Bool.{false}
@@ -19,7 +20,17 @@ use Rattle.definition.specs.Model.{Halftone, topOf, modelStart}
 use Rattle.definition.specs.Refusals.{powerOf}
 use Rattle.definition.specs.Advance.{dotsDue}
 use Rattle.definition.specs.Quarters.{quartersFrom}
-use Rattle.definition.specs.Calls.{Call, callOf, outcomesOf, repliesOf, modelCall, modelReply, modelAfterCalls, modelReplies, isRefusal}
+use Rattle.definition.specs.AdvanceList.{
+  Call,
+  callOf,
+  outcomesOf,
+  repliesOf,
+  modelCall,
+  modelReply,
+  modelAfterCalls,
+  modelReplies,
+  isRefusal,
+}
 use Rattle.integers.specs.Linear.{zz, ints}
 use Rattle.integers.specs.Sums.{sumTo-rows, sumTo-ext}
 use Rattle.refusals.specs.Powers.{power-small, powerOf-pow, powerOf-small}
@@ -28,7 +39,7 @@ use Rattle.quadtree.specs.Levels.{start-suc, cell-lt, block-side, block-on-map}
 use Rattle.layouts.specs.Relaid.{length-quarters, quarters-top}
 use Rattle.shares.specs.Kernels.{knit-fit}
 use Rattle.dots.specs.Steps.{Sheet, steps-keep}
-use Rattle.guarantee.specs.Demand3.{Each, EachBlock, Accepted, UnderCap, Ends, Holds, HoldsFrom, Demand3}
+use Rattle.guarantee.specs.PriceList.{Each, EachBlock, Accepted, UnderCap, Ends, Holds, HoldsFrom, PriceList}
 use Rattle.guarantee.specs.Floor.{floor}
 use Rattle.guarantee.specs.Quote.{figures-fit, under-quote}
 use Rattle.guarantee.specs.Capped.{Capped, capped-kept}
@@ -43,34 +54,52 @@ use Rattle.guarantee.specs.Start.{
 }
 use Rattle.guarantee.specs.Lent.{heldOf}
 use Rattle.guarantee.specs.OneCall.{call-same, held-same}
-use Rattle.guarantee.specs.ManyCalls.{call-sheet, calls-sheet, calls-keep, calls-held, calls-replies, calls-number, calls-first, reply-finished, call-due}
+use Rattle.guarantee.specs.ManyCalls.{
+  call-sheet,
+  calls-sheet,
+  calls-keep,
+  calls-held,
+  calls-replies,
+  calls-number,
+  calls-first,
+  reply-finished,
+  call-due,
+}
 
 -- ---- dots and greys of a block, on a sheet in front of what isn't its own
 module _ (r : ℕ) (t : Halftone) (sheet : Sheet r t) (s : List ℕ) where
   burnt-front : (x y : ℕ) → x < 2 ^ r → y < 2 ^ r → burntAt r (t .serials ++ s) x y ≡ burntAt r (t .serials) x y
   unfolding burntAt
-  burnt-front x y p q = ap burnt (List·getD-append (t .serials) s 0 (cellNumber r x y) (omega (arith, sheet .sized .serials, cell-lt (2 ^ r) x y p q)))
+  burnt-front x y p q =
+      ap burnt
+      (List·getD-append (t .serials) s 0 (cellNumber r x y)
+      (omega (arith, sheet .sized .serials, cell-lt (2 ^ r) x y p q)))
 
-  dots-area : (j k a b : ℕ) → j + k ≡ r → a < 2 ^ k → b < 2 ^ k → dotsIn r (t .serials ++ s) k a b ≡ area (a * 2 ^ j) (b * 2 ^ j) (2 ^ j) (burntAt r (t .serials))
+  dots-area : (j k a b : ℕ) → j + k ≡ r → a < 2 ^ k → b < 2 ^ k
+      → dotsIn r (t .serials ++ s) k a b ≡ area (a * 2 ^ j) (b * 2 ^ j) (2 ^ j) (burntAt r (t .serials))
   unfolding dotsIn
   dots-area j k a b e u v =
       block-area r (burntAt r (t .serials ++ s)) k a b
       ∙ rw (block-side r j k e)
-      (area-ext (a * 2 ^ j) (b * 2 ^ j) (2 ^ j) _ _ (λ x y m n. burnt-front x y (omega (arith, block-on-map r j k a e u)) (omega (arith, block-on-map r j k b e v))))
+      (area-ext (a * 2 ^ j) (b * 2 ^ j) (2 ^ j) _ _
+      (λ x y m n. burnt-front x y (omega (arith, block-on-map r j k a e u)) (omega (arith, block-on-map r j k b e v))))
 
   -- all dots are as many as the sheet says
   map-area : (f : ℕ → ℕ) → area 0 0 (2 ^ r) (λ x y. f (cellNumber r x y)) ≡ sumTo (cellCount r) f
   unfolding area span
-  map-area f = sumTo-ext (2 ^ r) _ _ (λ x. sumTo-ext (2 ^ r) _ _ (λ y. simp zero-add)) ∙ sym (sumTo-rows (2 ^ r) (2 ^ r) f)
+  map-area f =
+      sumTo-ext (2 ^ r) _ _ (λ x. sumTo-ext (2 ^ r) _ _ (λ y. simp zero-add)) ∙ sym (sumTo-rows (2 ^ r) (2 ^ r) f)
 
   pub all-dots-is : allDots r (t .serials ++ s) ≡ t .dots
   unfolding allDots
-  all-dots-is = dots-area r 0 0 0 (omega arith) (omega arith) (omega arith) ∙ rw zero-mul (all-area ∙ sheet .sound .count)
+  all-dots-is =
+      dots-area r 0 0 0 (omega arith) (omega arith) (omega arith) ∙ rw zero-mul (all-area ∙ sheet .sound .count)
     where
       all-area : area 0 0 (2 ^ r) (burntAt r (t .serials)) ≡ sumTo (cellCount r) (λ i. burnt (getD (t .serials) i 0))
       all-area = unfold burntAt in map-area (λ i. burnt (getD (t .serials) i 0))
 
-grey-area : (r : ℕ) (greys : List ℕ) (j k a b : ℕ) → j + k ≡ r → greySum r greys k a b ≡ area (a * 2 ^ j) (b * 2 ^ j) (2 ^ j) (greyAt r greys)
+grey-area : (r : ℕ) (greys : List ℕ) (j k a b : ℕ) → j + k ≡ r
+    → greySum r greys k a b ≡ area (a * 2 ^ j) (b * 2 ^ j) (2 ^ j) (greyAt r greys)
 unfolding greySum
 grey-area r greys j k a b e = block-area r (greyAt r greys) k a b ∙ rw (block-side r j k e)
 
@@ -162,7 +191,13 @@ module _ (knit : ℕ) (known : knit ≤ 1) (r : ℕ) (big : 2 ≤ 2 ^ r) (power 
     different i j h k e =
         let a = sheet .sound .in-order (i + 1) (omega arith) (omega arith) .1 in
         let b = sheet .sound .in-order (j + 1) (omega arith) (omega arith) .1 in
-        omega (arith, rw (add-sub-cancel i 1) at a, rw (add-sub-cancel j 1) at b, ap (λ (c : ℕ). getD (last .serials) c 0) e)
+        omega (
+          arith,
+          rw (add-sub-cancel i 1) at a,
+          rw (add-sub-cancel j 1)
+              at b,
+          ap (λ (c : ℕ). getD (last .serials) c 0) e,
+        )
 
     capped-blocks : EachBlock r (UnderCap r greys (last .serials ++ s))
     capped-blocks k a b h u v =
@@ -209,15 +244,17 @@ module _ (knit : ℕ) (known : knit ≤ 1) (r : ℕ) (big : 2 ≤ 2 ^ r) (power 
           quotes = λ k a b h u v.
               record {
                 within = under-quote r greys (last .serials ++ s) k a b (capped-blocks k a b h u v);
-                fits = figures-fit r greys (last .serials ++ s) k a b (power-small (2 ^ r) (sym power)) h u v (grey-byte greys bytes);
+                fits =
+                    figures-fit r greys (last .serials ++ s) k a b (power-small (2 ^ r) (sym power)) h u v
+                    (grey-byte greys bytes);
               };
           debt = rw at-top (capped .total);
           ends = ends-all p s o cs fresh (start-sheet r greys bytes) due-total;
         }
 
--- A sheet that was loaded before document 02's request 11, when greys went up to 255, may be burnt to its end under its
--- own total: of the model's start of such greys, in buffers with anything behind it, every list of calls keeps all that
--- demand 3 says.
+-- A sheet that was loaded when greys still went up to 255 may be burnt to its end under its own total (S 7.5): of the
+-- model's start of such greys, in buffers with anything behind it, every list of calls keeps all that the price list
+-- says.
 pub loaded-before : (r knit : ℕ) → 1 ≤ r → r ≤ 8 → knit ≤ 1 → (greys : List ℕ) → Each (λ grey. grey ≤ 255) greys
     → (pyramid : List ℤ) (serials order : List ℕ) (calls : List Call)
     → HoldsFrom
@@ -231,11 +268,12 @@ loaded-before r knit some most known greys bytes pyramid serials order calls =
     (drop (cellCount r) order) calls (modelStart r greys) (start-sheet r greys bytes))
     (holds knit known r big power greys bytes calls pyramid serials order)
 
--- Demand 3, for either knit: an accepted Load leaves such a sheet
-pub demand-3 : (side knit : ℕ) (greys : List ℕ) (pyramid : List ℤ) (serials order : List ℕ)
+-- The price list, for either knit (S 15.2, S 15.3, S 15.4, S 15.5, S 15.6, S 15.7): an accepted Load leaves such a
+-- sheet
+pub price-list : (side knit : ℕ) (greys : List ℕ) (pyramid : List ℤ) (serials order : List ℕ)
     → Accepted side knit greys pyramid serials order → (calls : List Call)
-    → Demand3 side knit greys pyramid serials order calls
-demand-3 side knit greys pyramid serials order accepted calls =
+    → PriceList side knit greys pyramid serials order calls
+price-list side knit greys pyramid serials order accepted calls =
     let h = accepted-loaded side knit greys pyramid serials order accepted in
     rw (loaded-held side knit greys pyramid serials order h)
     (loaded-before (powerOf side) knit (h .lent .power) (powerOf-small side) (h .lent .known) greys (accepted .bytes)

@@ -1,1 +1,1 @@
-// No code: the promise about every list of calls, and its proof, are in specs/.
+// No code. The promise about every list of calls (`price-list`) and its proof: cap, floor and total of every map.

@@ -23,7 +23,7 @@ use Rattle.layouts.specs.Relaid.{length-quarters, quarters-top}
 use Rattle.layouts.specs.Lent.{rows-length, rows-drop, as-quarters-part, quarters-rows}
 use Rattle.shares.specs.Kernels.{knit-fit}
 use Rattle.dots.specs.Steps.{Sheet}
-use Rattle.guarantee.specs.Demand3.{Each}
+use Rattle.guarantee.specs.PriceList.{Each}
 use Rattle.guarantee.specs.Theorem.{all-dots-is}
 use Rattle.head_order.specs.Promise.{TwoHeads, HeadsAccepted, HeadsHold}
 use Rattle.head_order.specs.Run.{run-sheet, two-heads}
@@ -59,7 +59,7 @@ module _ (side knit : ℕ) (greys : List ℕ) (pyramid : List ℤ) (serials orde
   pub out-refused : (n : ℕ) → refusal ≡ suc n
       → out ≡ record {
         progress = record { side = 0; dots = 0; knit = 0 };
-        holes = 0;
+        made = 0;
         debt = pos 0;
         said = refused (suc n);
         pyramid = pyramid;
@@ -87,7 +87,7 @@ module _ (side knit : ℕ) (greys : List ℕ) (pyramid : List ℤ) (serials orde
   abbrev pub expected : TwoHeadsOutcome
   expected = record {
     progress = record { side = side; dots = run .dots; knit = knit };
-    holes = run .dots;
+    made = run .dots;
     debt = topOf (run .pyramid);
     said = returned [];
     pyramid = quartersFrom r (run .pyramid) ++ p;
@@ -135,7 +135,7 @@ module _ (side knit : ℕ) (greys : List ℕ) (pyramid : List ℤ) (serials orde
           side-is = side-pow side (omega arith);
           known = known;
           progress = refl;
-          holes = refl;
+          made = refl;
           top = sym at-top;
           pyramid =
               take-at (quartersFrom r (run .pyramid)) p (needed r)
@@ -156,6 +156,7 @@ module _ (side knit : ℕ) (greys : List ℕ) (pyramid : List ℤ) (serials orde
           listed = λ output room. lists side knit known (omega arith) run sheet p s o output room;
         }
 
+  -- what the call promises (S 13.5, S 15.15)
   pub heads-hold : HeadsAccepted side knit greys pyramid serials order
       → HeadsHold side knit r greys pyramid serials order out run
   heads-hold h =

@@ -45,6 +45,7 @@ module _ (side knit greys pyramid serials order : ℕ) (low : Bool) where
   heads-load (inl e) = heads-unknown e
   heads-load (inr h) = heads-large h
 
+  -- a side below 16 is told before all but an unknown side (S 5.2)
   pub heads-small : powerOf side ≢ 0 → side < 16 → heads ≡ 14
   unfolding twoHeadsRefusal
   heads-small some h =
@@ -58,6 +59,7 @@ module _ (side knit greys pyramid serials order : ℕ) (low : Bool) where
       let r₂ = lowest-none 14 (ltb side 16) _ (omega arith) (r₁ .1) in
       power-large side (omega (arith, eqb-false (powerOf side) 0 (r₁ .0))) (ltb-false side 16 (r₂ .0))
 
+  -- what is accepted: what Load accepts, of side 16 or more (S 13.5)
   pub heads-none : (heads ≡ 0) ↔ ((4 ≤ powerOf side) × (load ≡ 0))
   heads-none = (
     λ e. let h = none-power e in (h, sym (heads-large (side-large side h)) ∙ e),

@@ -68,21 +68,21 @@ module _ (side knit : ℕ) (greys : List ℕ) (pyramid : List ℤ) (serials orde
   knit-known = holds .known
 
   -- the answer
-  pub record-is : out .progress ≡ record { side = side; dots = out .holes; knit = knit }
+  pub record-is : out .progress ≡ record { side = side; dots = out .made; knit = knit }
   record-is = holds .progress
 
   pub debt-is-top : out .debt ≡ topOf (out .pyramid)
   debt-is-top = holds .top
 
-  -- holes and debt together are the greys
-  pub adds-up : pos (65280 * out .holes) +ℤ out .debt ≡ pos (256 * greyTotal r greys)
+  -- holes and debt together are the greys (S 15.15)
+  pub adds-up : pos (65280 * out .made) +ℤ out .debt ≡ pos (256 * greyTotal r greys)
   adds-up = holds .debt
 
-  -- no cell is burnt twice, and no hole is missing on the sheet
-  pub no-cell-twice : (i j : ℕ) → i < j → j < out .holes → getD (out .order) i 0 ≢ getD (out .order) j 0
+  -- no cell is burnt twice, and no hole is missing on the sheet (S 15.15)
+  pub no-cell-twice : (i j : ℕ) → i < j → j < out .made → getD (out .order) i 0 ≢ getD (out .order) j 0
   no-cell-twice = holds .once
 
-  pub burnt-cells : allDots r (out .serials) ≡ out .holes
+  pub burnt-cells : allDots r (out .serials) ≡ out .made
   burnt-cells = holds .all-dots
 
   -- the buffers are the run's, and past their needed lengths as they were lent
@@ -100,7 +100,7 @@ module _ (side knit : ℕ) (greys : List ℕ) (pyramid : List ℤ) (serials orde
       × (drop (cellCount r) (out .order) ≡ drop (cellCount r) order)
   rest-stays = (holds .pyramid-rest, holds .serials-rest, holds .order-rest)
 
-  -- it has come to its end: no round would make another hole
+  -- it has come to its end: no round would make another hole (S 15.15)
   pub nothing-left : (t : ℕ) → workAll (kernelOf knit) r run (macroblocks r t) ≡ run
   nothing-left = holds .stopped
 
@@ -117,7 +117,7 @@ module _ (side knit : ℕ) (greys : List ℕ) (pyramid : List ℤ) (serials orde
         holds .any-order turns each .cells x y i j
         ∙ ap (λ (l : List ℕ). burntAt r l x y) (sym (holds .serials))
 
-  -- the sheet is sound, and Drill List prints it
+  -- the sheet is sound, and Drill List prints it (S 15.15)
   pub sound-sheet : isSound r run ≡ true
   sound-sheet = true-T (isSound r run) (sound-test r run (holds .sound))
 

@@ -56,7 +56,7 @@ use Rattle.heads.specs.TwoHeads.{
   twoHeadsRefusal,
   twoHeadsByQuarters,
 }
-use Rattle.guarantee.specs.Demand3.{Each}
+use Rattle.guarantee.specs.PriceList.{Each}
 use Rattle.guarantee.specs.Start.{each-of, low-map-at}
 use Rattle.head_order.specs.Promise.{Reordered, HeadsAccepted, HeadsHold}
 use Rattle.head_order.specs.Orders.{reordered-refl}

@@ -15,7 +15,7 @@ use Rattle.definition.specs.Model.{Halftone}
 use Rattle.heads.specs.TwoHeads.{Macroblock, work, workAll, rowOffset, columnOffset, across, macroblocks, rounds}
 use Rattle.shares.specs.Kernels.{Fit}
 use Rattle.dots.specs.Steps.{Sheet}
-use Rattle.guarantee.specs.Demand3.{Each}
+use Rattle.guarantee.specs.PriceList.{Each}
 use Rattle.head_order.specs.Promise.{Fits, Apart, Reordered}
 use Rattle.head_order.specs.Working.{
   apart-sym,
@@ -96,6 +96,7 @@ round-fits-at r t i h =
       column = omega (arith, mod-lt i some);
     }
 
+-- all of a round lie wholly on the map (S 13.1)
 pub round-fits : (r t : ℕ) → Each (Fits r) (macroblocks r t)
 unfolding macroblocks
 round-fits r t = each-tabulate (Fits r) 0 (inRound r t) (inPlace r t) (λ i l h. round-fits-at r t i (omega arith))
@@ -182,7 +183,7 @@ module _ (kernel : Kernel) (fit : Fit kernel) (r : ℕ) (four≤ : 4 ≤ r) wher
       → Same (workAll kernel r s ns) (workAll kernel r s (macroblocks r t))
   round-any-order t ns e s h = any-order (macroblocks r t) ns e (round-fits r t) (round-apart r t) s h
 
-  -- a run, each round in an order of its own
+  -- a run, each round in an order of its own (S 15.15)
   pub run-any-order : (order : ℕ → List Macroblock) → ((t : ℕ) → Reordered (macroblocks r t) (order t))
       → (fuel t idle : ℕ) (s u : Halftone) → Same s u
       → Same (rounds kernel r order fuel t idle s) (rounds kernel r (macroblocks r) fuel t idle u)

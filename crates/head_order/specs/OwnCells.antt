@@ -19,7 +19,7 @@ use Rattle.shares.specs.Kernels.{Fit}
 use Rattle.shares.specs.Neighbours.{fall}
 use Rattle.dots.specs.Kept.{sound-summed}
 use Rattle.dots.specs.Steps.{Sheet}
-use Rattle.guarantee.specs.Demand3.{Each}
+use Rattle.guarantee.specs.PriceList.{Each}
 use Rattle.head_order.specs.Promise.{Has, Fits, Apart, Agree, OwnCells}
 use Rattle.head_order.specs.Working.{
   has-row,

@@ -29,7 +29,7 @@ use Rattle.heads.specs.TwoHeads.{
 }
 use Rattle.quadtree.specs.Areas.{In}
 use Rattle.dots.specs.Steps.{Sheet}
-use Rattle.guarantee.specs.Demand3.{Each}
+use Rattle.guarantee.specs.PriceList.{Each}
 use Rattle.guarantee.specs.Listed.{listedOf}
 
 -- ---- the cells of a macroblock
@@ -38,7 +38,7 @@ pub record Has (m : Macroblock) (x y : ℕ) : Type 0 where
   pub row : In (4 * m .0) 8 x
   pub column : In (4 * m .1) 8 y
 
--- it lies wholly on the map
+-- it lies wholly on the map (S 13.1)
 pub record Fits (r : ℕ) (m : Macroblock) : Type 0 where
   pub row : m .0 + 2 ≤ 2 ^ (r - 2)
   pub column : m .1 + 2 ≤ 2 ^ (r - 2)
@@ -108,29 +108,29 @@ pub record HeadsHold (side knit r : ℕ) (greys : List ℕ) (lentPyramid : List 
   pub power : 4 ≤ r
   pub side-is : side ≡ 2 ^ r
   pub known : knit ≤ 1
-  -- the record, the holes and the debt
-  pub progress : out .progress ≡ record { side = side; dots = out .holes; knit = knit }
-  pub holes : out .holes ≡ run .dots
+  -- the record, the holes and the debt (S 13.5)
+  pub progress : out .progress ≡ record { side = side; dots = out .made; knit = knit }
+  pub made : out .made ≡ run .dots
   pub top : out .debt ≡ topOf (out .pyramid)
-  -- what is needed of each buffer is the run's, the pyramid's written by quarters
+  -- what is needed of each buffer is the run's, the pyramid's written by quarters (S 13.5)
   pub pyramid : take (needed r) (out .pyramid) ≡ quartersFrom r (run .pyramid)
   pub serials : take (cellCount r) (out .serials) ≡ run .serials
   pub order : take (cellCount r) (out .order) ≡ run .order
-  -- and what lies past it is as it was lent
+  -- and what lies past it is as it was lent (S 2.9)
   pub pyramid-rest : drop (needed r) (out .pyramid) ≡ drop (needed r) lentPyramid
   pub serials-rest : drop (cellCount r) (out .serials) ≡ drop (cellCount r) lentSerials
   pub order-rest : drop (cellCount r) (out .order) ≡ drop (cellCount r) lentOrder
-  -- 65,280 for each hole, and the debt, are 256 times the sum of the greys
-  pub debt : pos (oneDot * out .holes) +ℤ out .debt ≡ pos (256 * greyTotal r greys)
-  -- no cell is burnt twice, and the burnt cells of the whole map are the holes
-  pub once : (i j : ℕ) → i < j → j < out .holes → getD (out .order) i 0 ≢ getD (out .order) j 0
-  pub all-dots : allDots r (out .serials) ≡ out .holes
-  -- no round, of whatever offset, would make another hole
+  -- 65,280 for each hole, and the debt, are 256 times the sum of the greys (S 15.15)
+  pub debt : pos (oneDot * out .made) +ℤ out .debt ≡ pos (256 * greyTotal r greys)
+  -- no cell is burnt twice (S 15.15), and the burnt cells of the whole map are the holes
+  pub once : (i j : ℕ) → i < j → j < out .made → getD (out .order) i 0 ≢ getD (out .order) j 0
+  pub all-dots : allDots r (out .serials) ≡ out .made
+  -- no round, of whatever offset, would make another hole (S 15.15)
   pub stopped : (t : ℕ) → workAll (kernelOf knit) r run (macroblocks r t) ≡ run
-  -- the same pyramid and the same burnt cells whatever the order within each round
+  -- the same pyramid and the same burnt cells whatever the order within each round (S 15.15)
   pub any-order : (order : ℕ → List Macroblock) → ((t : ℕ) → Reordered (macroblocks r t) (order t))
       → SameBurnt r (twoHeadsIn (kernelOf knit) r order greys) run
-  -- a sound sheet: Drill List prints it wherever there is room
+  -- a sound sheet: Drill List prints it wherever there is room (S 15.15)
   pub sound : Sound r run
   pub listed : (output : List ℕ) → length (drillText r run) ≤ length output
       → drillListByQuarters (out .progress) (out .pyramid) (out .serials) (out .order) output ≡ listedOf r run output

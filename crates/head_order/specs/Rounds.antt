@@ -29,7 +29,7 @@ use Rattle.heads.specs.TwoHeads.{
 use Rattle.integers.specs.Linear.{zz, ints}
 use Rattle.shares.specs.Kernels.{Fit}
 use Rattle.dots.specs.Steps.{Sheet, dot-top}
-use Rattle.guarantee.specs.Demand3.{Each}
+use Rattle.guarantee.specs.PriceList.{Each}
 use Rattle.guarantee.specs.Start.{start-sheet, start-capped}
 use Rattle.head_order.specs.Promise.{Fits}
 use Rattle.head_order.specs.Working.{
@@ -60,6 +60,7 @@ module _ (kernel : Kernel) (r : ℕ) (order : ℕ → List Macroblock) where
   unfolding rounds
   rounds-on fuel t idle s e = rw (e, rounds)
 
+  -- four rounds on end without a hole are the end (S 13.4)
   pub rounds-over : (fuel t idle : ℕ) (s : Halftone) → 4 ≤ idle → rounds kernel r order fuel t idle s ≡ s
   unfolding rounds
   rounds-over zero t idle s h = refl

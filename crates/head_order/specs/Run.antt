@@ -15,7 +15,7 @@ use Rattle.definition.specs.Sound.{Sound}
 use Rattle.heads.specs.TwoHeads.{Macroblock, macroblocks, mostRounds, twoHeadsIn, twoHeads}
 use Rattle.shares.specs.Kernels.{Fit}
 use Rattle.dots.specs.Steps.{Sheet}
-use Rattle.guarantee.specs.Demand3.{Each}
+use Rattle.guarantee.specs.PriceList.{Each}
 use Rattle.guarantee.specs.Start.{start-sheet}
 use Rattle.head_order.specs.Promise.{Reordered, TwoHeads}
 use Rattle.head_order.specs.Working.{Alike, alike-refl}
@@ -55,6 +55,7 @@ module _ (kernel : Kernel) (fit : Fit kernel) (r : ℕ) (four≤ : 4 ≤ r) (gre
       run-any-order kernel fit r four≤ order e (mostRounds r) 0 0 fresh fresh
       (alike-refl kernel fit r four≤ fresh (start-sheet r greys bytes))
 
+  -- what a run leaves (S 15.15)
   pub two-heads : TwoHeads kernel r greys (twoHeads kernel r greys)
   two-heads =
       record {

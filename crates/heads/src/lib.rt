@@ -1,1 +1,1 @@
-// What the laser with two heads does (document 02, request 13), and its plates: definitions only.
+// What the laser with two heads does, `TwoHeads`, and its plates, `Plates`: definitions only.

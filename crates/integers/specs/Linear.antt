@@ -1,6 +1,8 @@
--- Integers by linear arithmetic over naturals: an integer z is `up z − dn z`, two naturals of which one is 0, so that `omega` decides orders and
--- equations of ℤ. `simp zz (omega ints)` proves a linear goal: `zz` turns a statement whose sides are sums, differences and multiples by naturals,
--- `ints` reads such facts among the hypotheses, whose sums are unknowns unless `simp zz at h` has turned them. `_≤ℤ_` binds tighter than `_+ℤ_`.
+-- Integers by linear arithmetic over naturals: an integer z is `up z − dn z`, two naturals of which one is 0, so that
+-- `omega` decides orders and equations of ℤ. `simp zz (omega ints)` proves a linear goal.
+--
+-- `zz` turns a statement whose sides are sums, differences and multiples by naturals, `ints` reads such facts among the
+-- hypotheses, whose sums are unknowns unless `simp zz at h` has turned them. `_≤ℤ_` binds tighter than `_+ℤ_`.
 use mathlib.Core.Path.{_≡_, refl, ap}
 use mathlib.Core.Logic.{_↔_, _⊎_, inl, inr}
 use mathlib.Core.Bool.{true, false, not}
@@ -26,7 +28,9 @@ up-or-dn (pos n) = omega arith
 up-or-dn (negsuc n) = omega arith
 
 sub-is : (a b : ℕ) → up (subℕ a b) + b ≡ a + dn (subℕ a b)
-sub-is a b = cond-both (λ z. up z + b ≡ a + dn z) (ltb a b) (negsuc (b - suc a)) (pos (a - b)) (λ t. omega tests) (λ t. omega tests)
+sub-is a b =
+    cond-both (λ z. up z + b ≡ a + dn z) (ltb a b) (negsuc (b - suc a)) (pos (a - b)) (λ t. omega tests)
+    (λ t. omega tests)
 
 pub add-is : (x y : ℤ) → up (x +ℤ y) + (dn x + dn y) ≡ (up x + up y) + dn (x +ℤ y)
 add-is (pos a) (pos b) = omega arith
@@ -89,7 +93,8 @@ eq-add-up r x y e = omega (arith, eq-up r (x +ℤ y) e, add-is x y)
 pub eq-sub-up : (r x y : ℤ) → r ≡ x +ℤ negℤ y → up r + (dn x + up y) ≡ (up x + dn y) + dn r
 eq-sub-up r x y e = omega (arith, eq-add-up r x (negℤ y) e, up-neg y, dn-neg y)
 
--- ════ tests: `-up` reads one, as `T` or as an equation with true or false; the kit has `leZ-yes`, `ltZ-yes`, `ltZ-no`, and `h .le`, `h .lt` the other way
+-- ════ tests: `-up` reads one, as `T` or as an equation with true or false; the kit has `leZ-yes`, `ltZ-yes`, `ltZ-no`,
+-- and `h .le`, `h .lt` the other way
 
 pub leZ-no : {x y : ℤ} → T (not (leZ x y)) → y <ℤ x
 leZ-no {x = pos a} {y = pos b} t = record { lt = omega tests }
@@ -263,7 +268,9 @@ unfolding mk
 mk-up a b = sub-is a b
 
 pub mk-add : (a b c d : ℕ) → mk a b +ℤ mk c d ≡ mk (a + c) (b + d)
-mk-add a b c d = up-eq (mk a b +ℤ mk c d) (mk (a + c) (b + d)) (omega (arith, mk-up a b, mk-up c d, mk-up (a + c) (b + d), add-is (mk a b) (mk c d)))
+mk-add a b c d =
+    up-eq (mk a b +ℤ mk c d) (mk (a + c) (b + d))
+    (omega (arith, mk-up a b, mk-up c d, mk-up (a + c) (b + d), add-is (mk a b) (mk c d)))
 
 pub mk-neg : (a b : ℕ) → negℤ (mk a b) ≡ mk b a
 mk-neg a b = up-eq (negℤ (mk a b)) (mk b a) (omega (arith, mk-up a b, mk-up b a, up-neg (mk a b), dn-neg (mk a b)))
@@ -273,21 +280,74 @@ mul-is k (pos n) = omega arith
 mul-is k (negsuc n) = omega (arith, up-neg (pos (k * suc n)), dn-neg (pos (k * suc n)))
 
 pub mk-mul : (k a b : ℕ) → pos k *ℤ mk a b ≡ mk (k * a) (k * b)
-mk-mul k a b = up-eq (pos k *ℤ mk a b) (mk (k * a) (k * b)) (omega (arith, mul-is k (mk a b), mk-up (k * a) (k * b), ap (λ (n : ℕ). k * n) (mk-up a b)))
+mk-mul k a b =
+    up-eq (pos k *ℤ mk a b) (mk (k * a) (k * b))
+    (omega (arith, mul-is k (mk a b), mk-up (k * a) (k * b), ap (λ (n : ℕ). k * n) (mk-up a b)))
 
 pub mk-le : (a b c d : ℕ) → LE (mk a b) (mk c d) ↔ (a + d ≤ c + b)
 unfolding LE
-mk-le a b c d = ((λ h. omega (arith, le-up (mk a b) (mk c d) h, mk-up a b, mk-up c d)), (λ h. up-le (mk a b) (mk c d) (omega (arith, mk-up a b, mk-up c d))))
+mk-le a b c d = (
+  (λ h. omega (arith, le-up (mk a b) (mk c d) h, mk-up a b, mk-up c d)),
+  (λ h. up-le (mk a b) (mk c d) (omega (arith, mk-up a b, mk-up c d))),
+)
 
 pub mk-lt : (a b c d : ℕ) → LT (mk a b) (mk c d) ↔ (a + d < c + b)
 unfolding LT
-mk-lt a b c d = ((λ h. omega (arith, lt-up (mk a b) (mk c d) h, mk-up a b, mk-up c d)), (λ h. up-lt (mk a b) (mk c d) (omega (arith, mk-up a b, mk-up c d))))
+mk-lt a b c d = (
+  (λ h. omega (arith, lt-up (mk a b) (mk c d) h, mk-up a b, mk-up c d)),
+  (λ h. up-lt (mk a b) (mk c d) (omega (arith, mk-up a b, mk-up c d))),
+)
 
 pub mk-eq : (a b c d : ℕ) → EQ (mk a b) (mk c d) ↔ (a + d ≡ c + b)
 unfolding EQ
-mk-eq a b c d = ((λ h. omega (arith, eq-up (mk a b) (mk c d) h, mk-up a b, mk-up c d)), (λ h. up-eq (mk a b) (mk c d) (omega (arith, mk-up a b, mk-up c d))))
+mk-eq a b c d = (
+  (λ h. omega (arith, eq-up (mk a b) (mk c d) h, mk-up a b, mk-up c d)),
+  (λ h. up-eq (mk a b) (mk c d) (omega (arith, mk-up a b, mk-up c d))),
+)
 
 -- ════ the two sets
-pub ruleset zz = (z-le, z-lt, z-leZ, z-not-leZ, z-ltZ, z-not-ltZ, z-leZ-true, z-leZ-false, z-ltZ-true, z-ltZ-false, z-eq, rd-add, rd-neg, rd-mul, rd-mul-r, rd-var, mk-add, mk-neg, mk-mul, mk-le, mk-lt, mk-eq)
+pub ruleset zz = (
+  z-le,
+  z-lt,
+  z-leZ,
+  z-not-leZ,
+  z-ltZ,
+  z-not-ltZ,
+  z-leZ-true,
+  z-leZ-false,
+  z-ltZ-true,
+  z-ltZ-false,
+  z-eq,
+  rd-add,
+  rd-neg,
+  rd-mul,
+  rd-mul-r,
+  rd-var,
+  mk-add,
+  mk-neg,
+  mk-mul,
+  mk-le,
+  mk-lt,
+  mk-eq,
+)
 
-pub ruleset ints = (tests, neg-le-up, le-up, lt-up, eq-sub-up, eq-add-up, eq-up, leZ-up, not-leZ-up, ltZ-up, not-ltZ-up, leZ-true-up, leZ-false-up, ltZ-true-up, ltZ-false-up, up-le, up-lt, up-eq)
+pub ruleset ints = (
+  tests,
+  neg-le-up,
+  le-up,
+  lt-up,
+  eq-sub-up,
+  eq-add-up,
+  eq-up,
+  leZ-up,
+  not-leZ-up,
+  ltZ-up,
+  not-ltZ-up,
+  leZ-true-up,
+  leZ-false-up,
+  ltZ-true-up,
+  ltZ-false-up,
+  up-le,
+  up-lt,
+  up-eq,
+)

@@ -1,5 +1,5 @@
--- Loops that test place after place and return false at the first where the test fails: `none` is the start, `turn` one turn, `fails` the end at such a
--- place, `passes` the end past the last one.
+-- Loops that test place after place and return false at the first where the test fails: `none` is the start, `turn` one
+-- turn, `fails` the end at such a place, `passes` the end past the last one.
 use mathlib.Core.Path.{_≡_, sym, _∙_}
 use mathlib.Core.Bool.{Bool, true, false, not}
 use Prim.Native.Nat.{ℕ, _+_, _≤_, _<_}
@@ -33,7 +33,8 @@ module _ {p : ℕ → Bool} {n : ℕ} where
   pub turn : {i : ℕ} {b : Bool} → Held p n i → i < n → b ≡ p i → not b ≡ false → Held p n (i + 1)
   turn {i} h lt e t = record { most = omega arith; so-far = rw (add-one i, allTo-suc i p, h .so-far) (held e t) }
 
-  pub fails : {whole : Bool} {i : ℕ} {b : Bool} → Held p n i → Every whole p n → i < n → b ≡ p i → not b ≡ true → false ≡ whole
+  pub fails : {whole : Bool} {i : ℕ} {b : Bool} → Held p n i → Every whole p n → i < n → b ≡ p i → not b ≡ true
+      → false ≡ whole
   fails {i = i} h w lt e f = sym (w .is ∙ false-T (allTo n p) (not-allTo n p i lt (T-false (p i) (failed e f))))
 
   pub passes : {whole : Bool} {i : ℕ} → Held p n i → Every whole p n → n ≤ i → true ≡ whole

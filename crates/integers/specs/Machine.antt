@@ -1,6 +1,8 @@
--- Signed machine words: a number that fits its width is read back as itself, what `+`, `*`, `/`, casts and comparisons ask for and give. In the
--- proof of a function `simp words (omega machine)` proves a linear need, as `simp zz (omega ints)` does of integers: `words` turns `SFits w z` too, and
--- `machine` reads from each `SFits w z` that the word's number, `toZ w (ofZ w z)`, is z.
+-- Signed machine words: a number that fits its width is read back as itself (`back64`, `of-bits`), what `+`, `*`, `/`,
+-- casts and comparisons ask for and give. In proofs of code `simp words (omega machine)` proves a linear need.
+--
+-- That is as `simp zz (omega ints)` does of integers: `words` turns `SFits w z` too, and `machine` reads from each
+-- `SFits w z` that the word's number, `toZ w (ofZ w z)`, is z.
 use mathlib.Core.Path.{_≡_, sym, ap, _∙_}
 use mathlib.Core.Logic.{_↔_}
 use mathlib.Core.Bool.{Bool, true, false}
@@ -15,7 +17,22 @@ use mir.Val.{Fits, SFits, hbits, bits, toZ, ofZ}
 use mir.Facts.{toZ-ofZ, toZ-pos, sfits-lit}
 use Rattle.definition.specs.Lists.{eqZ}
 use Rattle.integers.specs.Tests.{true-T, false-T, eq-eqZ, ne-neqZ, tests}
-use Rattle.integers.specs.Linear.{up, dn, up-neg, dn-neg, add-is, eq-up, eq-pos-up, natAbs-neg, natAbs-mul, rd, mk, mk-up, zz, ints}
+use Rattle.integers.specs.Linear.{
+  up,
+  dn,
+  up-neg,
+  dn-neg,
+  add-is,
+  eq-up,
+  eq-pos-up,
+  natAbs-neg,
+  natAbs-mul,
+  rd,
+  mk,
+  mk-up,
+  zz,
+  ints,
+}
 
 -- ════ a number that fits
 
@@ -44,20 +61,24 @@ lit64 z t = sfits-lit t
 pub back : (w : Width) (z : ℤ) → SFits w z → up (toZ w (ofZ w z)) + dn z ≡ up z + dn (toZ w (ofZ w z))
 back w z f = eq-up (toZ w (ofZ w z)) z (toZ-ofZ f)
 
-pub back-add : (w : Width) (x y : ℤ) → SFits w (x +ℤ y) → up (toZ w (ofZ w (x +ℤ y))) + (dn x + dn y) ≡ (up x + up y) + dn (toZ w (ofZ w (x +ℤ y)))
+pub back-add : (w : Width) (x y : ℤ) → SFits w (x +ℤ y)
+    → up (toZ w (ofZ w (x +ℤ y))) + (dn x + dn y) ≡ (up x + up y) + dn (toZ w (ofZ w (x +ℤ y)))
 back-add w x y f = omega (arith, add-is x y, back w (x +ℤ y) f)
 
-pub back-sub : (w : Width) (x y : ℤ) → SFits w (x +ℤ negℤ y) → up (toZ w (ofZ w (x +ℤ negℤ y))) + (dn x + up y) ≡ (up x + dn y) + dn (toZ w (ofZ w (x +ℤ negℤ y)))
+pub back-sub : (w : Width) (x y : ℤ) → SFits w (x +ℤ negℤ y)
+    → up (toZ w (ofZ w (x +ℤ negℤ y))) + (dn x + up y) ≡ (up x + dn y) + dn (toZ w (ofZ w (x +ℤ negℤ y)))
 back-sub w x y f = omega (arith, back-add w x (negℤ y) f, up-neg y, dn-neg y)
 
 pub back64 : (z : ℤ) → mag z < 2 ^ 63 → toZ w64 (ofZ w64 z) ≡ z
 back64 z h = toZ-ofZ (ok64 z h)
 
 -- a comparison's flag, said of the numbers themselves; `==` and `!=` compare bits
-pub ltZ-back : {w : Width} {a b : ℤ} {t : Bool} → SFits w a → SFits w b → ltZ (toZ w (ofZ w a)) (toZ w (ofZ w b)) ≡ t → ltZ a b ≡ t
+pub ltZ-back : {w : Width} {a b : ℤ} {t : Bool} → SFits w a → SFits w b → ltZ (toZ w (ofZ w a)) (toZ w (ofZ w b)) ≡ t
+    → ltZ a b ≡ t
 ltZ-back f g e = sym (λ i. ltZ (toZ-ofZ f i) (toZ-ofZ g i)) ∙ e
 
-pub leZ-back : {w : Width} {a b : ℤ} {t : Bool} → SFits w a → SFits w b → leZ (toZ w (ofZ w a)) (toZ w (ofZ w b)) ≡ t → leZ a b ≡ t
+pub leZ-back : {w : Width} {a b : ℤ} {t : Bool} → SFits w a → SFits w b → leZ (toZ w (ofZ w a)) (toZ w (ofZ w b)) ≡ t
+    → leZ a b ≡ t
 leZ-back f g e = sym (λ i. leZ (toZ-ofZ f i) (toZ-ofZ g i)) ∙ e
 
 pub eq-back : {w : Width} {a b : ℤ} → SFits w a → SFits w b → ofZ w a ≡ ofZ w b → a ≡ b
@@ -99,7 +120,8 @@ quot-up x y h k = λ i. quotZ (eq-pos-up x h i) (eq-pos-up y k i)
 pub muldiv : (x y z : ℤ) → pos 0 ≤ℤ x → pos 0 ≤ℤ y → pos 0 ≤ℤ z → quotZ (x *ℤ y) z ≡ pos (up x * up y / up z)
 muldiv x y z h k l = λ i. quotZ (mul-up x y h k i) (eq-pos-up z l i)
 
-pub muldiv-fits : (x y z : ℤ) (m n : ℕ) → natAbs x ≤ m → natAbs y ≤ n → T (ltb (m * n) (2 ^ 63)) → SFits w64 (quotZ (x *ℤ y) z)
+pub muldiv-fits : (x y z : ℤ) (m n : ℕ) → natAbs x ≤ m → natAbs y ≤ n → T (ltb (m * n) (2 ^ 63))
+    → SFits w64 (quotZ (x *ℤ y) z)
 muldiv-fits x y z m n h k t = quot-fits (x *ℤ y) z (m * n) (le-trans (le-of-eq (natAbs-mul x y)) (mul-le-mul h k)) t
 
 -- a divisor that is above 0 has bits above 0
@@ -117,11 +139,14 @@ div-mono {a} {b} k p h = le-div-iff-mul-le p .1 (le-trans (div-mul-le-self a k) 
 pub of-bits : (n : ℕ) → n < 2 ^ 63 → toZ w64 n ≡ pos n
 of-bits n h = toZ-pos w64 h
 
--- `x as u8` and the like of a signed x that is not negative: what the cast asks for, with `64` at u64 and usize, and what it gives
-pub cast-asks : (w : Width) {x : ℤ} → SFits w64 x → pos 0 ≤ℤ x → up x < 2 ^ bits w → T (nonNeg (toZ w64 (ofZ w64 x))) × Fits w (natAbs (toZ w64 (ofZ w64 x)))
+-- `x as u8` and the like of a signed x that is not negative: what the cast asks for, with `64` at u64 and usize, and
+-- what it gives
+pub cast-asks : (w : Width) {x : ℤ} → SFits w64 x → pos 0 ≤ℤ x → up x < 2 ^ bits w
+    → T (nonNeg (toZ w64 (ofZ w64 x))) × Fits w (natAbs (toZ w64 (ofZ w64 x)))
 cast-asks w {x} f h k = rw (toZ-ofZ f, eq-pos-up x h) (tt, record { fits = k })
 
-pub cast-asks64 : {x : ℤ} → SFits w64 x → pos 0 ≤ℤ x → T (nonNeg (toZ w64 (ofZ w64 x))) × Fits w64 (natAbs (toZ w64 (ofZ w64 x)))
+pub cast-asks64 : {x : ℤ} → SFits w64 x → pos 0 ≤ℤ x
+    → T (nonNeg (toZ w64 (ofZ w64 x))) × Fits w64 (natAbs (toZ w64 (ofZ w64 x)))
 cast-asks64 {x} f h = cast-asks w64 f h (omega (arith, fit-hi w64 x f))
 
 pub cast-gives : {x : ℤ} → SFits w64 x → pos 0 ≤ℤ x → natAbs (toZ w64 (ofZ w64 x)) ≡ up x
@@ -138,7 +163,10 @@ z-fit w z = ((λ h. h), (λ h. h))
 
 pub mk-fit : (w : Width) (a b : ℕ) → FIT w (mk a b) ↔ ((a < 2 ^ hbits w + b) × (b ≤ 2 ^ hbits w + a))
 unfolding FIT
-mk-fit w a b = ((λ h. omega (arith, fit-hi w (mk a b) h, fit-lo w (mk a b) h, mk-up a b)), (λ h. up-fit w (mk a b) (omega (arith, mk-up a b)) (omega (arith, mk-up a b))))
+mk-fit w a b = (
+  (λ h. omega (arith, fit-hi w (mk a b) h, fit-lo w (mk a b) h, mk-up a b)),
+  (λ h. up-fit w (mk a b) (omega (arith, mk-up a b)) (omega (arith, mk-up a b))),
+)
 
 pub ruleset words = (zz, z-fit, mk-fit)
 

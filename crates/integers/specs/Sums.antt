@@ -1,5 +1,6 @@
--- Sums f 0 + .. + f (n − 1): `sumTo` in naturals, and `sumZTo` in integers where it is used. A name says how the sum changes with its summands (`add`, `mul`,
--- `ext`, `mono`; with `<` the hypothesis is asked below n only) or with its bound (`none`, `suc`, `split`, `rows`).
+-- Sums f 0 + .. + f (n − 1): `sumTo` in naturals, and `sumZTo` in integers where it is used. A name says how the sum
+-- changes with its summands (`add`, `mul`, `ext`, `mono`; with `<` the hypothesis is asked below n only) or with its
+-- bound (`none`, `suc`, `split`, `rows`).
 use mathlib.Core.Path.{_≡_, refl, sym, ap, _∙_, fun-ext}
 use mathlib.Core.Logic.{_≢_}
 use Prim.Native.Nat.{ℕ, zero, suc, _+_, _*_, _≤_, _<_}
@@ -59,7 +60,8 @@ pub sumTo-bound : (n k : ℕ) (f : ℕ → ℕ) → ((m : ℕ) → m < n → f m
 sumTo-bound n k f h = omega (arith, sumTo-mono< n f (λ m. k) h, sumTo-const n k)
 
 -- two functions that differ at one place only
-pub sumTo-change : (n p : ℕ) (f g : ℕ → ℕ) → p < n → ((m : ℕ) → m < n → m ≢ p → f m ≡ g m) → sumTo n f + g p ≡ sumTo n g + f p
+pub sumTo-change : (n p : ℕ) (f g : ℕ → ℕ) → p < n → ((m : ℕ) → m < n → m ≢ p → f m ≡ g m)
+    → sumTo n f + g p ≡ sumTo n g + f p
 unfolding sumTo
 sumTo-change zero p f g h k = absurd (omega arith)
 sumTo-change (suc n) p f g h k = go (ℕ-discrete p n) (λ q. sumTo-change n p f g q (λ m r. k m (omega arith)))

@@ -1,6 +1,8 @@
--- Tests that compute, as facts: `T b` taken apart and put together, `cond` on a decided test, a test at every place below n (`allTo`, `everyEntry`),
--- equality of integers (`eqZ`), and a test as a number (`bit`). `omega tests` reads and proves `leb`, `ltb` and `eqb`, as `T b`, `T (not b)`, `b ≡ true`
--- and `b ≡ false`. The kit has `T-not`, `not-T`, `leb→le` and the like in lib.Dec, `ltb-true`, `lt-ltb` and the like in borrow.Author.Tests.
+-- Tests that compute, as facts: `T b` taken apart and put together (`T-and`, `and-T`), `cond` on a decided test, a test
+-- at every place below n (`allTo`, `everyEntry`), equality of integers (`eqZ`), and a test as a number (`bit`).
+--
+-- `omega tests` reads and proves `leb`, `ltb` and `eqb`, as `T b`, `T (not b)`, `b ≡ true` and `b ≡ false`. The kit has
+-- `T-not`, `not-T`, `leb→le` and the like in lib.Dec, `ltb-true`, `lt-ltb` and the like in borrow.Author.Tests.
 use mathlib.Core.Path.{_≡_, refl, ap}
 use mathlib.Core.Logic.{_≢_, _⊎_, inl, inr}
 use mathlib.Core.Bool.{Bool, true, false, true≢false, not, cond, _&&_, _||_}
@@ -9,7 +11,20 @@ use native.Mathlib.Decide.{ℕ-discrete}
 use native.Mathlib.Omega.{arith}
 use lib.Dec.{T, T-not, not-T, eqb, leb→le, le→leb, nleb→lt, ltb→lt, lt→ltb, nltb→le, eqb→eq, eqb-refl}
 use lib.Arith.{lt→nleb, le→nltb}
-use borrow.Author.Tests.{ltb-true, ltb-false, leb-true, leb-false, eqb-true, eqb-false, lt-ltb, le-ltb, le-leb, lt-leb, eq-eqb, ne-eqb}
+use borrow.Author.Tests.{
+  ltb-true,
+  ltb-false,
+  leb-true,
+  leb-false,
+  eqb-true,
+  eqb-false,
+  lt-ltb,
+  le-ltb,
+  le-leb,
+  lt-leb,
+  eq-eqb,
+  ne-eqb,
+}
 use lib.IntN.{ℤ, pos, negsuc}
 use lib.Signed.{leZ, ≤ℤ-refl}
 use Rattle.definition.specs.Lists.{allTo, eqZ}
@@ -95,7 +110,33 @@ neqb→ne m n t e = T-not (eqb m n) t (eq→eqb m n e)
 pub ne→neqb : (m n : ℕ) → m ≢ n → T (not (eqb m n))
 ne→neqb m n h = not-T (eqb m n) (λ t. h (eqb→eq m n t))
 
-pub ruleset tests = (arith, leb→le, ltb→lt, nleb→lt, nltb→le, eqb→eq, neqb→ne, leb-true, ltb-true, leb-false, ltb-false, eqb-true, eqb-false, le→leb, lt→ltb, lt→nleb, le→nltb, eq→eqb, ne→neqb, le-leb, lt-ltb, lt-leb, le-ltb, eq-eqb, ne-eqb)
+pub ruleset tests = (
+  arith,
+  leb→le,
+  ltb→lt,
+  nleb→lt,
+  nltb→le,
+  eqb→eq,
+  neqb→ne,
+  leb-true,
+  ltb-true,
+  leb-false,
+  ltb-false,
+  eqb-true,
+  eqb-false,
+  le→leb,
+  lt→ltb,
+  lt→nleb,
+  le→nltb,
+  eq→eqb,
+  ne→neqb,
+  le-leb,
+  lt-ltb,
+  lt-leb,
+  le-ltb,
+  eq-eqb,
+  ne-eqb,
+)
 
 -- ════ cond
 

@@ -27,11 +27,17 @@ module _ (f : ℕ → ℕ) where
   pub none : (m : ℕ) → Total (sumTo 0 f) (0 * m) 0
   none m = record { is = omega (arith, sumTo-none f); small = omega arith }
 
-  pub turn : (n m : ℕ) {acc v : ℕ} → Total (sumTo n f) (n * m) acc → Total (f n) m v → Total (sumTo (n + 1) f) ((n + 1) * m) (acc + v)
-  turn n m h k = record { is = rw (add-one n) (omega (arith, sumTo-suc n f, h .is, k .is)); small = omega (arith, h .small, k .small) }
+  pub turn : (n m : ℕ) {acc v : ℕ} → Total (sumTo n f) (n * m) acc → Total (f n) m v
+      → Total (sumTo (n + 1) f) ((n + 1) * m) (acc + v)
+  turn n m h k =
+      record {
+        is = rw (add-one n) (omega (arith, sumTo-suc n f, h .is, k .is));
+        small = omega (arith, h .small, k .small);
+      }
 
   -- after `count` turns, with room for `most`
-  pub whole : (n m count : ℕ) {most acc : ℕ} → n ≤ count → count ≤ n → count * m ≤ most → Total (sumTo n f) (n * m) acc → Total (sumTo count f) most acc
+  pub whole : (n m count : ℕ) {most acc : ℕ} → n ≤ count → count ≤ n → count * m ≤ most → Total (sumTo n f) (n * m) acc
+      → Total (sumTo count f) most acc
   whole n m count {acc = acc} p q r h =
       let e : n ≡ count = omega arith in
       let t : Total (sumTo count f) (count * m) acc = rw e at h in
@@ -69,4 +75,5 @@ module _ {a : ℤ} {m : ℕ} {z : ℤ} (h : TotalZ a m z) (t : T (ltb (m * m) (2
 
   pub square-read : Total (squared a) (m * m) (natAbs (toZ w64 (ofZ w64 (z *ℤ z))))
   unfolding squared
-  square-read = rw (toZ-ofZ square-fits, square-natAbs z) (record { is = rw (h .is); small = mul-le-mul (h .small) (h .small) })
+  square-read =
+      rw (toZ-ofZ square-fits, square-natAbs z) (record { is = rw (h .is); small = mul-le-mul (h .small) (h .small) })

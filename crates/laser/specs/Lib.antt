@@ -1,3 +1,3 @@
-pub mod Asked
+pub mod SheetLent
 pub mod Running
-pub mod Calls
+pub mod WaysOut

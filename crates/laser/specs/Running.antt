@@ -1,5 +1,5 @@
--- The run on the parts of just the needed lengths: n and c are what the code has worked out for the needed length and
--- the number of cells.
+-- The run on the parts of just the needed lengths (`ran-is`): n and c are what the code has worked out for the needed
+-- length and the number of cells.
 use mathlib.Core.Path.{_≡_, sym, ap, _∙_}
 use mathlib.Core.List.{List, _++_}
 use Prim.Native.Nat.{ℕ, _^_, _≤_, _<_}
@@ -19,8 +19,8 @@ use Rattle.quadtree.specs.Levels.{start-suc}
 use Rattle.layouts.specs.Relaid.{quarters-back}
 use Rattle.layouts.specs.Lent.{rows-taken}
 use Rattle.dot_run.specs.Running.{top-rows}
-use Rattle.macroblock.specs.Asked.{LargeSheet}
-use Rattle.laser.specs.Asked.{sheetOf, SheetLent, runOf, ranOf}
+use Rattle.macroblock.specs.FourBlocks.{LargeSheet}
+use Rattle.laser.specs.SheetLent.{sheetOf, SheetLent, runOf, ranOf}
 
 module _ {r : ℕ} (p : List ℤ) (s o : List ℕ) (h : SheetLent r p s o)
     {n c : ℕ} (en : n ≡ needed r) (ec : c ≡ cellCount r) where
@@ -47,8 +47,8 @@ module _ {r : ℕ} (p : List ℤ) (s o : List ℕ) (h : SheetLent r p s o)
   pub large : LargeSheet r lent
   large = record { least = h .least; most = h .most; sheet = rw lent-is (h .sheet) }
 
-  module _ (knit : ℕ) {holes : ℕ} (p′ : List ℤ) {s′ o′ : List ℕ} (long : length p′ ≡ length (take n p))
-      (ran : record { pyramid = rowsFrom r p′; serials = s′; order = o′; dots = holes } ≡ runOf knit r lent) where
+  module _ (knit : ℕ) {made : ℕ} (p′ : List ℤ) {s′ o′ : List ℕ} (long : length p′ ≡ length (take n p))
+      (ran : record { pyramid = rowsFrom r p′; serials = s′; order = o′; dots = made } ≡ runOf knit r lent) where
     big : 2 ≤ 2 ^ r
     big = pow-mono {i = 1} {j = r} (omega (arith, h .least))
 
@@ -62,20 +62,20 @@ module _ {r : ℕ} (p : List ℤ) (s o : List ℕ) (h : SheetLent r p s o)
     top-is = List·getD-append p′ (drop n p) (pos 0) 0 top-in ∙ sym (top-rows r p′)
 
     run-is : runOf knit r (sheetOf r p s o)
-        ≡ record { pyramid = rowsFrom r p′; serials = s′; order = o′; dots = holes }
+        ≡ record { pyramid = rowsFrom r p′; serials = s′; order = o′; dots = made }
     run-is = ap (runOf knit r) (sym lent-is) ∙ sym ran
 
     pub ran-is : (side : ℕ) {a : TwoHeadsAnswer} (top : ℤ) → top ≡ getD (p′ ++ drop n p) 0 (pos 0)
         → a
         ≡ record {
-          progress = record { side = side; dots = holes; knit = knit };
-          holes = holes;
+          progress = record { side = side; dots = made; knit = knit };
+          made = made;
           debt = top;
           status = Stopped;
         }
         → record {
           progress = a .progress;
-          holes = a .holes;
+          made = a .made;
           debt = a .debt;
           said = twoHeadsSays (a .status);
           pyramid = p′ ++ drop n p;

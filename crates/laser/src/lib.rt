@@ -1,5 +1,5 @@
-// The laser with two heads (document 02, request 13): Load, then rounds of macroblocks until four in a row have made no
-// hole. Of the engine it sees the contracts alone.
+// The laser with two heads (`two_heads`): Load, then rounds of macroblocks until four in a row have made no hole. Of
+// the engine it sees the contracts alone.
 use checks::Check;
 use definition::LoadStatus;
 use definition::Progress;
@@ -13,9 +13,10 @@ ghost use Rattle.definition.specs.Answers.{twoHeadsSays};
 ghost use Rattle.definition.specs.Refusals.{sideUnknown, sideSmall, knitUnknown, lowest};
 ghost use Rattle.heads.specs.TwoHeads.{twoHeadsByQuarters};
 ghost use Rattle.checks.specs.Checks.{checked};
-ghost use Rattle.laser.specs.Asked.{SheetLent, ranOf};
+ghost use Rattle.laser.specs.SheetLent.{SheetLent, ranOf};
 
-// The checks up to the knit: 1, then 14 for a side that has no room for macroblocks, then 11. The others are Load's.
+// The checks up to the knit (S 5.2): 1, then 14 for a side that has no room for macroblocks, then 11. The others are
+// Load's.
 fn check_side(r: usize, side: u32, knit: u32) -> Check
     ensures { λ c. ⌜ checked c ≡ lowest (sideUnknown r ∷ sideSmall side ∷ knitUnknown knit ∷ []) ⌝ }
 {
@@ -36,7 +37,7 @@ fn refused(why: Refusal) -> TwoHeadsAnswer
         a
         ≡ record {
           progress = record { side = 0; dots = 0; knit = 0 };
-          holes = 0;
+          made = 0;
           debt = pos 0;
           status = TwoHeadsStatus.Refused why;
         }
@@ -49,18 +50,18 @@ fn refused(why: Refusal) -> TwoHeadsAnswer
             dots: none,
             knit: none,
         },
-        holes: none,
+        made: none,
         debt: 0,
         status: TwoHeadsStatus::Refused(why),
     }
 }
 
-fn stopped(side: u32, knit: u32, holes: u32, debt: i64) -> TwoHeadsAnswer
+fn stopped(side: u32, knit: u32, made: u32, debt: i64) -> TwoHeadsAnswer
     ensures { λ a. ⌜
         a
         ≡ record {
-          progress = record { side = side; dots = holes; knit = knit };
-          holes = holes;
+          progress = record { side = side; dots = made; knit = knit };
+          made = made;
           debt = debt;
           status = TwoHeadsStatus.Stopped;
         }
@@ -69,10 +70,10 @@ fn stopped(side: u32, knit: u32, holes: u32, debt: i64) -> TwoHeadsAnswer
     TwoHeadsAnswer {
         progress: Progress {
             side,
-            dots: holes,
+            dots: made,
             knit,
         },
-        holes,
+        made,
         debt,
         status: TwoHeadsStatus::Stopped,
     }
@@ -91,7 +92,7 @@ fn run_sheet(
     ensures { λ a. ⌜
         record {
           progress = a .progress;
-          holes = a .holes;
+          made = a .made;
           debt = a .debt;
           said = twoHeadsSays (a .status);
           pyramid = now (pyramid .exit);
@@ -104,7 +105,7 @@ fn run_sheet(
     let needed = sizes::needed(r);
     let cells = sizes::cell_count(r);
     let table = places::table();
-    let holes = rounds::run(
+    let made = rounds::run(
         &mut pyramid[..needed],
         &mut serials[..cells],
         &mut order[..cells],
@@ -112,10 +113,11 @@ fn run_sheet(
         knit,
         r,
     );
-    stopped(side, knit, holes, pyramid[0])
+    stopped(side, knit, made, pyramid[0])
 }
 
-// Two Heads: fills the buffers as Load does, and runs to the end.
+// Two Heads (S 13.5): fills the buffers as Load does, and runs to the end. What is promised of it (S 15.15) is the law
+// `heads-hold` of `head_order`.
 pub fn two_heads(
     side: u32,
     knit: u32,
@@ -127,7 +129,7 @@ pub fn two_heads(
     ensures { λ a. ⌜
         record {
           progress = a .progress;
-          holes = a .holes;
+          made = a .made;
           debt = a .debt;
           said = twoHeadsSays (a .status);
           pyramid = now (pyramid .exit);

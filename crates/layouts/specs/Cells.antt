@@ -1,5 +1,5 @@
 -- One level by quarters, written row after row; and the levels of a pyramid one by one: what is read and stored at an
--- entry's place is read and stored at its place row after row.
+-- entry's place is read and stored at its place row after row (`rows-in`, `rows-set`, `rows-cells`).
 use mathlib.Core.Path.{_≡_, refl, sym, ap, ap₂, _∙_}
 use mathlib.Core.List.{List, _++_}
 use Prim.Native.Nat.{ℕ, zero, suc, _+_, _*_, _^_, _≤_, _<_}

@@ -1,5 +1,5 @@
--- A level by quarters that is filled cell by cell, in the order of rows: a store at the place of cell i is, in the
--- level written row after row, a store at i.
+-- A level by quarters that is filled cell by cell, in the order of rows (`Filling`): a store at the place of cell i is,
+-- in the level written row after row, a store at i (`one-filled`, `all-filled`).
 use mathlib.Core.Path.{_≡_, sym, ap, _∙_}
 use mathlib.Core.List.{List}
 use Prim.Native.Nat.{ℕ, _+_, _*_, _/_, _%_, _^_, _≤_, _<_}

@@ -1,5 +1,5 @@
--- Laws of interleaved places: each entry has one place, and each place one entry; the four below; larger levels from
--- the table.
+-- Laws of interleaved places: each entry has one place (`row-interleaved`, `column-interleaved`), and each place one
+-- entry (`interleaved-of`); the four below (`quarter`); larger levels from the table (`interleaved-larger`).
 use mathlib.Core.Path.{_≡_, refl, sym, ap, ap₂, _∙_}
 use Prim.Native.Nat.{ℕ, zero, suc, _+_, _*_, _-_, _/_, _%_, _^_, _≤_, _<_}
 use native.Mathlib.Omega.{arith}
@@ -9,7 +9,7 @@ use lib.Arith.{mod-mul}
 use Rattle.definition.specs.Quarters.{interleaved, rowOf, columnOf}
 
 -- ---- one bit more
--- the four below (a, b)
+-- the four below (a, b) (S 2.5)
 pub quarter : (k a b i j : ℕ) → i < 2 → j < 2
     → interleaved (suc k) (2 * a + i) (2 * b + j) ≡ 4 * interleaved k a b + (2 * i + j)
 unfolding interleaved
@@ -44,6 +44,7 @@ column-interleaved (suc k) a b h =
     let y : place % 2 ≡ b % 2 = omega arith in
     rw (z, y) (omega (arith, column-interleaved k (a / 2) (b / 2) (omega (arith, pow-succ' 2 k))))
 
+-- each place has its entry (S 15.14)
 pub interleaved-of : (k i : ℕ) → i < 2 ^ k * 2 ^ k → interleaved k (rowOf k i) (columnOf k i) ≡ i
 unfolding interleaved rowOf columnOf
 interleaved-of zero i h = omega arith
@@ -104,8 +105,8 @@ interleaved-any k a b h p q =
     let e : 8 ≡ k + (8 - k) = omega arith in
     ap (λ (n : ℕ). interleaved n a b) e ∙ interleaved-more k (8 - k) a b p q
 
--- How one table goes on to larger levels: five bits of a and b give the place within a square of 1,024 entries, and
--- the bits above them say which square it is (document 02, request 10).
+-- How one table goes on to larger levels (S 2.5): five bits of a and b give the place within a square of 1,024 entries,
+-- and the bits above them say which square it is.
 pub interleaved-larger : (a b : ℕ) → a < 256 → b < 256
     → interleaved 8 a b ≡ 1024 * interleaved 5 (a / 32) (b / 32) + interleaved 5 (a % 32) (b % 32)
 interleaved-larger a b p q =

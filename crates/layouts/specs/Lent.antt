@@ -1,5 +1,6 @@
--- A lent pyramid in one layout and in the other: `asRows` and `asQuarters` undo each other on every list; its length
--- stays, and so does what lies past the needed length.
+-- A lent pyramid in one layout and in the other: `asRows` and `asQuarters` undo each other on every list
+-- (`rows-quarters`, `quarters-rows`); its length stays, and so does what lies past the needed length (`rows-length`,
+-- `rows-drop`).
 use mathlib.Core.Path.{_≡_, refl, sym, ap, ap₂, _∙_}
 use mathlib.Core.Bool.{Bool, true, false}
 use mathlib.Core.List.{List, _++_}
@@ -122,6 +123,7 @@ module _ (r : ℕ) (pyramid : List ℤ) where
   unfolding asQuarters
   as-quarters-take h = relaid-take quartersFrom r pyramid (length-quarters r) h
 
+  -- what lies past the needed length stays (S 2.9)
   pub rows-drop : drop (needed r) (asRows r pyramid) ≡ drop (needed r) pyramid
   unfolding asRows
   rows-drop = relaid-drop rowsFrom r pyramid (length-rows r)

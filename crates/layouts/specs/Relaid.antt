@@ -1,5 +1,5 @@
--- A pyramid in one layout and in the other: the same entries, and there and back the same pyramid. Said once, over any
--- layout that gives each entry of a level one place of it.
+-- A pyramid in one layout and in the other: the same entries (`rows-entry`), and there and back the same pyramid
+-- (`rows-back`, `quarters-back`). Said once, over any `Layout` that gives each entry of a level one place of it.
 use mathlib.Core.Path.{_≡_, refl, sym, ap, ap₂, _∙_}
 use mathlib.Core.List.{List, _++_}
 use Prim.Native.Nat.{ℕ, zero, suc, _+_, _*_, _-_, _^_, _≤_, _<_}
@@ -49,6 +49,7 @@ pub record Layout (place : ℕ → ℕ → ℕ → ℕ) (row column : ℕ → �
   pub row-in : (k i : ℕ) → i < 2 ^ k * 2 ^ k → row k i < 2 ^ k
   pub column-in : (k i : ℕ) → i < 2 ^ k * 2 ^ k → column k i < 2 ^ k
 
+-- row after row (S 2.6)
 pub by-rows : Layout placeIn rowAt columnAt
 by-rows =
     record {
@@ -60,6 +61,7 @@ by-rows =
       column-in = λ k i lt. column-lt k i;
     }
 
+-- by quarters (S 2.5): each place of a level has one entry (S 15.14)
 pub by-quarters : Layout interleaved rowOf columnOf
 by-quarters =
     record {
@@ -186,7 +188,7 @@ pub length-quarters : (r : ℕ) (pyramid : List ℤ) → length (quartersFrom r 
 unfolding quartersFrom quarterLevel
 length-quarters r pyramid = length-levels interleaved rowOf columnOf by-quarters (entry pyramid) (suc r)
 
--- and back: no entry is lost, no place is left out
+-- and back: no entry is lost, no place is left out (S 15.14)
 pub rows-back : (r : ℕ) (pyramid : List ℤ) → length pyramid ≡ needed r
     → rowsFrom r (quartersFrom r pyramid) ≡ pyramid
 unfolding rowsFrom levelOf entry

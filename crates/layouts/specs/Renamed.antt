@@ -1,5 +1,6 @@
--- Every call answers as it did row after row, places renamed: lent a pyramid that was written by quarters, it leaves
--- what the call by rows leaves, written by quarters, and the same otherwise. For every input, refused ones too.
+-- Every call answers as it would row after row, places renamed: lent a pyramid that was written by quarters, it leaves
+-- what the call by rows leaves, written by quarters, and the same otherwise; for every input, refused ones too
+-- (`load-renamed`, `advance-renamed`, `drill-list-renamed`, `restore-renamed`, `renewal-renamed`).
 use mathlib.Core.Path.{_≡_, ap}
 use mathlib.Core.Bool.{Bool}
 use mathlib.Core.List.{List}
@@ -54,6 +55,7 @@ restoreRenamed r out =
       order = out .order;
     }
 
+-- Load (S 15.14)
 pub load-renamed : (side knit : ℕ) (greys : List ℕ) (pyramid : List ℤ) (serials order : List ℕ)
     → let r = powerOf side in
     loadByQuarters side knit greys (asQuarters r pyramid) serials order
@@ -63,6 +65,7 @@ load-renamed side knit greys pyramid serials order =
     ap (λ (p : List ℤ). loadRenamed (powerOf side) (loadOf side knit greys p serials order))
     (rows-quarters (powerOf side) pyramid)
 
+-- Advance (S 15.14)
 pub advance-renamed : (progress : Progress) (budget : ℕ) (pyramid : List ℤ) (serials order : List ℕ)
     → let r = powerOf (progress .side) in
     advanceByQuarters progress budget (asQuarters r pyramid) serials order
@@ -72,6 +75,7 @@ advance-renamed progress budget pyramid serials order =
     ap (λ (p : List ℤ). advanceRenamed (powerOf (progress .side)) (advanceOf progress budget p serials order))
     (rows-quarters (powerOf (progress .side)) pyramid)
 
+-- Drill List (S 15.14)
 pub drill-list-renamed : (progress : Progress) (pyramid : List ℤ) (serials order output : List ℕ)
     → drillListByQuarters progress (asQuarters (powerOf (progress .side)) pyramid) serials order output
     ≡ drillListOf progress pyramid serials order output
@@ -80,6 +84,7 @@ drill-list-renamed progress pyramid serials order output =
     ap (λ (p : List ℤ). drillListOf progress p serials order output)
     (rows-quarters (powerOf (progress .side)) pyramid)
 
+-- Restore (S 15.14)
 pub restore-renamed :
     (progress : Progress) (checkpoints : Checkpoints) (name : ℕ)
     (greys : List ℕ) (pyramid : List ℤ) (serials order : List ℕ)
@@ -92,6 +97,7 @@ restore-renamed progress checkpoints name greys pyramid serials order =
     restoreRenamed (powerOf (progress .side)) (restoreOf progress checkpoints name greys p serials order))
     (rows-quarters (powerOf (progress .side)) pyramid)
 
+-- the renewal by itself (S 15.14)
 pub renewal-renamed : (side row column : ℕ) (pyramid : List ℤ)
     → let r = powerOf side in
     let out = renewalOf side row column pyramid in

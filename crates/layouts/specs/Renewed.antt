@@ -1,5 +1,5 @@
 -- The renewal on a pyramid by quarters, said by place: the entry at place i is over the places 4i to 4i + 3 of the next
--- finer level. Written row after row, it is the definition's renewal.
+-- finer level. Written row after row, it is the definition's renewal (`rows-renewed`).
 use mathlib.Core.Path.{_≡_, refl, sym, ap, ap₂, _∙_}
 use mathlib.Core.Bool.{Bool, cond, _||_}
 use mathlib.Core.List.{List, _++_}

@@ -1,5 +1,6 @@
 -- The pyramid over cells that lie by quarters: the entry at place i of a level is the sum of those at the places 4i to
--- 4i + 3 of the next finer one. Row after row, it is the definition's pyramid over these cells row after row.
+-- 4i + 3 of the next finer one (`four-places`). Row after row, it is the definition's pyramid over these cells
+-- (`rows-over`).
 use mathlib.Core.Path.{_≡_, refl, sym, ap, ap₂, _∙_}
 use mathlib.Core.List.{List, _++_}
 use Prim.Native.Nat.{ℕ, zero, suc, _+_, _*_, _^_, _≤_, _<_}

@@ -1,4 +1,5 @@
--- Load's two ways out: refused, with nothing changed, and loaded. Either is told of the pyramid row after row first.
+-- Load's two ways out: refused, with nothing changed (`refused-is`), and loaded (`loaded-is`). Either is told of the
+-- pyramid row after row first.
 use mathlib.Core.Path.{_≡_, _∙_}
 use mathlib.Core.Bool.{Bool}
 use mathlib.Core.List.{List, _++_}
@@ -22,7 +23,7 @@ use Rattle.layouts.specs.Lent.{rows-length, rows-drop, as-quarters-part, quarte
 use Rattle.checks.specs.Checks.{checked, passed-none, failed-number}
 use Rattle.checks.specs.declared.Check.{Check}
 use Rattle.checks.specs.declared.Check.the-variants.{Passed, Failed}
-use Rattle.pyramid.specs.Asked.{freshPyramid}
+use Rattle.pyramid.specs.PyramidPart.{freshPyramid}
 use Rattle.pyramid.specs.Fresh.{fresh-length}
 use Rattle.fresh_sheet.specs.Filling.{FillLent, fill-lent, Filled}
 

@@ -1,4 +1,5 @@
-// Load: the pyramid summed from the greys, by quarters, the two other buffers cleared, and the record (side, 0, knit).
+// Load (`load`): the pyramid summed from the greys, by quarters, the two other buffers cleared, and the record (side,
+// 0, knit).
 use checks::Check;
 use definition::LoadAnswer;
 use definition::LoadStatus;
@@ -18,6 +19,7 @@ fn answer(side: u32, knit: u32, status: LoadStatus) -> LoadAnswer
     }
 }
 
+// Load (S 7.1, S 7.2), with its checks in order (S 5.2) and the record (S 2.8).
 pub fn load(
     side: u32,
     knit: u32,

@@ -1,4 +1,5 @@
--- The two loops over greys: what is left to test, and what is lowered so far.
+-- The two loops over greys: what is left to test (`all-low`), and what is lowered so far (`one-lowered`,
+-- `all-lowered`).
 use mathlib.Core.Path.{_≡_, refl, sym, ap, _∙_}
 use mathlib.Core.Bool.{true, false}
 use mathlib.Core.List.{List, [], _∷_, _++_, append-nil}

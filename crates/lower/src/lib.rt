@@ -1,9 +1,9 @@
-// Greys that are too high for a map (document 02, request 11): the test for them, and the lowering of them.
+// Greys that are too high for a map: the test for them (`none_high`), and the lowering of them (`lower`).
 ghost use mathlib.Core.Path.{_≡_};
 ghost use Prim.Native.Nat.{min};
 ghost use Rattle.definition.specs.Lowering.{noneHigh, lowered};
 
-// Whether no grey is above 240.
+// Whether no grey is above 240 (S 2.2).
 pub fn none_high(greys: &[u8]) -> bool
     ensures { λ b. ⌜ b ≡ noneHigh (now (greys .entry)) ⌝ }
 {
@@ -27,7 +27,7 @@ fn low(grey: u8) -> u8
     grey
 }
 
-// Lowers each grey above 240 to 240.
+// Lowers each grey above 240 to 240 (S 12.4).
 pub fn lower(greys: &mut [u8])
     ensures { λ _. ⌜ now (greys .exit) ≡ lowered (now (greys .entry)) ⌝ }
 {

@@ -1,5 +1,5 @@
--- Greys of at most 240 (document 02, request 11): a list has none above it exactly if each of its places has none, and
--- lowered greys are such a list, as long as before, and the same where nothing was too high.
+-- Greys of at most 240: a list has none above it just if each of its places has none (`low-at`, `at-low`), and lowered
+-- greys are such a list (`lowered-low`), as long as before, and the same where nothing was too high (`lowered-same`).
 use mathlib.Core.Path.{_≡_, refl, sym, ap₂}
 use mathlib.Core.Bool.{Bool, true, false, true≢false, _&&_}
 use mathlib.Core.List.{List, [], _∷_}
@@ -18,6 +18,7 @@ first-low grey greys e = go (leb grey 240) refl e
     go true f e = (leb-true grey 240 f, e)
     go false f e = absurd (true≢false (sym e))
 
+-- a list of low greys has no grey above 240 (S 2.2)
 pub low-at : (greys : List ℕ) → noneHigh greys ≡ true → (i : ℕ) → i < length greys → getD greys i 0 ≤ 240
 low-at [] e i h = absurd (omega arith)
 low-at (grey ∷ greys) e zero h = first-low grey greys e .0
@@ -33,11 +34,13 @@ pub lowered-length : (greys : List ℕ) → length (lowered greys) ≡ length gr
 unfolding lowered
 lowered-length greys = length-map greys (λ grey. min grey 240)
 
+-- they are low (S 12.4)
 pub lowered-low : (greys : List ℕ) → noneHigh (lowered greys) ≡ true
 unfolding lowered noneHigh
 lowered-low [] = refl
 lowered-low (grey ∷ greys) = rw (le-leb (min grey 240) 240 (omega arith)) (lowered-low greys)
 
+-- and low ones stay as they are (S 12.4)
 pub lowered-same : (greys : List ℕ) → noneHigh greys ≡ true → lowered greys ≡ greys
 unfolding lowered
 lowered-same [] e = refl

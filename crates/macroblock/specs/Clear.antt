@@ -1,4 +1,4 @@
--- The rim, as the code tests it.
+-- The rim, as the code tests it (`both-clear`, `not-clear`).
 use mathlib.Core.Path.{_≡_, refl}
 use mathlib.Core.Bool.{Bool, true, false, not, _&&_, _||_}
 use Prim.Native.Nat.{ℕ, _+_, _*_, _^_}

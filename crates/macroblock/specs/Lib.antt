@@ -1,4 +1,4 @@
-pub mod Asked
+pub mod FourBlocks
 pub mod Owing
 pub mod Clear
 pub mod Work

@@ -1,4 +1,4 @@
--- The four blocks of a macroblock as the code reads them: their sum, and the one that owes most.
+-- The four blocks of a macroblock as the code reads them (`block-is`): their sum, and the one that owes most (`seen`).
 use mathlib.Core.Path.{_≡_, refl, ap, ap₂, _∙_}
 use mathlib.Core.Bool.{Bool, true, false, cond}
 use mathlib.Core.List.{List}
@@ -21,10 +21,18 @@ use Rattle.integers.specs.Machine.{ltZ-back, words, machine}
 use Rattle.quadtree.specs.Levels.{start-suc, start-mono}
 use Rattle.layouts.specs.Interleaved.{interleaved-lt, interleaved-any}
 use Rattle.layouts.specs.Relaid.{rows-entry}
-use Rattle.pyramid.specs.Asked.{Within}
+use Rattle.pyramid.specs.PyramidPart.{Within}
 use Rattle.pyramid.specs.Four.{FourFit}
 use Rattle.macroblock.specs.declared.Block.{Block}
-use Rattle.macroblock.specs.Asked.{BlockAsked, MacroblockAsked, SmallSums, blockOf, betterOf, largestOf, Seen}
+use Rattle.macroblock.specs.FourBlocks.{
+  BlockAsked,
+  MacroblockAsked,
+  SmallSums,
+  blockOf,
+  betterOf,
+  largestOf,
+  Seen,
+}
 
 -- ---- one block, read at its place
 module _ (p : List ℤ) (r a b : ℕ) (h : BlockAsked p r a b) where

@@ -1,4 +1,5 @@
--- A macroblock worked by the code: idle where it owes too little or comes to a cell on its rim, else the cell burnt.
+-- A macroblock worked by the code: idle where it owes too little (`little-idle`) or comes to a cell on its rim
+-- (`rim-idle`), else the cell burnt (`burnt`).
 use mathlib.Core.Path.{_≡_, refl, sym, ap, _∙_}
 use mathlib.Core.Bool.{Bool, true, false, not, _&&_}
 use mathlib.Core.List.{List}
@@ -30,11 +31,11 @@ use Rattle.head_order.specs.Working.{
   burned-sheet,
   burned-dots,
 }
-use Rattle.pyramid.specs.Asked.{SmallPyramid}
-use Rattle.descent.specs.Asked.{DescentAsked}
-use Rattle.dot.specs.Asked.{PlaceAtAsked}
-use Rattle.dot.specs.Placed.{pyramid-small}
-use Rattle.macroblock.specs.Asked.{MacroblockAsked, LargeSheet, Seen}
+use Rattle.pyramid.specs.PyramidPart.{SmallPyramid}
+use Rattle.descent.specs.Candidates.{DescentAsked}
+use Rattle.place_dot.specs.DotDue.{PlaceAtAsked}
+use Rattle.place_dot.specs.Placed.{pyramid-small}
+use Rattle.macroblock.specs.FourBlocks.{MacroblockAsked, LargeSheet, Seen}
 
 -- a test that the code turns round
 not-so : (t : Bool) → not t ≡ true → t ≡ false

@@ -1,6 +1,6 @@
 // A macroblock of the laser with two heads: four blocks of 4 by 4 cells, which are entries of level r − 2 of the
-// pyramid. It goes by the row and the column, on that level, of its top left block. The pyramid lies by quarters; what
-// is read of it is said of the pyramid written row after row.
+// pyramid (`work`). It goes by the row and the column, on that level, of its top left block. The pyramid lies by
+// quarters; what is read of it is said of the pyramid written row after row.
 ghost use mathlib.Core.Path.{_≡_};
 ghost use mathlib.Core.Bool.{_&&_};
 ghost use Prim.Native.Nat.{_≤_, _<_};
@@ -13,8 +13,8 @@ ghost use Rattle.definition.specs.Diffusion.{kernelOf};
 ghost use Rattle.places.specs.Table.{places};
 ghost use Rattle.heads.specs.TwoHeads.{clear, work};
 ghost use Rattle.head_order.specs.Promise.{Fits};
-ghost use Rattle.macroblock.specs.Asked.{BlockAsked, MacroblockAsked, LargeSheet, SmallSums};
-ghost use Rattle.macroblock.specs.Asked.{blockOf, betterOf, largestOf, Seen};
+ghost use Rattle.macroblock.specs.FourBlocks.{BlockAsked, MacroblockAsked, LargeSheet, SmallSums};
+ghost use Rattle.macroblock.specs.FourBlocks.{blockOf, betterOf, largestOf, Seen};
 
 // From this sum on a macroblock burns a cell.
 const HALF_DOT: i64 = 32640;
@@ -78,7 +78,7 @@ fn is_due(first: i64, second: i64, third: i64, fourth: i64) -> bool
     HALF_DOT <= first + second + third + fourth
 }
 
-// Whether macroblock (a, b) owes enough, and which of its blocks owes most. Each block is read once.
+// Whether macroblock (a, b) owes enough, and which of its blocks owes most (S 13.2). Each block is read once.
 fn debt_of(pyramid: &[i64], table: &[u16; 1024], r: usize, a: usize, b: usize) -> Debt
     requires { ⌜ MacroblockAsked (now pyramid) r a b ⌝ }
     requires { ⌜ now table ≡ places ⌝ }
@@ -120,7 +120,7 @@ fn is_clear(r: usize, a: usize, x: usize) -> bool
     true
 }
 
-// Whether a cell of macroblock (a, b) lies clear of its rim, by its row and by its column.
+// Whether a cell of macroblock (a, b) lies clear of its rim (S 13.3), by its row and by its column.
 fn lies_clear(r: usize, a: usize, b: usize, row: usize, column: usize) -> bool
     requires { ⌜ (r ≤ 8) × (a < 256) × (b < 256) ⌝ }
     ensures { λ t. ⌜ t ≡ (clear r a row && clear r b column) ⌝ }
@@ -132,7 +132,8 @@ fn lies_clear(r: usize, a: usize, b: usize, row: usize, column: usize) -> bool
 }
 
 // Works macroblock (a, b) of a sound sheet of just the needed lengths, on cloth of a knit: where it owes half a dot or
-// more, and the cell that it comes to lies clear of its rim, that cell is burnt. Returns the dots made by then.
+// more (S 13.2), and the cell that it comes to lies clear of its rim (S 13.3), that cell is burnt. Returns the dots
+// made by then.
 pub fn work(
     pyramid: &mut [i64],
     serials: &mut [u32],
@@ -176,6 +177,6 @@ pub fn work(
     if !lies_clear(r, a, b, cell.row, cell.column) {
         return dots;
     }
-    dot::place_at(pyramid, serials, order, table, knit, r, cell, dots);
+    place_dot::place_at(pyramid, serials, order, table, knit, r, cell, dots);
     dots + 1
 }

@@ -1,6 +1,6 @@
--- The laws of texts for the code. Any answer of Map Text that keeps the call's promise is a side exactly if the text is
--- that of a map which fits and has no grey above 240, and its greys are then those of the map. Any answer of Lower Text
--- that keeps the call's promise, and is a length, has converted the text.
+-- The laws of texts for the code. Any answer of Map Text that keeps the call's promise is a side just if the text is
+-- that of a map which fits and has no grey above 240 (`accepts-iff`), and its greys are then the map's
+-- (`leaves-greys`). Any such answer of Lower Text that is a length has converted the text (`converts`).
 use mathlib.Core.Path.{_≡_, sym, ap, _∙_}
 use mathlib.Core.List.{List, [], _∷_, _++_}
 use mathlib.Core.Logic.{_↔_}
@@ -24,6 +24,7 @@ returned-side (Refused why) side e = absurd (suc-ne-zero 0 (cc))
 
 module _ (text buffer after : List ℕ) (a : MapTextAnswer)
     (promise : record { said = mapTextSays a; greys = after } ≡ mapTextOf text buffer) where
+  -- the grammar, of the code's answer (S 15.10)
   pub accepts-iff : (side : ℕ) → (a ≡ Side side) ↔ ((greys : List ℕ) × LowMapOf text (length buffer) side greys)
   unfolding mapTextSays
   accepts-iff side =
@@ -36,7 +37,7 @@ module _ (text buffer after : List ℕ) (a : MapTextAnswer)
       → after ≡ greys ++ drop (side * side) buffer
   leaves-greys side greys m = ap (λ (o : GreysOutcome). o .greys) (promise ∙ map-text-outcome text buffer side greys m)
 
--- `held` and `written` are what the call has left in the buffers
+-- `held` and `written` are what the call has left in the buffers (S 15.10)
 pub converts : (text greys output held written : List ℕ) (a : TextAnswer) (n : ℕ)
     → record { said = textSays a; greys = held; output = written } ≡ lowerTextOf text greys output → a ≡ Length n
     → Converted text greys output n (record { said = textSays a; greys = held; output = written })

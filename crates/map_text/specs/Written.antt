@@ -1,4 +1,5 @@
--- The writer: the greys of a map one by one, each with the byte that ends it, behind the line of the side. They are the one text of the map.
+-- The writer: the greys of a map one by one, each with the byte that ends it, behind the line of the side. They are the
+-- one text of the map (`map-wrote`), whose length is known (`map-length`).
 use mathlib.Core.Path.{_≡_, sym, _∙_}
 use mathlib.Core.List.{List, [], _∷_, _++_}
 use Prim.Native.Nat.{ℕ, suc, _+_, _*_, _<_, _≤_}
@@ -42,23 +43,38 @@ module _ {side : ℕ} (greys : List ℕ) (lent : MapLent side (length greys)) wh
     unfolding greysText fieldsText fieldText
     one-more =
         let ends = mapEnds side in
-        rw (add-one i, take-suc greys i 0 h, take-suc ends i 0 (omega (arith, ends-long)), rows-ends-at side side i (lent .some-side) (omega (arith, lent .whole)))
+        rw (
+          add-one i,
+          take-suc greys i 0 h,
+          take-suc ends i 0 (omega (arith, ends-long)),
+          rows-ends-at side side i
+              (lent .some-side) (omega (arith, lent .whole)),
+        )
         (fieldsText-append (take i greys) (getD greys i 0 ∷ []) (take i ends) (endAt side i ∷ [])
         (length-take-le i greys (omega arith) ∙ sym (length-take-le i ends (omega (arith, ends-long)))))
 
     -- `end` is what the code has worked out
-    pub grey-wrote : {l l₁ l₂ : List ℕ} {from at next end : ℕ} → Wrote l from (greysText side greys i) at l₁ → end ≡ endAt side i
+    pub grey-wrote : {l l₁ l₂ : List ℕ} {from at next end : ℕ} → Wrote l from (greysText side greys i) at l₁
+        → end ≡ endAt side i
         → Wrote l₁ at (fieldText (getD greys i 0) end) next l₂ → Wrote l from (greysText side greys (i + 1)) next l₂
     grey-wrote x e y = rw one-more (wrote-append x (rw e at y))
 
   -- all of them, behind the line of the side
-  pub map-wrote : {l l₁ l₂ : List ℕ} {at next : ℕ} → Wrote l 0 (fieldText side newline) at l₁ → Wrote l₁ at (greysText side greys (length greys)) next l₂
+  pub map-wrote : {l l₁ l₂ : List ℕ} {at next : ℕ} → Wrote l 0 (fieldText side newline) at l₁
+      → Wrote l₁ at (greysText side greys (length greys)) next l₂
       → Wrote l 0 (mapText side greys) next l₂
   unfolding greysText fieldText
   map-wrote x y =
       let ends = mapEnds side in
-      let all : greysText side greys (length greys) ≡ fieldsText greys ends = rw (take-all (length greys) greys (omega arith), take-all (length greys) ends (omega (arith, ends-long))) in
-      rw (mapText-fields side greys (lent .some-side) (lent .whole), ← append-snoc (decimal side) newline (fieldsText greys ends), ← all) (wrote-append x y)
+      let all : greysText side greys (length greys)
+      ≡ fieldsText greys ends =
+      rw (take-all (length greys) greys (omega arith), take-all (length greys) ends (omega (arith, ends-long))) in
+      rw (
+        mapText-fields side greys (lent .some-side) (lent .whole),
+        ← append-snoc (decimal side) newline
+            (fieldsText greys ends),
+        ← all,
+      ) (wrote-append x y)
 
 -- ---- the greys lowered in their place, as `low`, and the text of them
 pub record LoweredPut (side : ℕ) (greys output low : List ℕ) (next : ℕ) (after : List ℕ) : Type 0 where
@@ -82,7 +98,9 @@ fields-length (v ∷ values) (end ∷ ends) small =
       fields-length values ends (λ i h. small (suc i) (omega arith)),
     )
 
-pub map-length : {side : ℕ} (greys : List ℕ) → MapLent side (length greys) → AtMost 255 greys → length (mapText side greys) ≤ length (decimal side) + 1 + 4 * length greys
+pub map-length : {side : ℕ} (greys : List ℕ) → MapLent side (length greys) → AtMost 255 greys
+    → length (mapText side greys) ≤ length (decimal side) + 1 + 4 * length greys
 map-length {side} greys lent small =
     let fields = fieldsText greys (mapEnds side) in
-    rw (mapText-fields side greys (lent .some-side) (lent .whole)) (omega (arith, length-append (decimal side) (newline ∷ fields), fields-length greys (mapEnds side) small))
+    rw (mapText-fields side greys (lent .some-side) (lent .whole))
+    (omega (arith, length-append (decimal side) (newline ∷ fields), fields-length greys (mapEnds side) small))

@@ -1,4 +1,4 @@
-// Map texts: Map Text, which reads one (document 01); the writer; and Lower Text (document 02, request 11), which
+// Map texts: Map Text, which reads one (`map_text`); the writer (`put_map`); and Lower Text (`lower_text`), which
 // lowers the greys of a text to 240 and writes the one text of them.
 use definition::MapTextAnswer;
 use definition::Refusal;
@@ -14,7 +14,7 @@ ghost use Rattle.definition.specs.LowerText.{lowerTextOf};
 ghost use Rattle.decimals.specs.Writing.{Wrote};
 ghost use Rattle.text_cells.specs.Cells.{CellsAsked};
 ghost use Rattle.text_cells.specs.FirstLine.{GoodSide};
-ghost use Rattle.map_text.specs.Calls.{GreysStored};
+ghost use Rattle.map_text.specs.WaysOut.{GreysStored};
 ghost use Rattle.map_text.specs.Written.{MapLent, greysText, LoweredPut};
 
 // Reads the greys of a map, none above `most`, and stores them: of each cell's low and high, which are the same, the
@@ -46,6 +46,7 @@ fn read_map(text: &[u8], from: usize, side: u32, greys: &mut [u8]) -> MapTextAns
     MapTextAnswer::Side(side)
 }
 
+// Map Text (S 9.1), with its refusals in order (S 5.2).
 pub fn map_text(text: &[u8], greys: &mut [u8]) -> MapTextAnswer
     ensures { λ a. ⌜
         record { said = mapTextSays a; greys = now (greys .exit) }
@@ -75,7 +76,7 @@ fn put_greys(out: &mut [u8], from: usize, side: usize, greys: &[u8]) -> usize
     at
 }
 
-// The one text of a map, as far as the buffer has places; returns its length.
+// The one text of a map (S 6.2), as far as the buffer has places; returns its length.
 pub fn put_map(out: &mut [u8], side: usize, greys: &[u8]) -> usize
     requires { ⌜ MapLent side (length (now greys)) ⌝ }
     ensures { λ next. ⌜ Wrote (now (out .entry)) 0 (mapText side (now (greys .entry))) next (now (out .exit)) ⌝ }
@@ -123,6 +124,7 @@ fn lower_map(
     TextAnswer::Length(length)
 }
 
+// Lower Text (S 9.2), with its refusals in order (S 5.2).
 pub fn lower_text(text: &[u8], greys: &mut [u8], output: &mut [u8]) -> TextAnswer
     ensures { λ a. ⌜
         record { said = textSays a; greys = now (greys .exit); output = now (output .exit) }

@@ -1,4 +1,5 @@
--- The tests of a name, and what follows from there being a way back to one.
+-- The tests of a name (`name-is`, `name-not`), and what follows from there being a way back to one (`name-kept`,
+-- `kept-within`).
 use mathlib.Core.Path.{_≡_, refl, sym, _∙_}
 use mathlib.Core.Bool.{Bool, true, false, true≢false}
 use Prim.Native.Nat.{ℕ, zero, suc, _-_, _≤_, _<_}

@@ -1,4 +1,5 @@
-// The eight names: which they are, what stands under one, and whether there is a way back to it.
+// The eight names: which they are (`is_name`), what stands under one (`kept_at`, `with_dots`), and whether there is a
+// way back to it (`can_restore`).
 use definition::Checkpoints;
 ghost use mathlib.Core.Path.{_≡_};
 ghost use mathlib.Core.Bool.{true};
@@ -6,7 +7,7 @@ ghost use Prim.Native.Nat.{suc, _-_};
 ghost use lib.ListN.{set};
 ghost use Rattle.definition.specs.Checkpoints.{isName, keptAt, canRestore};
 
-// Whether this is one of the names 1 to 8.
+// Whether this is one of the names 1 to 8 (S 2.11).
 pub fn is_name(name: u32) -> bool
     ensures { λ b. ⌜ b ≡ isName name ⌝ }
 {
@@ -16,7 +17,7 @@ pub fn is_name(name: u32) -> bool
     name <= 8
 }
 
-// What stands under a name.
+// What stands under a name (S 2.11).
 pub fn kept_at(checkpoints: Checkpoints, name: u32) -> u64
     requires { ⌜ isName name ≡ true ⌝ }
     ensures { λ n. ⌜ n ≡ keptAt checkpoints name ⌝ }
@@ -26,7 +27,7 @@ pub fn kept_at(checkpoints: Checkpoints, name: u32) -> u64
     kept[place]
 }
 
-// The value with these dots kept under a name.
+// The value with these dots kept under a name (S 2.11, S 10.1).
 pub fn with_dots(checkpoints: Checkpoints, name: u32, dots: u32) -> Checkpoints
     requires { ⌜ isName name ≡ true ⌝ }
     ensures { λ c. ⌜ c ≡ record { kept = set (checkpoints .kept) (name - 1) (suc dots) } ⌝ }
@@ -36,7 +37,7 @@ pub fn with_dots(checkpoints: Checkpoints, name: u32, dots: u32) -> Checkpoints
     Checkpoints { kept }
 }
 
-// Whether there is a way back to a name, on a map that comes to so many dots.
+// Whether there is a way back to a name, on a map that comes to so many dots (S 10.3).
 pub fn can_restore(checkpoints: Checkpoints, name: u32, total: u64) -> bool
     ensures { λ b. ⌜ b ≡ canRestore checkpoints name total ⌝ }
 {

@@ -1,4 +1,5 @@
--- The parts of places: a place is the sum of its row's part and its column's; and the parts around a cell.
+-- The parts of places: a place is the sum of its row's part and its column's (`place-parts`); and the parts around a
+-- cell (`parts-are`).
 use mathlib.Core.Path.{_≡_, refl}
 use Prim.Native.Nat.{ℕ, zero, suc, _+_, _-_, _/_, _≤_, _<_, min}
 use native.Mathlib.Omega.{arith}

@@ -1,4 +1,5 @@
--- The table of places, as the rule has it: `table`'s proof computes all 1,024 of them and compares.
+-- The table of places, as the rule has it (`places`, `lent-place`): `table`'s proof computes all 1,024 of them and
+-- compares.
 use mathlib.Core.Path.{_≡_, _∙_}
 use mathlib.Core.List.{List}
 use Prim.Native.Nat.{ℕ, _+_, _*_, _/_, _%_, _<_}

@@ -1,4 +1,5 @@
-// Where the entries of a pyramid by quarters lie within their level.
+// Where the entries of a pyramid by quarters lie within their level (`place`, by the table of `table`), and the parts
+// of places around a cell (`parts_around`).
 ghost use mathlib.Core.Path.{_≡_};
 ghost use Prim.Native.Nat.{_+_, _-_, _<_, min};
 ghost use Rattle.definition.specs.Quarters.{interleaved};
@@ -1048,8 +1049,8 @@ fn small_place(table: &[u16; 1024], a: usize, b: usize) -> usize
     table[a * 32 + b] as usize
 }
 
-// The place of entry (a, b) of any level: on levels of more than 32 by 32 entries, each place of (a / 32, b / 32)
-// stands for 1,024.
+// The place of entry (a, b) of any level (S 2.5): on levels of more than 32 by 32 entries, each place of (a / 32, b /
+// 32) stands for 1,024.
 pub fn place(table: &[u16; 1024], a: usize, b: usize) -> usize
     requires { ⌜ (now table ≡ places) × (a < 256) × (b < 256) ⌝ }
     ensures { λ p. ⌜ p ≡ interleaved 8 a b ⌝ }

@@ -1,4 +1,4 @@
--- The comparison's ways out: by the counts, and by the first difference.
+-- The comparison's ways out: by the counts (`by-fewer`, `by-more`), and by the first difference (`by-cell`).
 use mathlib.Core.Path.{_≡_, refl, sym, ap, _∙_}
 use mathlib.Core.List.{List}
 use Prim.Native.Nat.{ℕ, _≤_, _<_}
@@ -12,7 +12,7 @@ use Rattle.definition.specs.declared.CompareAnswer.{CompareAnswer}
 use Rattle.definition.specs.declared.CompareAnswer.the-variants.{Before, After}
 use Rattle.blocks.specs.Blocks.{BlockAsked}
 use Rattle.shelf_order.specs.Order.{fewer, more, as-many}
-use Rattle.plate_order.specs.Asked.{PlatesAsked}
+use Rattle.plate_order.specs.TwoPlates.{PlatesAsked}
 
 module _ {left right r : ℕ} (h : PlatesAsked left right r) where
   whole-map : {lent : ℕ} → cellCount r ≤ lent → BlockAsked lent r 0 0 0

@@ -1,4 +1,5 @@
--- The search for the first difference, row by row and column by column: what is left of it.
+-- The search for the first difference, row by row and column by column: what is left of it (`Rest`, `rest-next`,
+-- `rest-found`).
 use mathlib.Core.Path.{_≡_, refl, sym, ap, ap₂, _∙_}
 use mathlib.Core.Bool.{cond}
 use mathlib.Core.List.{List}
@@ -21,7 +22,7 @@ use Rattle.definition.specs.declared.CompareAnswer.the-variants.{BeforeAt, Afte
 use Rattle.integers.specs.Totals.{Total}
 use Rattle.quadtree.specs.Levels.{cells-few, row-place, column-place}
 use Rattle.shelf_order.specs.Differences.{Three, less, equal, greater, three, step-less, step-greater, step-equal}
-use Rattle.plate_order.specs.Asked.{PlatesAsked}
+use Rattle.plate_order.specs.TwoPlates.{PlatesAsked}
 
 -- ---- what `differ_at` says
 module _ {x y : ℕ} (row column : ℕ) where

@@ -1,3 +1,3 @@
-pub mod Asked
+pub mod TwoPlates
 pub mod Finding
 pub mod Comparing

@@ -1,5 +1,5 @@
-// Two plates of one side compared by their burnt cells: by their counts, and where these agree by the first cell at
-// which they differ.
+// Two plates of one side compared by their burnt cells (`compare_plates`): by their counts, and where these agree by
+// the first cell at which they differ.
 use definition::CompareAnswer;
 ghost use mathlib.Core.Path.{_≡_};
 ghost use mathlib.Core.Bool.{cond};
@@ -8,7 +8,7 @@ ghost use lib.ListN.{length};
 ghost use Rattle.definition.specs.Pyramid.{cellCount};
 ghost use Rattle.definition.specs.Answers.{comparison, beforeAt, afterAt, compareSays};
 ghost use Rattle.definition.specs.Shelf.{pattern, firstDifference, compared};
-ghost use Rattle.plate_order.specs.Asked.{PlatesAsked};
+ghost use Rattle.plate_order.specs.TwoPlates.{PlatesAsked};
 
 // Of two plates with the marks x and y at a cell where they differ, the one that is unburnt there comes first.
 fn differ_at(x: u32, y: u32, row: u32, column: u32) -> CompareAnswer
@@ -20,7 +20,7 @@ fn differ_at(x: u32, y: u32, row: u32, column: u32) -> CompareAnswer
     CompareAnswer::AfterAt(row, column)
 }
 
-// The first cell, row by row and in a row column by column, at which one plate is burnt and the other isn't.
+// The first cell, row by row and in a row column by column, at which one plate is burnt and the other isn't (S 11.1).
 fn first_difference(left: &[u32], right: &[u32], r: usize) -> CompareAnswer
     requires { ⌜ PlatesAsked (length (now left)) (length (now right)) r ⌝ }
     ensures { λ a. ⌜
@@ -48,7 +48,7 @@ fn first_difference(left: &[u32], right: &[u32], r: usize) -> CompareAnswer
     found
 }
 
-// How the left of two plates stands to the right one.
+// How the left of two plates stands to the right one (S 11.1).
 pub fn compare_plates(left: &[u32], right: &[u32], r: usize) -> CompareAnswer
     requires { ⌜ PlatesAsked (length (now left)) (length (now right)) r ⌝ }
     ensures { λ a. ⌜ compareSays a ≡ comparison (compared r (now (left .entry)) (now (right .entry))) ⌝ }

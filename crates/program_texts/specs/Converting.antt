@@ -1,5 +1,5 @@
 -- The two ways out of `convert`, by what Lower Text has answered on a buffer of 65,536 greys and an output with room
--- for the longest map text: the converted text, or the line of the refusal.
+-- for the longest map text: the converted text (`convert-printed`), or the line of the refusal (`convert-refused`).
 use mathlib.Core.Path.{_≡_, refl, sym, ap, _∙_}
 use mathlib.Core.List.{List, [], _∷_, _++_}
 use Prim.Native.Nat.{ℕ, _*_, _≤_}

@@ -1,4 +1,5 @@
--- A map of at most 1,024 cells, loaded and run with a budget of 1,024 holes or more: the buffers then begin with its finished sheet.
+-- A map of at most 1,024 cells (`MapAsked`), loaded and run with a budget of 1,024 holes or more: the buffers then
+-- begin with its finished sheet (`finished-sheet`, `map-finished`).
 use mathlib.Core.Path.{_≡_, sym, ap, _∙_}
 use mathlib.Core.Bool.{true}
 use mathlib.Core.List.{List, _++_, append-nil}
@@ -18,7 +19,7 @@ use Rattle.definition.specs.Load.{lowMap}
 use Rattle.definition.specs.Quarters.{quartersFrom}
 use Rattle.definition.specs.ByQuarters.{loadByQuarters, advanceByQuarters}
 use Rattle.definition.specs.Advance.{Reply, AdvanceOutcome, dotsDue}
-use Rattle.definition.specs.Calls.{Call, Held, heldAfterLoad, callOf, heldAfter, modelRefusal}
+use Rattle.definition.specs.AdvanceList.{Call, Held, heldAfterLoad, callOf, heldAfter, modelRefusal}
 use Rattle.definition.specs.Plate.{finishedOf}
 use Rattle.definition.specs.declared.Progress.{Progress}
 use Rattle.refusals.specs.Powers.{side-pow}
@@ -70,7 +71,13 @@ module _ (r : ℕ) (big : 2 ≤ 2 ^ r) (greys : List ℕ) (start : Sheet r (mode
 
 -- ---- a call that is lent the whole buffers
 abbrev wholeCall : Held → ℕ → Call
-wholeCall held budget = record { budget = budget; pyramidLent = length (held .pyramid); serialsLent = length (held .serials); orderLent = length (held .order) }
+wholeCall held budget =
+    record {
+      budget = budget;
+      pyramidLent = length (held .pyramid);
+      serialsLent = length (held .serials);
+      orderLent = length (held .order);
+    }
 
 -- Advance, as a call on what the caller holds
 abbrev advancedFrom : Held → ℕ → AdvanceOutcome
@@ -94,7 +101,8 @@ call-whole held budget =
       append-nil (advancedFrom held budget .order),
     )
 
-module _ (r : ℕ) (some : 0 < r) (power : powerOf (2 ^ r) ≡ r) (greys : List ℕ) (start : Sheet r (modelStart r greys)) (p : List ℤ) (s o : List ℕ)
+module _ (r : ℕ) (some : 0 < r) (power : powerOf (2 ^ r) ≡ r) (greys : List ℕ) (start : Sheet r (modelStart r greys))
+    (p : List ℤ) (s o : List ℕ)
     (budget : ℕ) (enough : cellCount r ≤ budget) where
   abbrev fresh : Halftone
   fresh = modelStart r greys
@@ -114,8 +122,10 @@ module _ (r : ℕ) (some : 0 < r) (power : powerOf (2 ^ r) ≡ r) (greys : List 
       rw (
         le-ltb (length (quartersFrom r (fresh .pyramid) ++ p)) (needed r)
             (omega (arith, length-append (quartersFrom r (fresh .pyramid)) p, length-quarters r (fresh .pyramid))),
-        le-ltb (length (fresh .serials ++ s)) (cellCount r) (omega (arith, length-append (fresh .serials) s, start .sized .serials)),
-        le-ltb (length (fresh .order ++ o)) (cellCount r) (omega (arith, length-append (fresh .order) o, start .sized .order)),
+        le-ltb (length (fresh .serials ++ s)) (cellCount r)
+            (omega (arith, length-append (fresh .serials) s, start .sized .serials)),
+        le-ltb (length (fresh .order ++ o)) (cellCount r)
+            (omega (arith, length-append (fresh .order) o, start .sized .order)),
       )
 
   run-held : heldAfter (advancedFrom (heldOf plain r fresh p s o) budget)
@@ -128,7 +138,8 @@ module _ (r : ℕ) (some : 0 < r) (power : powerOf (2 ^ r) ≡ r) (greys : List 
       ∙ finished-steps r big greys start budget enough)
 
 -- ---- Load, then Advance
-module _ (side : ℕ) (greys : List ℕ) (p : List ℤ) (s o : List ℕ) (asked : MapAsked side greys (length p) (length s) (length o)) where
+module _ (side : ℕ) (greys : List ℕ) (p : List ℤ) (s o : List ℕ)
+    (asked : MapAsked side greys (length p) (length s) (length o)) where
   abbrev r : ℕ
   r = powerOf side
 
@@ -165,5 +176,6 @@ module _ (side : ℕ) (greys : List ℕ) (p : List ℤ) (s o : List ℕ) (asked 
     map-finished budget h q =
         ap heldAfter q
         ∙ ap (λ (held : Held). heldAfter (advancedFrom held budget)) load-held
-        ∙ run-held r one-of-eight (power-again side one-of-eight) greys (asked .start) (drop (needed r) p) (drop (cellCount r) s) (drop (cellCount r) o)
+        ∙ run-held r one-of-eight (power-again side one-of-eight) greys (asked .start) (drop (needed r) p)
+        (drop (cellCount r) s) (drop (cellCount r) o)
         budget (omega (arith, asked .few))

@@ -1,4 +1,5 @@
--- The first line of `quote` and of `sketch`: a level is read, or none; `printed` has what is printed behind it.
+-- The first line of `quote` and of `sketch`: a level is read (`level-read`), or none (`no-level`); `printed` has what
+-- is printed behind it.
 use mathlib.Core.Path.{_≡_, sym, ap, _∙_}
 use mathlib.Core.List.{List}
 use Prim.Native.Nat.{ℕ, _-_, _≤_, _<_, min}

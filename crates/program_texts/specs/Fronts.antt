@@ -1,4 +1,5 @@
--- Greys and serials at the start of longer buffers: the quote page is that of the map, whatever lies behind it.
+-- Greys and serials at the start of longer buffers: the quote page is that of the map, whatever lies behind it
+-- (`finished-front`, `quoted-front`).
 use mathlib.Core.Path.{_≡_, refl, sym, ap, ap₂, _∙_}
 use mathlib.Core.List.{List, _++_}
 use Prim.Native.Nat.{ℕ, zero, suc, _+_, _-_, _^_, _≤_, _<_}

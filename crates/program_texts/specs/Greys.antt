@@ -1,5 +1,5 @@
--- The greys of a map at the start of a longer buffer: the model of the buffer starts with a sound sheet, and the map is
--- low if its greys are.
+-- The greys of a map at the start of a longer buffer: the model of the buffer starts with a sound sheet
+-- (`front-sheet`), and the map is low if its greys are (`front-low`).
 use mathlib.Core.Path.{_≡_}
 use mathlib.Core.Bool.{true}
 use mathlib.Core.List.{List, _++_}

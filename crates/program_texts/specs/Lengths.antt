@@ -1,4 +1,5 @@
--- How long a drill list of a side of at most 32 is: at most 8 bytes for the first line and 11 for each hole, 1,024 holes at most.
+-- How long a drill list of a side of at most 32 is (`list-length`): at most 8 bytes for the first line and 11 for each
+-- hole, 1,024 holes at most.
 use mathlib.Core.Path.{_≡_}
 use mathlib.Core.List.{List, [], _∷_}
 use Prim.Native.Nat.{ℕ, suc, _+_, _*_, _-_, _/_, _%_, _^_, _≤_, _<_}
@@ -33,7 +34,13 @@ module _ (r : ℕ) (few : cellCount r ≤ 1024) where
 module _ (r : ℕ) (few : cellCount r ≤ 1024) where
   head-length : (dots : ℕ) → dots ≤ 1024 → length (line (dots ∷ 2 ^ r ∷ [])) ≤ 8
   head-length dots h =
-      omega (arith, length-two dots (2 ^ r), length-decimal 4 dots (omega arith) (omega arith), length-decimal 2 (2 ^ r) (omega arith) (omega (arith, side-few r few)))
+      omega (
+        arith,
+        length-two dots (2 ^ r),
+        length-decimal 4 dots (omega arith) (omega arith),
+        length-decimal 2 (2 ^ r)
+            (omega arith) (omega (arith, side-few r few)),
+      )
 
   dot-length : (j cell : ℕ) → j ≤ 1024 → cell < cellCount r → length (line (j ∷ cell / 2 ^ r ∷ cell % 2 ^ r ∷ [])) ≤ 11
   dot-length j cell h k =
@@ -43,11 +50,13 @@ module _ (r : ℕ) (few : cellCount r ≤ 1024) where
         length-three j (cell / 2 ^ r) (cell % 2 ^ r),
         length-decimal 4 j (omega arith) (omega arith),
         length-decimal 2 (cell / 2 ^ r) (omega arith) (omega (arith, side-few r few)),
-        length-decimal 2 (cell % 2 ^ r) (omega arith) (omega (arith, side-few r few, mod-lt cell {m = 2 ^ r} (pow-pos r))),
+        length-decimal 2 (cell % 2 ^ r) (omega arith)
+            (omega (arith, side-few r few, mod-lt cell {m = 2 ^ r} (pow-pos r))),
       )
 
   -- the lines of these cells, the first of them with serial j
-  dots-length : (cells : List ℕ) (j : ℕ) → j + length cells ≤ 1025 → ((i : ℕ) → i < length cells → getD cells i 0 < cellCount r)
+  dots-length : (cells : List ℕ) (j : ℕ) → j + length cells ≤ 1025
+      → ((i : ℕ) → i < length cells → getD cells i 0 < cellCount r)
       → length (dotLines r j cells) ≤ 11 * length cells
   unfolding dotLines
   dots-length [] j h on-map = omega arith
@@ -70,7 +79,8 @@ module _ (r : ℕ) (few : cellCount r ≤ 1024) where
     cell-in : (i : ℕ) → i < length cells → getD cells i 0 < cellCount r
     cell-in i k =
         let z : suc i - 1 ≡ i = omega arith in
-        rw (getD-take (t .dots) (t .order) i 0 (omega (arith, cells-few))) (rw z at (sheet .sound .in-order (suc i) (omega arith) (omega (arith, cells-few)) .0))
+        rw (getD-take (t .dots) (t .order) i 0 (omega (arith, cells-few)))
+        (rw z at (sheet .sound .in-order (suc i) (omega arith) (omega (arith, cells-few)) .0))
 
     pub list-length : length (drillText r t) ≤ 11300
     unfolding drillText

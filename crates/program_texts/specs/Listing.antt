@@ -1,4 +1,5 @@
--- The drill list of the finished sheet: Drill List isn't refused, and prints it.
+-- The drill list of the finished sheet: Drill List isn't refused (`finished-not-refused`), and prints it
+-- (`finished-printed`).
 use mathlib.Core.Path.{_≡_, refl, ap, _∙_}
 use mathlib.Core.List.{List}
 use Prim.Native.Nat.{ℕ, _^_, _≤_, _<_}
@@ -11,7 +12,7 @@ use Rattle.definition.specs.Pyramid.{needed, cellCount}
 use Rattle.definition.specs.Diffusion.{plain}
 use Rattle.definition.specs.Model.{Halftone}
 use Rattle.definition.specs.Refusals.{powerOf}
-use Rattle.definition.specs.Calls.{Held}
+use Rattle.definition.specs.AdvanceList.{Held}
 use Rattle.definition.specs.Text.{TextOutcome, textInto}
 use Rattle.definition.specs.DrillList.{drillText}
 use Rattle.definition.specs.ByQuarters.{drillListByQuarters}

@@ -1,5 +1,5 @@
--- The ways out of `plate`, and of `quote` behind its first line: an input that is too long, a text that Map Text
--- refuses, the list or page of a map.
+-- The ways out of `plate`, and of `quote` behind its first line: an input that is too long (`long-printed`), a text
+-- that Map Text refuses (`refused-printed`), the list or page of a map (`side-printed`, `quote-side-printed`).
 use mathlib.Core.Path.{_≡_, refl, sym, ap, _∙_}
 use mathlib.Core.List.{List, _++_}
 use Prim.Native.Nat.{ℕ, _*_, _≤_, _<_}
@@ -28,7 +28,8 @@ use Rattle.program_texts.specs.Finished.{MapAsked}
 use Rattle.program_texts.specs.Fronts.{finished-front, quoted-front}
 
 module _ (input : List ℕ) {before after : List ℕ} {n : ℕ} where
-  pub long-printed : 4099 < length input → Printed (refusedText 9) before n after → Printed (plateOf input) before n after
+  pub long-printed : 4099 < length input → Printed (refusedText 9) before n after
+      → Printed (plateOf input) before n after
   unfolding plateOf
   long-printed h w = rw (lt-ltb 4099 (length input) h, plateOf) w
 
@@ -39,7 +40,8 @@ module _ (input : List ℕ) {before after : List ℕ} {n : ℕ} where
     rejected-printed e w = rw (le-ltb 4099 (length input) short, e, plateOf) w
 
     accepted-printed : {side : ℕ} {values : List ℕ} → readLow input 1024 ≡ accepted side values
-        → Printed (drillText (powerOf side) (finishedOf plain (powerOf side) values)) before n after → Printed (plateOf input) before n after
+        → Printed (drillText (powerOf side) (finishedOf plain (powerOf side) values)) before n after
+        → Printed (plateOf input) before n after
     unfolding plateOf
     accepted-printed e w = rw (le-ltb 4099 (length input) short, e, plateOf) w
 
@@ -62,7 +64,8 @@ module _ (input buffer : List ℕ) (whole : length buffer ≡ 1024) {greys : Lis
   pub refused-rejected : {why : Refusal} → a ≡ Refused why → readLow input (length buffer) ≡ rejected (numberOf why)
   unfolding mapTextOf mapTextSays
   refused-rejected {why} e =
-      let told : refused (numberOf why) ≡ mapTextOf input buffer .said = ap mapTextSays (sym e) ∙ ap (λ (o : GreysOutcome). o .said) promise in
+      let told : refused (numberOf why) ≡ mapTextOf input buffer .said = ap mapTextSays (sym e)
+      ∙ ap (λ (o : GreysOutcome). o .said) promise in
       (elim (readLow input (length buffer))
       as (λ o. readLow input (length buffer) ≡ o → readLow input (length buffer) ≡ rejected (numberOf why)) [
         | accepted side values ↦ λ q. absurd (suc-ne-zero 0 (cc (rw (q, mapTextOf) at told)))
@@ -93,7 +96,8 @@ module _ (input buffer : List ℕ) (whole : length buffer ≡ 1024) {greys : Lis
               record {
                 power = found .1 .map .one-of-eight;
                 known = omega arith;
-                greys-long = omega (arith, ap length greys-are, length-append values (drop (side * side) buffer), count);
+                greys-long =
+                    omega (arith, ap length greys-are, length-append values (drop (side * side) buffer), count);
                 pyramid-long = needed-few (powerOf side) few;
                 serials-long = few;
                 order-long = few;
@@ -120,11 +124,13 @@ module _ (input buffer : List ℕ) (whole : length buffer ≡ 1024) {greys : Lis
     quote-side-printed level w = quote-accepted input level read-is (rw (quoted-same level) at w)
 
     pub side-printed : length input ≤ 4099 → {before after : List ℕ} {n : ℕ}
-        → Printed (drillText (powerOf side) (finishedOf plain (powerOf side) greys)) before n after → Printed (plateOf input) before n after
+        → Printed (drillText (powerOf side) (finishedOf plain (powerOf side) greys)) before n after
+        → Printed (plateOf input) before n after
     side-printed short w = accepted-printed input short read-is (rw finished-same at w)
 
   pub refused-printed : {why : Refusal} {number : ℕ} → a ≡ Refused why → number ≡ numberOf why → length input ≤ 4099
-      → {before after : List ℕ} {n : ℕ} → Printed (refusedText number) before n after → Printed (plateOf input) before n after
+      → {before after : List ℕ} {n : ℕ} → Printed (refusedText number) before n after
+      → Printed (plateOf input) before n after
   refused-printed e en short w = rejected-printed input short (rw whole at (refused-rejected e)) (rw en at w)
 
   pub quote-refused-printed : (level : ℕ) {why : Refusal} {number : ℕ}

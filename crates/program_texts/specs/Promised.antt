@@ -1,4 +1,5 @@
--- What follows from the promise of a call that writes a text, where the definition says which case it is.
+-- What follows from the promise of a call that writes a text, where the definition says which case it is
+-- (`text-printed`, `not-refused-there`).
 use mathlib.Core.Path.{_≡_, sym, ap, _∙_}
 use mathlib.Core.List.{List, [], _∷_}
 use Prim.Native.Nat.{ℕ, suc, _≤_}

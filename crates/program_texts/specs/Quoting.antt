@@ -1,4 +1,5 @@
--- The quote page of the finished sheet: Quote Page refuses only a level that the map hasn't, and prints the page.
+-- The quote page of the finished sheet: Quote Page refuses only a level that the map hasn't (`quote-refused`), and
+-- prints the page (`quote-printed`).
 use mathlib.Core.Path.{_≡_, sym, ap, _∙_}
 use mathlib.Core.Bool.{cond}
 use mathlib.Core.List.{List, _++_}
@@ -18,7 +19,7 @@ use Rattle.definition.specs.Pyramid.{cellCount}
 use Rattle.definition.specs.Diffusion.{plain}
 use Rattle.definition.specs.Model.{Halftone}
 use Rattle.definition.specs.Refusals.{powerOf, lowest}
-use Rattle.definition.specs.Calls.{Held}
+use Rattle.definition.specs.AdvanceList.{Held}
 use Rattle.definition.specs.Text.{TextOutcome, textInto}
 use Rattle.definition.specs.QuotePage.{quoteText, quotePageRefusal, quotePageOf}
 use Rattle.definition.specs.Plate.{refusedText, finishedOf}

@@ -1,5 +1,5 @@
--- What the program prints: a text of at most 4,099 bytes, which is read back as the lowered sample, so that the program
--- `plate` prints its drill list.
+-- What the program prints: a text of at most 4,099 bytes (`sample-printed`), which is read back as the lowered sample,
+-- so that the program `plate` prints its drill list (`sample-plate`).
 use mathlib.Core.Path.{_≡_, refl, ap, _∙_}
 use mathlib.Core.List.{List, append-nil}
 use Prim.Native.Nat.{ℕ, _≤_, _<_}
@@ -87,6 +87,7 @@ text-read =
       low = greys-low;
     })
 
+-- the sample that is printed (S 14.3) is one that `plate` takes (S 14.1)
 pub sample-plate : plateOf sampleText ≡ drillText 5 (finishedOf plain 5 (lowered (sampleGreys 1024 1)))
 unfolding plateOf
 sample-plate = rw (le-ltb 4099 (length sampleText) text-length, text-read, power, plateOf)

@@ -1,5 +1,6 @@
--- What `sketch` prints: the lines of its page, written column by column; and the ways out by what Sketch Quote has
--- answered on buffers of 1,024 places, the page or the line of the refusal.
+-- What `sketch` prints: the lines of its page, written column by column (`totals-wrote`, `cap-wrote`); and the ways out
+-- by what Sketch Quote has answered on buffers of 1,024 places, the page (`sketch-printed`) or the line of the refusal
+-- (`sketch-refused`).
 use mathlib.Core.Path.{_≡_, refl, sym, ap, _∙_}
 use mathlib.Core.List.{List, [], _∷_, _++_}
 use Prim.Native.Nat.{ℕ, zero, suc, _+_, _*_, _/_, _%_, _^_, _≤_, min}

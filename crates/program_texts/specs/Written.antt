@@ -1,4 +1,4 @@
--- What a program writes of a text in an array: no more than the array has.
+-- What a program writes of a text in an array: no more than the array has (`within`, `part`).
 use mathlib.Core.Path.{_≡_, sym}
 use mathlib.Core.List.{List, map}
 use Prim.Native.Nat.{ℕ, _≤_}

@@ -1,5 +1,5 @@
-// What the programs print, as functions from bytes to bytes: `plate` (document 01), `quote` (docs/DECISIONS.md 61),
-// `sample` (document 02, requests 4 and 11), `convert` (request 11, docs/DECISIONS.md 130) and `sketch` (request 12).
+// What the programs print, as functions from bytes to bytes: `plate_text`, `quote_text` (docs/DECISIONS.md 69),
+// `sample_text`, `convert_text` (docs/DECISIONS.md 71) and `sketch_text`.
 use decimals::Number;
 use definition::MapTextAnswer;
 use definition::Progress;
@@ -55,7 +55,7 @@ pub struct SketchText {
     pub length: usize,
 }
 
-// The programs are for plain cloth (document 02, request 8).
+// The programs are for plain cloth.
 const PLAIN: u32 = 0;
 
 // The map loaded, and all its holes made.
@@ -262,6 +262,7 @@ fn put_sketch(input: &[u8], out: &mut [u8]) -> usize
     put_sketch_of_text(level, &input[from..], out)
 }
 
+// What `plate` prints (S 14.1).
 pub fn plate_text(input: &[u8]) -> PlateText
     ensures { λ p. ⌜ take (p .length) (p .bytes) ≡ plateOf (now (input .entry)) ⌝ }
     ensures { λ p. ⌜ p .length ≤ 11300 ⌝ }
@@ -271,6 +272,7 @@ pub fn plate_text(input: &[u8]) -> PlateText
     PlateText { bytes, length }
 }
 
+// What `quote` prints (S 14.2).
 pub fn quote_text(input: &[u8]) -> QuoteText
     ensures { λ q. ⌜ take (q .length) (q .bytes) ≡ quoteOf (now (input .entry)) ⌝ }
     ensures { λ q. ⌜ q .length ≤ 29696 ⌝ }
@@ -280,6 +282,7 @@ pub fn quote_text(input: &[u8]) -> QuoteText
     QuoteText { bytes, length }
 }
 
+// What `sample` prints (S 14.3).
 pub fn sample_text() -> SampleText
     ensures { λ s. ⌜ take (s .length) (s .bytes) ≡ sampleText ⌝ }
     ensures { λ s. ⌜ s .length ≤ 4099 ⌝ }
@@ -289,6 +292,7 @@ pub fn sample_text() -> SampleText
     SampleText { bytes, length }
 }
 
+// What `convert` prints (S 14.4).
 pub fn convert_text(input: &[u8]) -> ConvertText
     ensures { λ c. ⌜ take (c .length) (c .bytes) ≡ convertOf (now (input .entry)) ⌝ }
     ensures { λ c. ⌜ c .length ≤ 262148 ⌝ }
@@ -298,6 +302,7 @@ pub fn convert_text(input: &[u8]) -> ConvertText
     ConvertText { bytes, length }
 }
 
+// What `sketch` prints (S 14.5).
 pub fn sketch_text(input: &[u8]) -> SketchText
     ensures { λ s. ⌜ take (s .length) (s .bytes) ≡ sketchOf (now (input .entry)) ⌝ }
     ensures { λ s. ⌜ s .length ≤ 75828 ⌝ }

@@ -1,4 +1,4 @@
--- The cells filled from the greys, row after row.
+-- The cells filled from the greys, row after row (`one-more`, `one-row`, `all-rows`).
 use mathlib.Core.Path.{_≡_, refl, sym, ap₂, _∙_}
 use mathlib.Core.List.{List}
 use Prim.Native.Nat.{ℕ, _+_, _*_, _/_, _%_, _^_, _≤_, _<_}
@@ -21,7 +21,7 @@ use Rattle.quadtree.specs.Levels.{cell-lt, cells-few, row-place, column-place}
 use Rattle.layouts.specs.Filling.{Filling, none-filled, one-filled, all-filled, place-in}
 use Rattle.layouts.specs.Interleaved.{interleaved-lt}
 use Rattle.places.specs.Parts.{place-parts}
-use Rattle.pyramid.specs.Asked.{residualOf, residualAt, ColumnParts, RowAsked, MoreFilled, CellsAsked}
+use Rattle.pyramid.specs.PyramidPart.{residualOf, residualAt, ColumnParts, RowAsked, MoreFilled, CellsAsked}
 
 -- ---- `side` is what the code has worked out
 pub side-few : {r side : ℕ} → r ≤ 8 → side ≡ 2 ^ r → side ≤ 256

@@ -1,4 +1,5 @@
--- Sums of four entries: no sum on the way overflows, and the whole is within four times the bound.
+-- Sums of four entries: no sum on the way overflows (`FourFit`, `asked-fit`), and the whole is within four times the
+-- bound (`within-four`).
 use mathlib.Core.List.{List}
 use Prim.Native.Nat.{ℕ, _+_, _*_, _^_, _≤_}
 use lib.ListN.{getD}
@@ -7,7 +8,7 @@ use mir.Syntax.{w64}
 use mir.Val.{SFits}
 use Rattle.integers.specs.Linear.{zz, ints}
 use Rattle.integers.specs.Machine.{words, machine}
-use Rattle.pyramid.specs.Asked.{Within, FourAsked}
+use Rattle.pyramid.specs.PyramidPart.{Within, FourAsked}
 
 pub record FourFit (w x y z : ℤ) : Type 0 where
   pub first : SFits w64 w

@@ -1,4 +1,4 @@
--- A pyramid filled from greys: its cells first, then all levels over them.
+-- A pyramid filled from greys: its cells first, then all levels over them (`fresh`).
 use mathlib.Core.Path.{_≡_, sym, ap, _∙_}
 use mathlib.Core.List.{List, _++_}
 use Prim.Native.Nat.{ℕ, _+_, _-_, _≤_, _<_}
@@ -20,7 +20,7 @@ use Rattle.quadtree.specs.Pyramids.{length-level, length-pyramid}
 use Rattle.layouts.specs.Relaid.{quarters-back}
 use Rattle.layouts.specs.Cells.{length-quarter-level, rows-level}
 use Rattle.layouts.specs.Sums.{quartersOver, length-over, rows-over}
-use Rattle.pyramid.specs.Asked.{residualAt, freshPyramid, Within, Whole, SmallCells, CellsAsked, FillAsked}
+use Rattle.pyramid.specs.PyramidPart.{residualAt, freshPyramid, Within, Whole, SmallCells, CellsAsked, FillAsked}
 use Rattle.pyramid.specs.Small.{zero-within}
 use Rattle.pyramid.specs.Turn.{tail-lent, tail-back}
 

@@ -1,4 +1,4 @@
-pub mod Asked
+pub mod PyramidPart
 pub mod Four
 pub mod Small
 pub mod Turn

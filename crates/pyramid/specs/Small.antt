@@ -1,5 +1,5 @@
--- Entries that are all within a bound: of a part of a list, of two lists one behind the other, and of the four below
--- an entry.
+-- Entries that are all within a bound: of a part of a list (`take-within`), of two lists one behind the other
+-- (`append-within`), and of the four below an entry (`four-small`).
 use mathlib.Core.Path.{_≡_}
 use mathlib.Core.List.{List, [], _∷_, _++_}
 use Prim.Native.Nat.{ℕ, zero, suc, _+_, _*_, _^_, _<_}
@@ -13,7 +13,7 @@ use Rattle.integers.specs.Linear.{zz}
 use Rattle.integers.specs.Lists.{getD-tabulate}
 use Rattle.quadtree.specs.Levels.{row-lt, column-lt}
 use Rattle.quadtree.specs.Pyramids.{length-level}
-use Rattle.pyramid.specs.Asked.{Within}
+use Rattle.pyramid.specs.PyramidPart.{Within}
 use Rattle.pyramid.specs.Four.{within-four}
 
 module _ (bound : ℕ) where

@@ -1,4 +1,5 @@
--- One level filled from the next finer one, which lies behind it: the four below the entry at place i lie side by side.
+-- One level filled from the next finer one, which lies behind it (`filled-level`): the four below the entry at place i
+-- lie side by side (`four-are`).
 use mathlib.Core.Path.{_≡_, refl, sym, ap, ap₂, _∙_}
 use mathlib.Core.List.{List, _++_}
 use Prim.Native.Nat.{ℕ, _+_, _*_, _-_, _^_, _≤_, _<_}
@@ -9,7 +10,7 @@ use lib.IntN.{ℤ, pos, _+ℤ_}
 use Rattle.definition.specs.Pyramid.{cellCount}
 use Rattle.integers.specs.Fill.{filled, length-filled, filled-past, drop-filled}
 use Rattle.layouts.specs.Sums.{fourFrom, coarserFrom}
-use Rattle.pyramid.specs.Asked.{fourAt, Within, FourAsked, SumsAsked}
+use Rattle.pyramid.specs.PyramidPart.{fourAt, Within, FourAsked, SumsAsked}
 
 module _ (part : List ℤ) (size i : ℕ) where
   -- one of the four

@@ -1,4 +1,4 @@
--- A part `&mut l[a..]`, lent and back; and the bound a level up.
+-- A part `&mut l[a..]`, lent and back (`tail-lent`, `tail-back`); and the bound a level up (`room-above`).
 use mathlib.Core.Path.{_≡_, ap, _∙_}
 use mathlib.Core.List.{List, _++_, append-nil}
 use Prim.Native.Nat.{ℕ, suc, _*_, _-_, _^_, _≤_, _<_}

@@ -1,5 +1,6 @@
--- All levels summed up over level k of a part l, from the bottom up. One turn: level k − 1, which begins at `up`, is
--- lent with all after it and comes back filled; then what lies before level k, which begins at `off`, is summed up.
+-- All levels summed up over level k of a part l, from the bottom up (`back-done`). One turn: level k − 1, which begins
+-- at `up`, is lent with all after it and comes back filled; then what lies before level k, which begins at `off`, is
+-- summed up.
 use mathlib.Core.Path.{_≡_, sym, ap, ap₂, _∙_}
 use mathlib.Core.List.{List, _++_, append-assoc}
 use Prim.Native.Nat.{ℕ, suc, _+_, _*_, _-_, _^_, _≤_, _<_}
@@ -14,7 +15,7 @@ use Rattle.definition.specs.Pyramid.{cellCount, start}
 use Rattle.integers.specs.Lists.{length-tabulate, getD-tabulate}
 use Rattle.quadtree.specs.Levels.{start-suc, quadruple}
 use Rattle.layouts.specs.Sums.{fourFrom, coarserFrom, quartersOver}
-use Rattle.pyramid.specs.Asked.{Within, SumsAsked, Whole, SmallCells}
+use Rattle.pyramid.specs.PyramidPart.{Within, SumsAsked, Whole, SmallCells}
 use Rattle.pyramid.specs.Four.{within-four, within-mono}
 use Rattle.pyramid.specs.Small.{zero-within}
 use Rattle.pyramid.specs.Turn.{tail-lent, tail-back, room-above}

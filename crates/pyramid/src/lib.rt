@@ -1,5 +1,5 @@
-// The pyramid of sums, by quarters: cells from greys, one block of four, one level, all levels. Load fills with it;
-// renewal and the test for a sound sheet take its sums of four.
+// The pyramid of sums, by quarters: cells from greys, one block of four (`sum_of_four`), one level, all levels
+// (`fill_pyramid`). Load fills with it; renewal and the test for a sound sheet take its sums of four.
 ghost use mathlib.Core.Path.{_≡_};
 ghost use mathlib.Core.List.{_++_};
 ghost use Prim.Native.Nat.{_+_, _*_, _^_, _<_, _≤_};
@@ -9,11 +9,11 @@ ghost use Rattle.definition.specs.Pyramid.{start, cellCount};
 ghost use Rattle.definition.specs.Quarters.{quarterLevel, quartersFrom};
 ghost use Rattle.layouts.specs.Sums.{fourFrom, coarserFrom, quartersOver};
 ghost use Rattle.places.specs.Table.{places};
-ghost use Rattle.pyramid.specs.Asked.{residualAt, fourAt, freshPyramid};
-ghost use Rattle.pyramid.specs.Asked.{FourAsked, SumsAsked, Whole, SmallCells, CellsAsked, FillAsked};
-ghost use Rattle.pyramid.specs.Asked.{ColumnParts, RowAsked, MoreFilled};
+ghost use Rattle.pyramid.specs.PyramidPart.{residualAt, fourAt, freshPyramid};
+ghost use Rattle.pyramid.specs.PyramidPart.{FourAsked, SumsAsked, Whole, SmallCells, CellsAsked, FillAsked};
+ghost use Rattle.pyramid.specs.PyramidPart.{ColumnParts, RowAsked, MoreFilled};
 
-// A cell's residual at the start: 256 x grey.
+// A cell's residual at the start: 256 x grey (S 3.9).
 fn residual(grey: u8) -> i64
     ensures { λ z. ⌜ z ≡ pos (256 * grey) ⌝ }
 {
@@ -127,7 +127,7 @@ fn sum_up(part: &mut [i64], k: usize)
     }
 }
 
-// Fills a pyramid of power r, of just the needed length, from the greys.
+// Fills a pyramid of power r (S 2.4), of just the needed length, from the greys.
 pub fn fill_pyramid(part: &mut [i64], table: &[u16; 1024], greys: &[u8], r: usize)
     requires { ⌜ FillAsked (now part) (length (now greys)) r ⌝ }
     requires { ⌜ now table ≡ places ⌝ }

@@ -1,5 +1,6 @@
--- The walk from the top always takes a largest of the four below. So if the top's sum is above 0, then so is that of every block that holds the
--- cell it comes to. Of the choice among equals only that a largest is taken is used.
+-- The walk from the top always takes a largest of the four below (`largest-quarter`). So if the top's sum is above 0,
+-- then so is that of every block that holds the cell it comes to (`descend-reached`). Of the choice among equals only
+-- that a largest is taken is used (`Fair`, `choice-fair`).
 use mathlib.Core.Path.{_≡_, refl}
 use mathlib.Core.Bool.{Bool, true, false, cond}
 use mathlib.Core.List.{List}
@@ -62,6 +63,7 @@ unfolding ofEquals
 equals-fair true = last-fair
 equals-fair false = first-fair
 
+-- the turns among equals take a largest as well (S 3.3)
 pub choice-fair : (serial : ℕ) → Fair (choiceOf serial)
 unfolding choiceOf
 choice-fair serial = equals-fair (eqb (serial % 2) 0)
@@ -76,11 +78,13 @@ module _ (takes : Choice) (fair : Fair takes) where
       go true = q
       go false = p
 
-  better-le : (best next : Candidate) → (best .sum ≤ℤ better takes best next .sum) × (next .sum ≤ℤ better takes best next .sum)
+  better-le : (best next : Candidate)
+      → (best .sum ≤ℤ better takes best next .sum) × (next .sum ≤ℤ better takes best next .sum)
   unfolding better
   better-le best next = go (takes (best .sum) (next .sum)) refl
     where
-      go : (b : Bool) → takes (best .sum) (next .sum) ≡ b → (best .sum ≤ℤ cond b next best .sum) × (next .sum ≤ℤ cond b next best .sum)
+      go : (b : Bool) → takes (best .sum) (next .sum) ≡ b
+          → (best .sum ≤ℤ cond b next best .sum) × (next .sum ≤ℤ cond b next best .sum)
       go true e = (fair .taken (best .sum) (next .sum) e, omega ints)
       go false e = (omega ints, fair .kept (best .sum) (next .sum) e)
 
@@ -92,10 +96,12 @@ module _ (takes : Choice) (fair : Fair takes) where
     pub column-low : 2 * b ≤ c .column
     pub column-high : c .column < 2 * b + 2
 
-  quarter : (below : ℕ → ℕ → ℤ) (a b x y : ℕ) → 2 * a ≤ x → x < 2 * a + 2 → 2 * b ≤ y → y < 2 * b + 2 → Quarter below a b (candidate below x y)
+  quarter : (below : ℕ → ℕ → ℤ) (a b x y : ℕ) → 2 * a ≤ x → x < 2 * a + 2 → 2 * b ≤ y → y < 2 * b + 2
+      → Quarter below a b (candidate below x y)
   unfolding candidate
   quarter below a b x y h i j k = record { sum-is = refl; row-low = h; row-high = i; column-low = j; column-high = k }
 
+  -- the one that is taken has the largest sum of the four (S 3.2)
   pub largest-quarter : (below : ℕ → ℕ → ℤ) (a b : ℕ) → Quarter below a b (largest takes below a b)
   unfolding largest
   largest-quarter below a b =
@@ -120,18 +126,22 @@ module _ (takes : Choice) (fair : Fair takes) where
       let d₃ = better-le (better takes (better takes c₀ c₁) c₂) c₃ in
       omega (ints, simp zz at h, d₁ .0, d₁ .1, d₂ .0, d₂ .1, d₃ .0, d₃ .1)
 
-  -- Where the walk from entry (a, b) of level k comes to: a cell (x, y) of its block, and every block from level k down that holds the cell has a sum
-  -- above 0.
+  -- Where the walk from entry (a, b) of level k comes to: a cell (x, y) of its block, and every block from level k down
+  -- that holds the cell has a sum above 0.
   pub record Reached (pyramid : List ℤ) (r left k a b x y : ℕ) : Type 0 where
     pub row : In (a * 2 ^ left) (2 ^ left) x
     pub column : In (b * 2 ^ left) (2 ^ left) y
-    pub due : (j i c d : ℕ) → j + i ≡ r → k ≤ i → In (c * 2 ^ j) (2 ^ j) x → In (d * 2 ^ j) (2 ^ j) y → pos 0 <ℤ entry pyramid i c d
+    pub due : (j i c d : ℕ) → j + i ≡ r → k ≤ i → In (c * 2 ^ j) (2 ^ j) x → In (d * 2 ^ j) (2 ^ j) y
+        → pos 0 <ℤ entry pyramid i c d
 
   module _ (pyramid : List ℤ) (r : ℕ) (summed : Summed r pyramid) where
     -- the block itself, and those below it
-    own : (left k a b x y : ℕ) → left + k ≡ r → In (a * 2 ^ left) (2 ^ left) x → In (b * 2 ^ left) (2 ^ left) y → pos 0 <ℤ entry pyramid k a b
-        → ((j i c d : ℕ) → j + i ≡ r → suc k ≤ i → In (c * 2 ^ j) (2 ^ j) x → In (d * 2 ^ j) (2 ^ j) y → pos 0 <ℤ entry pyramid i c d)
-        → (j i c d : ℕ) → j + i ≡ r → k ≤ i → In (c * 2 ^ j) (2 ^ j) x → In (d * 2 ^ j) (2 ^ j) y → pos 0 <ℤ entry pyramid i c d
+    own : (left k a b x y : ℕ) → left + k ≡ r → In (a * 2 ^ left) (2 ^ left) x → In (b * 2 ^ left) (2 ^ left) y
+        → pos 0 <ℤ entry pyramid k a b
+        → ((j i c d : ℕ) → j + i ≡ r → suc k ≤ i → In (c * 2 ^ j) (2 ^ j) x → In (d * 2 ^ j) (2 ^ j) y
+        → pos 0 <ℤ entry pyramid i c d)
+        → (j i c d : ℕ) → j + i ≡ r → k ≤ i → In (c * 2 ^ j) (2 ^ j) x → In (d * 2 ^ j) (2 ^ j) y
+        → pos 0 <ℤ entry pyramid i c d
     own left k a b x y e p q h below j i c d f l u v = go (ℕ-discrete i k)
       where
         go : Dec (i ≡ k) → pos 0 <ℤ entry pyramid i c d
@@ -153,7 +163,9 @@ module _ (takes : Choice) (fair : Fair takes) where
         let next = largest takes (entry pyramid (suc k)) a b in
         let is = largest-quarter (entry pyramid (suc k)) a b in
         let due = largest-due (entry pyramid (suc k)) a b (rw (summed .sums k a b (omega arith) p q) at h) in
-        let ih = descend-reached left (suc k) (next .row) (next .column) (omega arith) (rw (pow-succ' 2 k) (omega (arith, is .row-high))) (rw (pow-succ' 2 k) (omega (arith, is .column-high))) (rw (is .sum-is) at due) in
+        let ih = descend-reached left (suc k) (next .row) (next .column) (omega arith)
+        (rw (pow-succ' 2 k) (omega (arith, is .row-high))) (rw (pow-succ' 2 k) (omega (arith, is .column-high)))
+        (rw (is .sum-is) at due) in
         let row = in-block left a (next .row) _ (is .row-low) (is .row-high) (ih .row) in
         let column = in-block left b (next .column) _ (is .column-low) (is .column-high) (ih .column) in
         record { row = row; column = column; due = own (suc left) k a b _ _ e row column h (ih .due) }

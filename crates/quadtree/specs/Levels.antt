@@ -1,8 +1,18 @@
--- Where the levels of a pyramid begin, and the places of the entries within a level: each entry has one place, and each place one entry.
+-- Where the levels of a pyramid begin (`start-suc`, `start-thrice`), and the places of the entries within a level: each
+-- entry has one place (`place-lt`, `place-same`), and each place one entry (`place-row-column`).
 use mathlib.Core.Path.{_≡_, refl, ap, _∙_}
 use Prim.Native.Nat.{ℕ, zero, suc, _+_, _*_, _-_, _/_, _^_, _≤_, _<_}
 use native.Mathlib.Omega.{arith}
-use native.Mathlib.Nat.{pow-succ', mul-div-cancel, mul-le-mul, mul-le-mul-right, div-add-mod', div-lt-iff-lt-mul, mod-lt, lt-of-mul-lt-mul-right}
+use native.Mathlib.Nat.{
+  pow-succ',
+  mul-div-cancel,
+  mul-le-mul,
+  mul-le-mul-right,
+  div-add-mod',
+  div-lt-iff-lt-mul,
+  mod-lt,
+  lt-of-mul-lt-mul-right,
+}
 use lib.Pow.{pow-pos, pow-mono, pow-add, high, low}
 use Rattle.definition.specs.Pyramid.{start, placeIn, rowAt, columnAt}
 use Rattle.definition.specs.Blocks.{blockSide}
@@ -32,12 +42,15 @@ pub start-suc : (k : ℕ) → start (suc k) ≡ start k + 2 ^ k * 2 ^ k
 start-suc k = omega (arith, start-thrice k, start-thrice (suc k), quadruple k)
 
 pub start-mono : (k r : ℕ) → k ≤ r → start k ≤ start r
-start-mono k r h = omega (arith, start-thrice k, start-thrice r, mul-le-mul (pow-mono {i = k} {j = r} h) (pow-mono {i = k} {j = r} h))
+start-mono k r h =
+    omega (arith, start-thrice k, start-thrice r, mul-le-mul (pow-mono {i = k} {j = r} h) (pow-mono {i = k} {j = r} h))
 
 -- ---- rows and columns of n
+-- the cell in row x and column y has a number below n² (S 2.3) ..
 pub cell-lt : (n x y : ℕ) → x < n → y < n → x * n + y < n * n
 cell-lt n x y h k = omega (arith, mul-le-mul-right n h)
 
+-- .. and no other cell has it
 pub cell-same : (n x y a b : ℕ) → y < n → b < n → x * n + y ≡ a * n + b → (x ≡ a) × (y ≡ b)
 cell-same n x y a b h k e =
     let p : x < a + 1 = lt-of-mul-lt-mul-right n (omega arith) in
@@ -46,6 +59,7 @@ cell-same n x y a b h k e =
     (z, omega (arith, ap (λ (m : ℕ). m * n) z))
 
 -- ---- the places within level k
+-- row after row (S 2.6)
 pub place-lt : (k a b : ℕ) → a < 2 ^ k → b < 2 ^ k → placeIn k a b < 2 ^ k * 2 ^ k
 unfolding placeIn
 place-lt k a b h l = cell-lt (2 ^ k) a b h l
@@ -75,7 +89,7 @@ unfolding columnAt
 column-lt k i = mod-lt i (pow-pos k)
 
 -- ---- blocks
--- the side of a block of level k, j levels above the cells
+-- the side of a block of level k, j levels above the cells (S 2.10)
 pub block-side : (r j k : ℕ) → j + k ≡ r → blockSide r k ≡ 2 ^ j
 block-side r j k h = rw (← h, pow-add 2 j k) (mul-div-cancel (2 ^ j) (pow-pos k))
 

@@ -1,5 +1,5 @@
--- The function that is 1 at one place, and its sums: a change at one cell changes the sum over a square by as much if the cell lies in the
--- square, and by nothing if not.
+-- The function that is 1 at one place, and its sums: a change at one cell changes the sum over a square by as much if
+-- the cell lies in the square, and by nothing if not (`area-point`, `seen`).
 use mathlib.Core.Path.{_≡_, refl, ap, _∙_}
 use mathlib.Core.Logic.{_≢_, _⊎_, inl, inr}
 use mathlib.Core.Bool.{cond}
@@ -71,15 +71,18 @@ in-or-out p n c = go (decLe p c) (decLt c (p + n))
     go (yes h) (no k) = inr (inr (omega arith))
     go (no h) k = inr (inl (omega arith))
 
-pub area-point : (p q n : ℕ) (f : ℕ → ℕ → ℕ) (r c : ℕ) → area p q n (λ x y. δ r x * δ c y * f x y) ≡ f r c * (span p n (δ r) * span q n (δ c))
+pub area-point : (p q n : ℕ) (f : ℕ → ℕ → ℕ) (r c : ℕ)
+    → area p q n (λ x y. δ r x * δ c y * f x y) ≡ f r c * (span p n (δ r) * span q n (δ c))
 area-point p q n f r c =
-    area-ext p q n _ _ (λ x y i j. at x y) ∙ area-mul p q n (f r c) (λ x y. δ r x * δ c y) ∙ ap (λ (k : ℕ). f r c * k) (area-product p q n (δ r) (δ c))
+    area-ext p q n _ _ (λ x y i j. at x y) ∙ area-mul p q n (f r c) (λ x y. δ r x * δ c y)
+    ∙ ap (λ (k : ℕ). f r c * k) (area-product p q n (δ r) (δ c))
   where
     at : (x y : ℕ) → δ r x * δ c y * f x y ≡ f r c * (δ r x * δ c y)
     at x y =
         let e : δ c y * f x y ≡ δ c y * f x c = δ-at c y (f x) in
         let d : δ r x * f x c ≡ δ r x * f r c = δ-at r x (λ z. f z c) in
-        mul-assoc (δ r x) (δ c y) (f x y) ∙ ap (λ (k : ℕ). δ r x * k) e ∙ mul-left-comm (δ r x) (δ c y) (f x c) ∙ ap (λ (k : ℕ). δ c y * k) d ∙ omega arith
+        mul-assoc (δ r x) (δ c y) (f x y) ∙ ap (λ (k : ℕ). δ r x * k) e ∙ mul-left-comm (δ r x) (δ c y) (f x c)
+        ∙ ap (λ (k : ℕ). δ c y * k) d ∙ omega arith
 
 -- A cell lies in a square, and a sum over the square meets it once; or it doesn't, and the sum doesn't meet it.
 pub data Seen (p q n r c : ℕ) : Type 0 where

@@ -1,4 +1,5 @@
--- A block's quarters: it sums what they sum, and what holds of the whole map and passes from a block to its quarters, holds of every block.
+-- A block's quarters: it sums what they sum (`block-quarters`), and what holds of the whole map and passes from a block
+-- to its quarters, holds of every block (`every-block`).
 use mathlib.Core.Path.{_≡_, _∙_}
 use Prim.Native.Nat.{ℕ, zero, suc, _+_, _*_, _-_, _/_, _%_, _^_, _≤_, _<_}
 use native.Mathlib.Omega.{arith}
@@ -15,7 +16,8 @@ abbrev pub Quarters : (ℕ → ℕ → Type 0) → ℕ → ℕ → Type 0
 Quarters P a b = P (2 * a) (2 * b) × P (2 * a) (2 * b + 1) × P (2 * a + 1) (2 * b) × P (2 * a + 1) (2 * b + 1)
 
 -- they are blocks of the next level
-pub quarters-of : (k : ℕ) (P : ℕ → ℕ → Type 0) → ((x y : ℕ) → x < 2 ^ suc k → y < 2 ^ suc k → P x y) → (a b : ℕ) → a < 2 ^ k → b < 2 ^ k → Quarters P a b
+pub quarters-of : (k : ℕ) (P : ℕ → ℕ → Type 0) → ((x y : ℕ) → x < 2 ^ suc k → y < 2 ^ suc k → P x y) → (a b : ℕ)
+    → a < 2 ^ k → b < 2 ^ k → Quarters P a b
 quarters-of k P h a b u v =
     let z = pow-succ' 2 k in
     let upper : 2 * a < 2 ^ suc k = omega arith in
@@ -26,10 +28,13 @@ quarters-of k P h a b u v =
 
 -- a block's side is twice that of its quarters
 pub side-halves : (r k : ℕ) → k < r → blockSide r k ≡ 2 * blockSide r (suc k)
-side-halves r k h = block-side r (suc (r - suc k)) k (omega arith) ∙ pow-succ' 2 (r - suc k) ∙ rw (block-side r (r - suc k) (suc k) (omega arith)) (omega arith)
+side-halves r k h =
+    block-side r (suc (r - suc k)) k (omega arith) ∙ pow-succ' 2 (r - suc k)
+    ∙ rw (block-side r (r - suc k) (suc k) (omega arith)) (omega arith)
 
 pub block-quarters : (r : ℕ) (f : ℕ → ℕ → ℕ) (k a b : ℕ) → k < r
-    → blockSum r f k a b ≡ blockSum r f (suc k) (2 * a) (2 * b) + blockSum r f (suc k) (2 * a) (2 * b + 1) + blockSum r f (suc k) (2 * a + 1) (2 * b) + blockSum r f (suc k) (2 * a + 1) (2 * b + 1)
+    → blockSum r f k a b ≡ blockSum r f (suc k) (2 * a) (2 * b) + blockSum r f (suc k) (2 * a) (2 * b + 1)
+    + blockSum r f (suc k) (2 * a + 1) (2 * b) + blockSum r f (suc k) (2 * a + 1) (2 * b + 1)
 block-quarters r f k a b h =
     let s = blockSide r (suc k) in
     let n : blockSide r k ≡ s + s = side-halves r k h ∙ omega arith in
@@ -66,7 +71,8 @@ halved P a p q = go (ℕ-discrete (a % 2) 0)
 pub every-block : (r : ℕ) (P : ℕ → ℕ → ℕ → Type 0) → P 0 0 0
     → ((k a b : ℕ) → k < r → a < 2 ^ k → b < 2 ^ k → P k a b → Quarters (P (suc k)) a b)
     → (k a b : ℕ) → k ≤ r → a < 2 ^ k → b < 2 ^ k → P k a b
-every-block r P whole pass zero a b h u v = let i : 0 ≡ a = omega arith in let j : 0 ≡ b = omega arith in rw (← i, ← j) whole
+every-block r P whole pass zero a b h u v =
+    let i : 0 ≡ a = omega arith in let j : 0 ≡ b = omega arith in rw (← i, ← j) whole
 every-block r P whole pass (suc k) a b h u v =
     let z = pow-succ' 2 k in
     let i : a / 2 < 2 ^ k = omega arith in

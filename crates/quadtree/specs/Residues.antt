@@ -1,4 +1,5 @@
--- The sum of integers over a square: by quarters, read only at the cells of the square, and falling by as much as the cells fall in all.
+-- The sum of integers over a square: by quarters (`areaZ-quarters`), read only at the cells of the square
+-- (`areaZ-ext`), and falling by as much as the cells fall in all (`areaZ-fall`).
 use mathlib.Core.Path.{_≡_, refl, ap, _∙_}
 use Prim.Native.Nat.{ℕ, _+_, _*_}
 use native.Mathlib.Omega.{arith}
@@ -25,7 +26,9 @@ spanZ-ext p n f g h = sumZTo-ext< n (λ x. f (p + x)) (λ x. g (p + x)) (λ x k.
 
 spanZ-halves : (p n : ℕ) (f : ℕ → ℤ) → spanZ p (n + n) f ≡ spanZ p n f +ℤ spanZ (p + n) n f
 unfolding spanZ
-spanZ-halves p n f = sumZTo-split n n (λ x. f (p + x)) ∙ ap (λ (z : ℤ). sumZTo n (λ x. f (p + x)) +ℤ z) (sumZTo-ext< n _ _ (λ x k. ap f (omega arith)))
+spanZ-halves p n f =
+    sumZTo-split n n (λ x. f (p + x))
+    ∙ ap (λ (z : ℤ). sumZTo n (λ x. f (p + x)) +ℤ z) (sumZTo-ext< n _ _ (λ x k. ap f (omega arith)))
 
 spanZ-add : (p n : ℕ) (f g : ℕ → ℤ) → spanZ p n (λ x. f x +ℤ g x) ≡ spanZ p n f +ℤ spanZ p n g
 unfolding spanZ
@@ -36,7 +39,8 @@ module _ (p q n : ℕ) where
   unfolding areaZ
   areaZ-ext f g h = spanZ-ext p n _ _ (λ x i. spanZ-ext q n (f x) (g x) (λ y j. h x y i j))
 
-  pub areaZ-fall : (f : ℕ → ℕ → ℤ) (g : ℕ → ℕ → ℕ) → areaZ p q n (λ x y. f x y -ℤ pos (g x y)) ≡ areaZ p q n f -ℤ pos (area p q n g)
+  pub areaZ-fall : (f : ℕ → ℕ → ℤ) (g : ℕ → ℕ → ℕ)
+      → areaZ p q n (λ x y. f x y -ℤ pos (g x y)) ≡ areaZ p q n f -ℤ pos (area p q n g)
   unfolding areaZ area spanZ span
   areaZ-fall f g =
       sumZTo-ext< n _ _ (λ x k. sum-fall n (λ y. f (p + x) (q + y)) (λ y. g (p + x) (q + y)))
@@ -44,20 +48,29 @@ module _ (p q n : ℕ) where
 
   pub areaZ-pos : (g : ℕ → ℕ → ℕ) → areaZ p q n (λ x y. pos (g x y)) ≡ pos (area p q n g)
   unfolding areaZ area spanZ span
-  areaZ-pos g = sumZTo-ext< n _ _ (λ x k. sumZTo-pos n (λ y. g (p + x) (q + y))) ∙ sumZTo-pos n (λ x. sumTo n (λ y. g (p + x) (q + y)))
+  areaZ-pos g =
+      sumZTo-ext< n _ _ (λ x k. sumZTo-pos n (λ y. g (p + x) (q + y)))
+      ∙ sumZTo-pos n (λ x. sumTo n (λ y. g (p + x) (q + y)))
 
-  pub areaZ-quarters : (f : ℕ → ℕ → ℤ) → areaZ p q (n + n) f ≡ areaZ p q n f +ℤ areaZ p (q + n) n f +ℤ areaZ (p + n) q n f +ℤ areaZ (p + n) (q + n) n f
+  pub areaZ-quarters : (f : ℕ → ℕ → ℤ)
+      → areaZ p q (n + n) f ≡ areaZ p q n f +ℤ areaZ p (q + n) n f +ℤ areaZ (p + n) q n f +ℤ areaZ (p + n) (q + n) n f
   unfolding areaZ
-  areaZ-quarters f = spanZ-halves p n (λ x. spanZ q (n + n) (f x)) ∙ rw (halves p, halves (p + n)) (simp zz (omega ints))
+  areaZ-quarters f =
+      spanZ-halves p n (λ x. spanZ q (n + n) (f x)) ∙ rw (halves p, halves (p + n)) (simp zz (omega ints))
     where
-      halves : (m : ℕ) → spanZ m n (λ x. spanZ q (n + n) (f x)) ≡ spanZ m n (λ x. spanZ q n (f x)) +ℤ spanZ m n (λ x. spanZ (q + n) n (f x))
-      halves m = spanZ-ext m n _ _ (λ x i. spanZ-halves q n (f x)) ∙ spanZ-add m n (λ x. spanZ q n (f x)) (λ x. spanZ (q + n) n (f x))
+      halves : (m : ℕ)
+          → spanZ m n (λ x. spanZ q (n + n) (f x)) ≡ spanZ m n (λ x. spanZ q n (f x))
+          +ℤ spanZ m n (λ x. spanZ (q + n) n (f x))
+      halves m =
+          spanZ-ext m n _ _ (λ x i. spanZ-halves q n (f x))
+          ∙ spanZ-add m n (λ x. spanZ q n (f x)) (λ x. spanZ (q + n) n (f x))
 
 pub areaZ-one : (p q : ℕ) (f : ℕ → ℕ → ℤ) → areaZ p q 1 f ≡ f p q
 unfolding areaZ spanZ sumZTo
 areaZ-one p q f = simp (add-zero, +ℤ-idl)
 
 -- a block of the definitions is the square at (a s, b s)
-pub blockZ-area : (r : ℕ) (f : ℕ → ℕ → ℤ) (k a b : ℕ) → blockSumZ r f k a b ≡ areaZ (a * blockSide r k) (b * blockSide r k) (blockSide r k) f
+pub blockZ-area : (r : ℕ) (f : ℕ → ℕ → ℤ) (k a b : ℕ)
+    → blockSumZ r f k a b ≡ areaZ (a * blockSide r k) (b * blockSide r k) (blockSide r k) f
 unfolding blockSumZ areaZ spanZ
 blockZ-area r f k a b = refl

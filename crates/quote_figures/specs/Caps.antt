@@ -1,4 +1,5 @@
--- The caps of a level: the square with number i stands in row i / 2^k at column i % 2^k.
+-- The caps of a level: the square with number i stands in row i / 2^k at column i % 2^k (`square-asked`, `cap-is`), one
+-- cap more in each turn (`one-capped`, `all-capped`).
 use mathlib.Core.Path.{_≡_}
 use mathlib.Core.List.{List, _++_}
 use Prim.Native.Nat.{ℕ, _+_, _*_, _-_, _/_, _%_, _^_, _≤_, _<_}
@@ -15,7 +16,7 @@ use Rattle.definition.specs.SketchQuote.{capsOf}
 use Rattle.integers.specs.Fill.{filled, filled-none, filled-store, length-filled}
 use Rattle.quadtree.specs.Levels.{block-side, cells-few, row-lt, column-lt}
 use Rattle.blocks.specs.Blocks.{BlockAsked}
-use Rattle.quote_figures.specs.Asked.{LevelLent}
+use Rattle.quote_figures.specs.MapLent.{LevelLent}
 
 -- ---- one square; `count`, `s`, `grey` and `cap` are what the code has worked out
 module _ (k : ℕ) {count : ℕ} (en : count ≡ 2 ^ k) where

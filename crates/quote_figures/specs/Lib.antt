@@ -1,3 +1,3 @@
-pub mod Asked
+pub mod MapLent
 pub mod Total
 pub mod Caps

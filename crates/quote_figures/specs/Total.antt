@@ -1,4 +1,4 @@
--- The total: the whole map is the square of level 0, at most 65,536 cells with a grey of at most 255 each.
+-- The total (`total-is`): the whole map is the square of level 0, at most 65,536 cells with a grey of at most 255 each.
 use mathlib.Core.Path.{_≡_, ap, _∙_}
 use mathlib.Core.List.{List}
 use Prim.Native.Nat.{ℕ, _*_, _≤_}
@@ -11,7 +11,7 @@ use Rattle.definition.specs.Blocks.{blockSide, greyAt, greySum, greyTotal, tota
 use Rattle.quadtree.specs.Areas.{block-most}
 use Rattle.quadtree.specs.Levels.{block-side, cells-few}
 use Rattle.blocks.specs.Blocks.{BlockAsked}
-use Rattle.quote_figures.specs.Asked.{MapLent}
+use Rattle.quote_figures.specs.MapLent.{MapLent}
 
 pub whole-map : {r lent : ℕ} → MapLent r lent → BlockAsked lent r 0 0 0
 whole-map h =

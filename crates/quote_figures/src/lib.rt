@@ -1,5 +1,5 @@
-// The two figures of a quote, in the one place where they are worked out: the dots that a map comes to, and the cap of
-// an aligned square, for one square and for all squares of a level.
+// The two figures of a quote, in the one place where they are worked out: the dots that a map comes to (`total_dots`),
+// and the cap of an aligned square (`quote_cap`), for one square and for all squares of a level (`put_caps`).
 ghost use mathlib.Core.Path.{_≡_};
 ghost use mathlib.Core.List.{_++_};
 ghost use Prim.Native.Nat.{_*_, _/_, _%_, _^_, _<_, _≤_};
@@ -7,9 +7,9 @@ ghost use lib.ListN.{length, drop};
 ghost use Rattle.definition.specs.Blocks.{blockSide, greySum, greyTotal, totalOf};
 ghost use Rattle.definition.specs.QuotePage.{quoteCap};
 ghost use Rattle.definition.specs.SketchQuote.{capsOf};
-ghost use Rattle.quote_figures.specs.Asked.{MapLent, LevelLent};
+ghost use Rattle.quote_figures.specs.MapLent.{MapLent, LevelLent};
 
-// The dots that a map comes to.
+// The dots that a map comes to (S 15.3).
 pub fn total_dots(r: usize, greys: &[u8]) -> u64
     requires { ⌜ MapLent r (length (now greys)) ⌝ }
     ensures { λ n. ⌜ n ≡ totalOf (greyTotal r (now (greys .entry))) ⌝ }
@@ -19,7 +19,7 @@ pub fn total_dots(r: usize, greys: &[u8]) -> u64
     (2 * sum + 255) / 510
 }
 
-// The cap of a square of side s with a grey sum.
+// The cap of a square of side s with a grey sum (S 8.3).
 pub fn quote_cap(s: u64, grey: u64) -> u64
     requires { ⌜ (s ≤ 256) × (grey < 2 ^ 32) ⌝ }
     ensures { λ n. ⌜ n ≡ quoteCap s grey ⌝ }
@@ -44,7 +44,7 @@ pub fn block_cap(greys: &[u8], r: usize, k: usize, i: usize) -> u32
     quote_cap(s, grey) as u32
 }
 
-// The caps of all squares of level k, by row then column, in front of what the list has behind them.
+// The caps (S 8.3) of all squares of level k, by row then column, in front of what the list has behind them.
 pub fn put_caps(greys: &[u8], r: usize, k: usize, caps: &mut [u32])
     requires { ⌜ LevelLent r k (length (now greys)) ⌝ }
     requires { ⌜ 2 ^ k * 2 ^ k ≤ length (now caps) ⌝ }

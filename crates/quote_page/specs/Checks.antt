@@ -1,4 +1,5 @@
--- The checks of Quote Page, one after another: what each test tells about the number of the refusal, all tests before it being passed.
+-- The checks of Quote Page, one after another: what each test tells about the number of the refusal, all tests before
+-- it being passed (`side-unknown` to `nothing-short`).
 use mathlib.Core.Path.{_≡_, refl, sym, _∙_}
 use mathlib.Core.List.{[], _∷_}
 use Prim.Native.Nat.{ℕ, _≤_, _<_}
@@ -17,7 +18,8 @@ module _ (r g s k page output : ℕ) where
   side-unknown h = sym (lowest-here 1 _ _ (eq-eqb r 0 h))
 
   module _ (known : r ≡ 0 → ⊥) {cells : ℕ} (ec : cells ≡ cellCount r) where
-    past-side : quotePageRefusal r g s k page output ≡ lowest (greysShort r g ∷ sheetShort r s ∷ levelUnknown r k ∷ outputShort page output ∷ [])
+    past-side : quotePageRefusal r g s k page output
+        ≡ lowest (greysShort r g ∷ sheetShort r s ∷ levelUnknown r k ∷ outputShort page output ∷ [])
     unfolding quotePageRefusal
     past-side = lowest-past 1 (eqb r 0) _ (ne-eqb r 0 known)
 
@@ -25,7 +27,8 @@ module _ (r g s k page output : ℕ) where
     greys-short h = sym (past-side ∙ lowest-here 2 _ _ (short ec h))
 
     module _ (greys-long : cells ≤ g) where
-      past-greys : quotePageRefusal r g s k page output ≡ lowest (sheetShort r s ∷ levelUnknown r k ∷ outputShort page output ∷ [])
+      past-greys : quotePageRefusal r g s k page output
+          ≡ lowest (sheetShort r s ∷ levelUnknown r k ∷ outputShort page output ∷ [])
       past-greys = past-side ∙ lowest-past 2 _ _ (enough ec greys-long)
 
       pub sheet-short : s < cells → 4 ≡ quotePageRefusal r g s k page output

@@ -1,4 +1,4 @@
 pub mod Lines
 pub mod Page
 pub mod Checks
-pub mod Calls
+pub mod WaysOut

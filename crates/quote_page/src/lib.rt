@@ -1,5 +1,6 @@
-// Quote Page: "one line per aligned square of that level, by row then column. A line holds the entry's row a (3 wide) and column b (3),
-// grey sum (8), holes (5), cap (5), with one space between, right aligned with spaces, then byte 10: 29 bytes."
+// Quote Page (`quote_page`): a line for each aligned square of a level, by row then column, with five figures in
+// columns: the square's row (3 places) and column (3), its grey sum (8), its holes (5) and its cap (5). A line has 29
+// bytes.
 use checks::Check;
 use definition::Refusal;
 use definition::TextAnswer;
@@ -12,7 +13,7 @@ ghost use Rattle.decimals.specs.Writing.{Wrote};
 ghost use Rattle.checks.specs.Checks.{checked};
 ghost use Rattle.quote_page.specs.Page.{PageAsked, pageLength};
 
-// A line of five figures.
+// A line of five figures in columns (S 6.5).
 fn put_line(
     out: &mut [u8],
     at: usize,
@@ -23,7 +24,9 @@ fn put_line(
     cap: u64,
 ) -> usize
     requires { ⌜ at ≤ 2 ^ 61 ⌝ }
-    ensures { λ next. ⌜ Wrote (now (out .entry)) at (alignedLine (columns row column grey dots cap)) next (now (out .exit)) ⌝ }
+    ensures { λ next. ⌜
+        Wrote (now (out .entry)) at (alignedLine (columns row column grey dots cap)) next (now (out .exit))
+        ⌝ }
 {
     let second = decimals::put_column(out, at, 3, row, 32);
     let third = decimals::put_column(out, second, 3, column, 32);
@@ -44,7 +47,10 @@ fn put_block(
     column: usize,
 ) -> usize
     requires { ⌜ (at ≤ 2 ^ 61) × (row < 2 ^ k) × (column < 2 ^ k) × PageAsked (now greys) (now serials) r k ⌝ }
-    ensures { λ next. ⌜ Wrote (now (out .entry)) at (quoteLine r (now (greys .entry)) (now (serials .entry)) k row column) next (now (out .exit)) ⌝ }
+    ensures { λ next. ⌜
+        Wrote (now (out .entry)) at (quoteLine r (now (greys .entry)) (now (serials .entry)) k row column) next
+        (now (out .exit))
+        ⌝ }
 {
     let s = sizes::pow2(r - k) as u64;
     let grey = blocks::block_greys(greys, r, k, row, column) as u64;
@@ -64,7 +70,10 @@ fn put_row(
     row: usize,
 ) -> usize
     requires { ⌜ (from ≤ 2 ^ 60) × (row < 2 ^ k) × PageAsked (now greys) (now serials) r k ⌝ }
-    ensures { λ next. ⌜ Wrote (now (out .entry)) from (joined (2 ^ k) (quoteLine r (now (greys .entry)) (now (serials .entry)) k row)) next (now (out .exit)) ⌝ }
+    ensures { λ next. ⌜
+        Wrote (now (out .entry)) from (joined (2 ^ k) (quoteLine r (now (greys .entry)) (now (serials .entry)) k row))
+        next (now (out .exit))
+        ⌝ }
 {
     let count = sizes::pow2(k);
     let mut at = from;
@@ -79,7 +88,9 @@ fn put_row(
 // The whole page.
 fn put_page(out: &mut [u8], greys: &[u8], serials: &[u32], r: usize, k: usize) -> usize
     requires { ⌜ PageAsked (now greys) (now serials) r k ⌝ }
-    ensures { λ next. ⌜ Wrote (now (out .entry)) 0 (quoteText r (now (greys .entry)) (now (serials .entry)) k) next (now (out .exit)) ⌝ }
+    ensures { λ next. ⌜
+        Wrote (now (out .entry)) 0 (quoteText r (now (greys .entry)) (now (serials .entry)) k) next (now (out .exit))
+        ⌝ }
 {
     let count = sizes::pow2(k);
     let mut at = 0;
@@ -91,7 +102,7 @@ fn put_page(out: &mut [u8], greys: &[u8], serials: &[u32], r: usize, k: usize) -
     at
 }
 
-// The refusals 1, 2, 4, 6, 8, for lengths lent.
+// The refusals 1, 2, 4, 6, 8 (S 5.2), for lengths lent.
 fn check_quote(r: usize, greys: usize, serials: usize, k: usize, out: usize) -> Check
     requires { ⌜ r ≤ 8 ⌝ }
     ensures { λ c. ⌜ checked c ≡ quotePageRefusal r greys serials k (pageLength k) out ⌝ }
@@ -116,7 +127,7 @@ fn check_quote(r: usize, greys: usize, serials: usize, k: usize, out: usize) -> 
     Check::Passed
 }
 
-// Quote Page: the page of a level, or a refusal with nothing written. It reads each cell once.
+// Quote Page (S 8.4): the page of a level, or a refusal with nothing written. It reads each cell once.
 pub fn quote_page(
     side: u32,
     greys: &[u8],
@@ -124,7 +135,13 @@ pub fn quote_page(
     level: u32,
     out: &mut [u8],
 ) -> TextAnswer
-    ensures { λ a. ⌜ record { said = textSays a; output = now (out .exit) } ≡ quotePageOf side (now (greys .entry)) (now (serials .entry)) level (now (out .entry)) ⌝ }
+    ensures { λ a. ⌜
+        record {
+          said = textSays a;
+          output = now (out .exit);
+        }
+        ≡ quotePageOf side (now (greys .entry)) (now (serials .entry)) level (now (out .entry))
+        ⌝ }
 {
     let r = sizes::power_of(side);
     let k = level as usize;

@@ -1,4 +1,4 @@
--- The bytes of a word, stored one by one, and the line of a refusal.
+-- The bytes of a word, stored one by one (`all-bytes`), and the line of a refusal (`line-printed`).
 use mathlib.Core.Path.{_≡_, refl, ap}
 use mathlib.Core.List.{List, [], _∷_, _++_}
 use Prim.Native.Nat.{ℕ, _+_, _^_, _≤_, _<_}
@@ -22,7 +22,7 @@ module _ {l l₁ : List ℕ} (bytes : List ℕ) (j : ℕ) (w : Wrote l 0 (take j
   pub all-bytes : length bytes ≤ j → Wrote l 0 bytes j l₁
   all-bytes h = rw (take-all j bytes h) at w
 
--- ---- "the line refused,n"
+-- ---- the line of a refusal: a word of eight bytes, and the number as a field
 abbrev pub refusedWord : List ℕ
 refusedWord = 114 ∷ 101 ∷ 102 ∷ 117 ∷ 115 ∷ 101 ∷ 100 ∷ 44 ∷ []
 
@@ -32,8 +32,10 @@ refused-is n = refl
 
 module _ (n : ℕ) (small : n < 2 ^ 64) (before : List ℕ) (room : 29 ≤ length before) where
   refused-short : length (refusedText n) ≤ length before
-  refused-short = omega (arith, ap length (refused-is n), length-append refusedWord (fieldText n 10), length-fieldText n small 10)
+  refused-short =
+      omega (arith, ap length (refused-is n), length-append refusedWord (fieldText n 10), length-fieldText n small 10)
 
-  pub line-printed : {l₁ after : List ℕ} {at next : ℕ} → Wrote l₁ at (fieldText n 10) next after → Wrote before 0 refusedWord at l₁
+  pub line-printed : {l₁ after : List ℕ} {at next : ℕ} → Wrote l₁ at (fieldText n 10) next after
+      → Wrote before 0 refusedWord at l₁
       → Printed (refusedText n) before next after
   line-printed y x = wrote-printed refused-short (rw (refused-is n) (wrote-append x y))

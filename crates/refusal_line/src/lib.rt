@@ -1,4 +1,4 @@
-// The line that a program prints for a refusal (document 01, The program plate).
+// The line that a program prints for a refusal (`put_refused`).
 ghost use Prim.Native.Nat.{_^_, _≤_};
 ghost use lib.ListN.{length};
 ghost use Rattle.definition.specs.Plate.{refusedText};
@@ -18,7 +18,7 @@ fn put_bytes(out: &mut [u8], bytes: &[u8]) -> usize
     i
 }
 
-// The line "refused,n": eight bytes, the number, and byte 10.
+// The line "refused,n" that a program prints where it says no (S 14.1): eight bytes, the number, and byte 10.
 pub fn put_refused(out: &mut [u8], number: u32) -> usize
     requires { ⌜ 29 ≤ length (now out) ⌝ }
     ensures { λ n. ⌜ Printed (refusedText number) (now (out .entry)) n (now (out .exit)) ⌝ }

@@ -1,4 +1,6 @@
--- The lowest number that applies: a row that applies gives its number, one that doesn't is passed over, and 0 means that none applies.
+-- The first row that applies: it gives its number (`lowest-here`), one that doesn't is passed over (`lowest-past`), and
+-- 0 means that none applies (`lowest-none`); so which greys buffers and which maps Load accepts (`greys-none`,
+-- `load-none`).
 use mathlib.Core.Path.{_≡_, refl, ap, _∙_}
 use mathlib.Core.Bool.{Bool, true, false, not, _&&_}
 use mathlib.Core.Logic.{_↔_}
@@ -22,6 +24,7 @@ use Rattle.definition.specs.Refusals.{
 use Rattle.definition.specs.Load.{loadRefusal}
 use Rattle.refusals.specs.Names.{both}
 
+-- of the checks that apply the first is told (S 5.2)
 pub lowest-here : (n : ℕ) (b : Bool) (rows : List Row) → b ≡ true → lowest ((n, b) ∷ rows) ≡ n
 unfolding lowest
 lowest-here n b rows e = rw e
@@ -30,7 +33,8 @@ pub lowest-past : (n : ℕ) (b : Bool) (rows : List Row) → b ≡ false → low
 unfolding lowest
 lowest-past n b rows e = rw e
 
-pub lowest-none : (n : ℕ) (b : Bool) (rows : List Row) → 0 < n → lowest ((n, b) ∷ rows) ≡ 0 → (b ≡ false) × (lowest rows ≡ 0)
+pub lowest-none : (n : ℕ) (b : Bool) (rows : List Row) → 0 < n → lowest ((n, b) ∷ rows) ≡ 0
+    → (b ≡ false) × (lowest rows ≡ 0)
 unfolding lowest
 lowest-none n true rows h e = absurd (omega arith)
 lowest-none n false rows h e = (refl, e)
@@ -83,7 +87,8 @@ greys-none r lent = (
       let r₁ = lowest-none 1 (eqb r 0) _ (omega arith) e in
       let r₂ = lowest-none 2 (ltb lent (cellCount r)) _ (omega arith) (r₁ .1) in
       (omega (arith, eqb-false r 0 (r₁ .0)), ltb-false _ _ (r₂ .0)),
-  λ h. lowest-past 1 (eqb r 0) _ (ne-eqb r 0 (λ e. omega arith)) ∙ lowest-past 2 (ltb lent (cellCount r)) _ (le-ltb _ _ (h .1)) ∙ unfold lowest in refl,
+  λ h. lowest-past 1 (eqb r 0) _ (ne-eqb r 0 (λ e. omega arith))
+      ∙ lowest-past 2 (ltb lent (cellCount r)) _ (le-ltb _ _ (h .1)) ∙ unfold lowest in refl,
 )
 
 -- what Load is lent, if it accepts it: one of the eight sides, a knit, and buffers that are long enough
@@ -95,7 +100,7 @@ pub record LoadLent (r knit greys pyramid serials order : ℕ) : Type 0 where
   pub serials-long : cellCount r ≤ serials
   pub order-long : cellCount r ≤ order
 
--- and no grey of the map is too high
+-- and no grey of the map is too high (S 7.2)
 pub load-none : (r knit greys pyramid serials order : ℕ) (low : Bool)
     → (loadRefusal r knit greys pyramid serials order low ≡ 0)
     ↔ (LoadLent r knit greys pyramid serials order × (low ≡ true))

@@ -1,4 +1,4 @@
--- The names of stages are 1 to 8 (document 02, request 7).
+-- The names of stages are 1 to 8 (`at-least-one`, `at-most-eight`, `one-to-eight`).
 use mathlib.Core.Path.{_≡_, refl, sym}
 use mathlib.Core.Bool.{Bool, true, false, _&&_, true≢false}
 use Prim.Native.Nat.{ℕ, _≤_}
@@ -20,6 +20,7 @@ module _ (name : ℕ) (e : isName name ≡ true) where
   unfolding isName
   at-most-eight = leb-true name 8 (both (leb 1 name) (leb name 8) e .1)
 
+-- and these are names (S 2.11)
 pub one-to-eight : (name : ℕ) → 1 ≤ name → name ≤ 8 → isName name ≡ true
 unfolding isName
 one-to-eight name low high = rw (le-leb 1 name low, le-leb name 8 high)

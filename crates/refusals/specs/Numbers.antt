@@ -1,4 +1,4 @@
--- Every refusal has a number above 0, so 0 stands for none.
+-- Every refusal has a number above 0, so 0 stands for none (`number-positive`).
 use mathlib.Core.Path.{_≡_, refl}
 use Prim.Native.Nat.{suc, _-_}
 use Rattle.definition.specs.Answers.{numberOf}
@@ -20,6 +20,7 @@ use Rattle.definition.specs.declared.Refusal.the-variants.{
   SideSmall,
 }
 
+-- the numbers begin at 1 (S 5.1)
 pub number-positive : (why : Refusal) → numberOf why ≡ suc (numberOf why - 1)
 unfolding numberOf
 number-positive SideUnknown = refl

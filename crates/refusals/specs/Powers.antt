@@ -1,4 +1,5 @@
--- The power of a side: which sides have one, and which it is.
+-- The power of a side: which sides have one, and which it is (`powerOf-pow`, `side-pow`); it is at most 8
+-- (`power-small`).
 use mathlib.Core.Path.{_≡_, refl, sym, ap, _∙_}
 use Prim.Native.Nat.{ℕ, zero, suc, _*_, _^_, _≤_, _<_}
 use native.Mathlib.Decide.{ℕ-discrete}
@@ -32,9 +33,11 @@ powerUpTo-pow zero r p h = absurd (omega arith)
 powerUpTo-pow (suc k) r p h =
     elim (ℕ-discrete r (suc k)) [
       | yes e ↦ powerUpTo-here k (2 ^ r) (ap (λ (j : ℕ). 2 ^ j) e) ∙ sym e
-      | no n ↦ let l : r < suc k = omega arith in powerUpTo-below k (2 ^ r) (λ e. omega (arith, pow-lt l)) ∙ powerUpTo-pow k r p (omega arith)
+      | no n ↦ let l : r < suc k = omega arith in powerUpTo-below k (2 ^ r) (λ e. omega (arith, pow-lt l))
+          ∙ powerUpTo-pow k r p (omega arith)
     ]
 
+-- each of the eight sides has its power (S 2.1)
 pub powerOf-pow : (r : ℕ) → 0 < r → r ≤ 8 → powerOf (2 ^ r) ≡ r
 unfolding powerOf
 powerOf-pow r p h = powerUpTo-pow 8 r p h

@@ -1,4 +1,4 @@
--- A pyramid written by quarters, level by level.
+-- A pyramid written by quarters, level by level (`one-laid`, `level-laid`, `all-laid`).
 use mathlib.Core.Path.{_≡_, refl, sym, ap, ap₂, _∙_}
 use mathlib.Core.List.{List, [], _++_, append-assoc}
 use Prim.Native.Nat.{ℕ, zero, suc, _+_, _-_, _*_, _/_, _%_, _^_, _≤_, _<_}

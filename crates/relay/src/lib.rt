@@ -1,4 +1,4 @@
-// Relay: the pyramid of an older sheet, which lies row after row, written by quarters into a second one.
+// Relay (`relay`): the pyramid of an older sheet, which lies row after row, written by quarters into a second one.
 use checks::Check;
 use definition::Progress;
 use definition::Refusal;
@@ -17,8 +17,8 @@ ghost use Rattle.checks.specs.Checks.{checked};
 ghost use Rattle.places.specs.Table.{places};
 ghost use Rattle.relay.specs.Laying.{LevelAsked, LevelsAsked};
 
-// Refusals 1, 11, 3, 4, 5. Refusal 3 is for either pyramid, so the shorter one counts; the sheet is to be sound row
-// after row.
+// Refusals 1, 11, 3, 4, 5 (S 5.2). Refusal 3 is for either pyramid, so the shorter one counts; the sheet is to be sound
+// row after row.
 fn check_relay(
     r: usize,
     dots: u32,
@@ -83,6 +83,7 @@ fn lay_levels(second: &mut [i64], table: &[u16; 1024], pyramid: &[i64], r: usize
     }
 }
 
+// Relay (S 12.2): the pyramid of an older sheet (S 2.6), written by quarters.
 pub fn relay(
     progress: Progress,
     pyramid: &[i64],

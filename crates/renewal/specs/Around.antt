@@ -1,4 +1,4 @@
--- The cells around one: what is over them is over the corners of their box.
+-- The cells around one: what is over them is over the corners of their box (`corners-over`, `renewed-around`).
 use mathlib.Core.Path.{_≡_, refl, sym, ap, ap₂, _∙_}
 use mathlib.Core.Logic.{_⊎_, inl, inr}
 use mathlib.Core.Bool.{Bool, true, false, cond, _&&_, _||_}
@@ -23,8 +23,8 @@ use Rattle.layouts.specs.Interleaved.{interleaved-lt, interleaved-any, row-inte
 use Rattle.layouts.specs.Renewed.{quartersRenewed, Chosen, rows-renewed}
 use Rattle.places.specs.declared.Parts.{Parts}
 use Rattle.places.specs.Parts.{partsAround, place-parts}
-use Rattle.renewal.specs.Asked.{eitherOf, chosenOf, atCorners, over, madeUp, fourMadeUp}
-use Rattle.renewal.specs.Asked.{Corners, Rising, RenewAsked}
+use Rattle.renewal.specs.OverPlaces.{eitherOf, chosenOf, atCorners, over, madeUp, fourMadeUp}
+use Rattle.renewal.specs.OverPlaces.{Corners, Rising, RenewAsked}
 use Rattle.renewal.specs.Chosen.{start-four, start-one, over-four, corners-up}
 use Rattle.renewal.specs.Made.{all-made}
 

@@ -1,4 +1,5 @@
--- The places over chosen places: a quarter of each. And the corners of two rows and two columns, from level to level.
+-- The places over chosen places: a quarter of each (`over-four`). And the corners of two rows and two columns, from
+-- level to level (`corners-up`).
 use mathlib.Core.Path.{_≡_, refl, sym, ap, ap₂, _∙_, fun-ext}
 use mathlib.Core.Logic.{_⊎_, inl, inr}
 use mathlib.Core.Bool.{Bool, true, false, _||_}
@@ -13,7 +14,7 @@ use Rattle.integers.specs.Tests.{tests, T-or, or-T, same-test}
 use Rattle.quadtree.specs.Levels.{start-thrice, start-suc, start-mono, quadruple}
 use Rattle.layouts.specs.Interleaved.{interleaved-lt, row-interleaved, column-interleaved}
 use Rattle.layouts.specs.Renewed.{overChosen}
-use Rattle.renewal.specs.Asked.{eitherOf, chosenOf, over, Corners, InLevel}
+use Rattle.renewal.specs.OverPlaces.{eitherOf, chosenOf, over, Corners, InLevel}
 
 -- ---- places over places
 module _ (p i : ℕ) where

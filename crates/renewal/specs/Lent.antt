@@ -1,4 +1,5 @@
--- The renewal by itself: which pyramids it is made on.
+-- The renewal by itself: which pyramids it is made on (`then-small`, `made`), and that it leaves the others
+-- (`left-alone`).
 use mathlib.Core.Path.{_≡_, refl, sym, ap, ap₂, _∙_}
 use mathlib.Core.Bool.{Bool, true, false, not, _&&_}
 use mathlib.Core.List.{List, _++_}
@@ -30,9 +31,9 @@ use Rattle.layouts.specs.Relaid.{rows-entry, length-rows, quarters-back}
 use Rattle.layouts.specs.Lent.{rows-length, rows-take, rows-drop, rows-taken, as-quarters-part, quarters-rows}
 use Rattle.places.specs.declared.Parts.{Parts}
 use Rattle.places.specs.Parts.{partsAround, AroundAsked}
-use Rattle.pyramid.specs.Asked.{Within, Whole, SmallPyramid}
+use Rattle.pyramid.specs.PyramidPart.{Within, Whole, SmallPyramid}
 use Rattle.pyramid.specs.Small.{zero-within}
-use Rattle.renewal.specs.Asked.{RenewAsked}
+use Rattle.renewal.specs.OverPlaces.{RenewAsked}
 
 module _ (z : ℤ) (fits : SFits w64 z) where
   abbrev least : Bool
@@ -43,13 +44,17 @@ module _ (z : ℤ) (fits : SFits w64 z) where
 
   pub too-low : ltZ (toZ w64 (ofZ w64 z)) (negsuc 1099511627775) ≡ true → false ≡ isSmall z
   unfolding isSmall
-  too-low e = let low = rw (toZ-ofZ fits) at e in same-test false (least && most) (λ t. absurd t) (λ t. let u = T-and least most t .0 in absurd (omega ints))
+  too-low e =
+      let low = rw (toZ-ofZ fits) at e in
+      same-test false (least && most) (λ t. absurd t) (λ t. let u = T-and least most t .0 in absurd (omega ints))
 
-  pub not-low : ltZ (toZ w64 (ofZ w64 z)) (negsuc 1099511627775) ≡ false → leZ (toZ w64 (ofZ w64 z)) (pos 1099511627776) ≡ isSmall z
+  pub not-low : ltZ (toZ w64 (ofZ w64 z)) (negsuc 1099511627775) ≡ false
+      → leZ (toZ w64 (ofZ w64 z)) (pos 1099511627776) ≡ isSmall z
   unfolding isSmall
   not-low e =
       let high = rw (toZ-ofZ fits) at e in
-      rw (toZ-ofZ fits) (same-test most (least && most) (λ t. and-T least most (simp zz (omega ints)) t) (λ t. T-and least most t .1))
+      rw (toZ-ofZ fits)
+      (same-test most (least && most) (λ t. and-T least most (simp zz (omega ints)) t) (λ t. T-and least most t .1))
 
 -- the whole test, entry by entry
 pub small-every : (n : ℕ) (pyramid : List ℤ) → Every (entriesSmall n pyramid) (λ i. isSmall (getD pyramid i (pos 0))) n
@@ -158,7 +163,8 @@ module _ (side row column : ℕ) (pyramid : List ℤ) where
   unfolding renewable
   fits-all h =
       and-T map-there (entriesSmall (needed r) pyramid)
-      (four-T (not (eqb r 0)) (leb (needed r) (length pyramid)) (ltb row side) (ltb column side) (omega (tests, h .power)) (omega (tests, h .long)) (omega (tests, h .above)) (omega (tests, h .left)))
+      (four-T (not (eqb r 0)) (leb (needed r) (length pyramid)) (ltb row side) (ltb column side)
+      (omega (tests, h .power)) (omega (tests, h .long)) (omega (tests, h .above)) (omega (tests, h .left)))
       (h .small)
 
   -- ---- as the code goes: each test that fails, and the last one
@@ -178,11 +184,18 @@ module _ (side row column : ℕ) (pyramid : List ℤ) where
     pub off-column : side ≤ column → false ≡ renewable side row column pyramid
     off-column le = unfit (λ h. omega (arith, h .left))
 
-    pub then-small : (p ≡ 0 → ⊥) → {n : ℕ} → n ≡ needed p → n ≤ length pyramid → row < side → column < side → {b : Bool} → b ≡ entriesSmall n pyramid → b ≡ renewable side row column pyramid
+    pub then-small : (p ≡ 0 → ⊥) → {n : ℕ} → n ≡ needed p → n ≤ length pyramid → row < side → column < side → {b : Bool}
+        → b ≡ entriesSmall n pyramid → b ≡ renewable side row column pyramid
     then-small some {n} en long above left {b} e =
         let en' : n ≡ needed r = en ∙ ap needed ep in
         same-test b (renewable side row column pyramid)
-        (λ t. fits-all (record { power = positive some; long = omega arith; above = above; left = left; small = rw (← en', ← e) t }))
+        (λ t. fits-all (record {
+          power = positive some;
+          long = omega arith;
+          above = above;
+          left = left;
+          small = rw (← en', ← e) t;
+        }))
         (λ t. rw (e, en') (fitting t .small))
       where
         positive : (p ≡ 0 → ⊥) → 0 < r
@@ -284,7 +297,8 @@ module _ (side row column : ℕ) (pyramid : List ℤ) where
         (within-small (getD pyramid i (pos 0))
         (allTo-at (needed (powerOf side)) (λ j. isSmall (getD pyramid j (pos 0)))
         (unfold entriesSmall in (found .small)) i (rw n-is at lt)))
-    small-at i (no ge) = rw (List·getD-eq-default (take n pyramid) (pos 0) {n = i} (omega (arith, length-part))) (zero-within (2 ^ 40))
+    small-at i (no ge) =
+        rw (List·getD-eq-default (take n pyramid) (pos 0) {n = i} (omega (arith, length-part))) (zero-within (2 ^ 40))
 
     part-small : SmallPyramid (take n pyramid)
     part-small = record { small = λ i. small-at i (decLt i n) }

@@ -1,4 +1,4 @@
-pub mod Asked
+pub mod OverPlaces
 pub mod Places
 pub mod Steps
 pub mod Chosen

@@ -1,5 +1,5 @@
--- A level renewed at some places, and all that is over them: as stores into the pyramid, and as the renewal by place
--- (`layouts`) has it.
+-- A level renewed at some places, and all that is over them: as stores into the pyramid (`four-made`, `one-made`), and
+-- as the renewal by place (`layouts`) has it (`renewed-is`, `all-made`).
 use mathlib.Core.Path.{_≡_, refl, sym, ap, ap₂, _∙_}
 use mathlib.Core.Logic.{_⊎_, inl, inr}
 use mathlib.Core.Bool.{Bool, true, false, cond, not, _||_}
@@ -20,8 +20,8 @@ use Rattle.integers.specs.Tests.{tests, T-or, or-T, T-or-not, cond-T, cond-not}
 use Rattle.quadtree.specs.Levels.{start-suc}
 use Rattle.layouts.specs.Sums.{fourFrom}
 use Rattle.layouts.specs.Renewed.{overChosen, quartersRenewed}
-use Rattle.pyramid.specs.Asked.{fourAt}
-use Rattle.renewal.specs.Asked.{eitherOf, chosenOf, at, below, levelMade, made, madeUp, fourRenewed, InLevel}
+use Rattle.pyramid.specs.PyramidPart.{fourAt}
+use Rattle.renewal.specs.OverPlaces.{eitherOf, chosenOf, at, below, levelMade, made, madeUp, fourRenewed, InLevel}
 use Rattle.renewal.specs.Places.{elsewhere}
 use Rattle.renewal.specs.Chosen.{start-four}
 

@@ -1,4 +1,5 @@
--- What one changed entry does to the entries and to the sums of four, by places of the whole pyramid.
+-- What one changed entry does to the entries (`elsewhere`) and to the sums of four (`below-changed`), by places of the
+-- whole pyramid.
 use mathlib.Core.Path.{_≡_, ap}
 use mathlib.Core.List.{List}
 use Prim.Native.Nat.{ℕ, _+_, _*_, _-_, _<_}
@@ -8,8 +9,8 @@ use lib.ListN.{length, set}
 use lib.Seq.{getD-set-same, getD-set-other}
 use lib.IntN.{ℤ, pos, _+ℤ_, _-ℤ_}
 use Rattle.integers.specs.Linear.{zz, ints}
-use Rattle.pyramid.specs.Asked.{fourAt}
-use Rattle.renewal.specs.Asked.{at, below, over}
+use Rattle.pyramid.specs.PyramidPart.{fourAt}
+use Rattle.renewal.specs.OverPlaces.{at, below, over}
 
 -- ---- what is below a place, after a change
 module _ (p : List ℤ) (x : ℕ) (z : ℤ) where

@@ -1,4 +1,4 @@
--- Four entries of a level renewed; one carried up.
+-- Four entries of a level renewed (`four-renewed`); one carried up (`carried`).
 use mathlib.Core.Path.{_≡_, sym, ap, _∙_}
 use mathlib.Core.List.{List}
 use Prim.Native.Nat.{ℕ, _+_, _*_, _^_, _≤_, _<_}
@@ -9,9 +9,9 @@ use mir.Syntax.{w64}
 use mir.Val.{SFits, toZ, ofZ}
 use mir.Facts.{toZ-ofZ}
 use Rattle.integers.specs.Machine.{words, machine}
-use Rattle.pyramid.specs.Asked.{fourAt, Within}
+use Rattle.pyramid.specs.PyramidPart.{fourAt, Within}
 use Rattle.pyramid.specs.Four.{within-four}
-use Rattle.renewal.specs.Asked.{at, below, over, AtAsked, FourPlaces, fourRenewed, CarryAsked}
+use Rattle.renewal.specs.OverPlaces.{at, below, over, AtAsked, FourPlaces, fourRenewed, CarryAsked}
 use Rattle.renewal.specs.Places.{below-changed}
 
 -- ---- four of a level

@@ -1,4 +1,5 @@
--- The ways up: four places from level to level until they are one, and then that one to the top.
+-- The ways up: four places from level to level until they are one (`Climbing`, `climbed`), and then that one to the top
+-- (`Carrying`, `carried-up`).
 use mathlib.Core.Path.{_≡_, refl, sym, ap, ap₂, _∙_}
 use mathlib.Core.Bool.{Bool}
 use mathlib.Core.List.{List}
@@ -14,10 +15,10 @@ use Rattle.definition.specs.Quarters.{interleaved}
 use Rattle.integers.specs.Tests.{cond-both}
 use Rattle.quadtree.specs.Levels.{start-thrice, start-suc, start-mono, quadruple}
 use Rattle.layouts.specs.Interleaved.{interleaved-lt}
-use Rattle.pyramid.specs.Asked.{fourAt, Within}
+use Rattle.pyramid.specs.PyramidPart.{fourAt, Within}
 use Rattle.pyramid.specs.Four.{within-four, within-mono}
-use Rattle.renewal.specs.Asked.{chosenOf, at, below, over, made, madeUp, fourMadeUp, fourRenewed}
-use Rattle.renewal.specs.Asked.{AtAsked, FourPlaces, CarryAsked, Corners, Rising, InLevel}
+use Rattle.renewal.specs.OverPlaces.{chosenOf, at, below, over, made, madeUp, fourMadeUp, fourRenewed}
+use Rattle.renewal.specs.OverPlaces.{AtAsked, FourPlaces, CarryAsked, Corners, Rising, InLevel}
 use Rattle.renewal.specs.Chosen.{start-four, start-one, over-four, corners-up, nw-at, ne-at, sw-at, se-at}
 use Rattle.renewal.specs.Chosen.{joined-ne, joined-sw}
 use Rattle.renewal.specs.Made.{made-long, made-before, made-level, made-after, four-made, one-made}

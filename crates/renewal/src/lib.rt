@@ -1,7 +1,9 @@
-// Renewal, as step 2 of report 265 counts it: after a dot the coarser sums over its cell and each neighbour are made
-// again, on every level up to the top. These cells lie between four corners. Three rows side by side lie under two
-// rows, or one, of every coarser level, and columns likewise: so the entries over all nine cells are those over the
-// corners. The pyramid lies by quarters: over the entry at place i of the whole pyramid is the one at (i - 1) / 4.
+// Renewal: after a dot the coarser sums over its cell and each neighbour are made again, on every level up to the top
+// (`renew`; by itself, on any lent pyramid, `renew_lent`).
+//
+// These cells lie between four corners. Three rows side by side lie under two rows, or one, of every coarser level, and
+// columns likewise: so the entries over all nine cells are those over the corners. The pyramid lies by quarters: over
+// the entry at place i of the whole pyramid is the one at (i - 1) / 4.
 use places::Parts;
 ghost use mathlib.Core.Path.{_≡_};
 ghost use Prim.Native.Nat.{_≤_};
@@ -10,8 +12,8 @@ ghost use Rattle.definition.specs.Refusals.{powerOf};
 ghost use Rattle.definition.specs.Renewal.{isNear, renewed, isSmall, entriesSmall, renewable};
 ghost use Rattle.definition.specs.Quarters.{rowsFrom};
 ghost use Rattle.definition.specs.ByQuarters.{renewalByQuarters};
-ghost use Rattle.renewal.specs.Asked.{below, over, fourMadeUp, fourRenewed, AtAsked, FourPlaces, CarryAsked};
-ghost use Rattle.renewal.specs.Asked.{Rising, InLevel, Corners, RenewAsked};
+ghost use Rattle.renewal.specs.OverPlaces.{below, over, fourMadeUp, fourRenewed, AtAsked, FourPlaces, CarryAsked};
+ghost use Rattle.renewal.specs.OverPlaces.{Rising, InLevel, Corners, RenewAsked};
 
 // The sum of the four entries below the one at place i.
 fn four_below(pyramid: &[i64], i: usize) -> i64
@@ -92,8 +94,8 @@ fn renew_up(pyramid: &mut [i64], level: usize, a: usize, b: usize, c: usize, d: 
     carry_up(pyramid, k, nw);
 }
 
-// Renews the coarser sums over a cell and its neighbours, in a pyramid of just the needed length. The parts are those
-// of the places around the cell; only the contract has a use for its row and column.
+// Renews the coarser sums over a cell and its neighbours (S 3.8), in a pyramid of just the needed length. The parts are
+// those of the places around the cell; only the contract has a use for its row and column.
 pub fn renew(pyramid: &mut [i64], r: usize, p: Parts, row: usize, column: usize)
     requires { ⌜ RenewAsked (now pyramid) r p row column ⌝ }
     ensures { λ _. ⌜
@@ -145,7 +147,7 @@ fn entries_small(pyramid: &[i64], count: usize) -> bool
     true
 }
 
-// Whether the renewal can be made around this cell, r being the side's power.
+// Whether the renewal can be made around this cell (S 12.3), r being the side's power.
 fn is_renewable(side: u32, r: usize, row: u32, column: u32, pyramid: &[i64]) -> bool
     requires { ⌜ r ≡ powerOf side ⌝ }
     ensures { λ b. ⌜ b ≡ renewable side row column (now (pyramid .entry)) ⌝ }
@@ -166,7 +168,7 @@ fn is_renewable(side: u32, r: usize, row: u32, column: u32, pyramid: &[i64]) -> 
     entries_small(pyramid, needed)
 }
 
-// The renewal by itself, for any numbers and any pyramid: whether it was made.
+// The renewal by itself (S 12.3), for any numbers and any pyramid: whether it was made.
 pub fn renew_lent(side: u32, row: u32, column: u32, pyramid: &mut [i64]) -> bool
     ensures { λ b. ⌜ (b, now (pyramid .exit)) ≡ renewalByQuarters side row column (now (pyramid .entry)) ⌝ }
 {

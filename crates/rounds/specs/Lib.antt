@@ -1,3 +1,3 @@
-pub mod Asked
+pub mod Offsets
 pub mod Round
 pub mod Run

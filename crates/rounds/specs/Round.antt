@@ -1,4 +1,4 @@
--- One round: its macroblocks worked one after the other, by row then column.
+-- One round: its macroblocks worked one after the other, by row then column (`Working`, `worked`, `goes-on`).
 use mathlib.Core.Path.{_≡_, refl, sym, ap, _∙_}
 use mathlib.Core.List.{List, _∷_}
 use Prim.Native.Nat.{ℕ, suc, _+_, _*_, _-_, _/_, _%_, _^_, _≤_, _<_}
@@ -21,8 +21,8 @@ use Rattle.dots.specs.Steps.{Sheet}
 use Rattle.head_order.specs.Promise.{Fits}
 use Rattle.head_order.specs.Working.{work-sheet}
 use Rattle.head_order.specs.Orders.{inRound, inPlace, round-fits-at}
-use Rattle.macroblock.specs.Asked.{LargeSheet}
-use Rattle.rounds.specs.Asked.{AcrossAsked}
+use Rattle.macroblock.specs.FourBlocks.{LargeSheet}
+use Rattle.rounds.specs.Offsets.{AcrossAsked}
 
 -- ---- how many lie side by side
 blocks-few : (r : ℕ) → r ≤ 8 → 2 ^ (r - 2) ≤ 64

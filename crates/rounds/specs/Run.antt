@@ -1,4 +1,4 @@
--- The run: rounds until four in a row have made no hole.
+-- The run: rounds until four in a row have made no hole (`Going`, `goes-on`, `over`).
 use mathlib.Core.Path.{_≡_, refl, sym, _∙_}
 use mathlib.Core.Bool.{cond}
 use mathlib.Core.List.{List}
@@ -21,7 +21,7 @@ use Rattle.integers.specs.Linear.{zz, ints}
 use Rattle.quadtree.specs.Levels.{cells-few}
 use Rattle.shares.specs.Kernels.{knit-fit}
 use Rattle.head_order.specs.Rounds.{State, rounds-over, state-fuel, state-on, rounds-next}
-use Rattle.macroblock.specs.Asked.{LargeSheet}
+use Rattle.macroblock.specs.FourBlocks.{LargeSheet}
 
 -- ---- the rounds in a row without a hole
 pub one-more-idle : (idle before after : ℕ) → after ≡ before → idle + 1 ≡ cond (eqb after before) (suc idle) 0

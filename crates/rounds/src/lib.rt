@@ -1,5 +1,5 @@
-// Rounds of the laser with two heads: the macroblocks of a round, and rounds until four in a row have made no hole. The
-// pyramid lies by quarters; what becomes of it is said of the pyramid written row after row.
+// Rounds of the laser with two heads: the macroblocks of a round, and rounds until four in a row have made no hole
+// (`run`). The pyramid lies by quarters; what becomes of it is said of the pyramid written row after row.
 ghost use mathlib.Core.Path.{_≡_};
 ghost use mathlib.Core.Bool.{cond};
 ghost use Prim.Native.Nat.{suc, _<_};
@@ -10,10 +10,10 @@ ghost use Rattle.definition.specs.Quarters.{rowsFrom};
 ghost use Rattle.definition.specs.Diffusion.{kernelOf};
 ghost use Rattle.heads.specs.TwoHeads.{across, workAll, macroblocks, rounds, mostRounds};
 ghost use Rattle.places.specs.Table.{places};
-ghost use Rattle.macroblock.specs.Asked.{LargeSheet};
-ghost use Rattle.rounds.specs.Asked.{AcrossAsked};
+ghost use Rattle.macroblock.specs.FourBlocks.{LargeSheet};
+ghost use Rattle.rounds.specs.Offsets.{AcrossAsked};
 
-// How many macroblocks lie side by side on a map of power r, from an offset of 0 or 1 blocks on.
+// How many macroblocks lie side by side on a map of power r, from an offset of 0 or 1 blocks on (S 13.1).
 fn across(r: usize, offset: usize) -> usize
     requires { ⌜ AcrossAsked r offset ⌝ }
     ensures { λ n. ⌜ n ≡ across r offset ⌝ }
@@ -21,7 +21,7 @@ fn across(r: usize, offset: usize) -> usize
     (sizes::pow2(r - 2) - offset) / 2
 }
 
-// Works the macroblocks of round t, by row then column, and returns the dots made by then.
+// Works the macroblocks of round t (S 13.1), by row then column, and returns the dots made by then.
 fn round(
     pyramid: &mut [i64],
     serials: &mut [u32],
@@ -79,7 +79,7 @@ fn idle_after(idle: usize, before: u32, after: u32) -> usize
     if after == before { idle + 1 } else { 0 }
 }
 
-// Makes rounds on a sheet without dots, until four in a row have made none, and returns the dots made.
+// Makes rounds on a sheet without dots, until four in a row have made none (S 13.4), and returns the dots made.
 pub fn run(
     pyramid: &mut [i64],
     serials: &mut [u32],

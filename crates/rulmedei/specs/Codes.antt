@@ -1,4 +1,5 @@
--- What the functions for C return and write, from what the calls' definitions say.
+-- What the functions for C return and write (S 16.1), from what the calls' definitions say: one record for each
+-- (`LoadCode`, `AdvanceCode`, `TextCode` and so on).
 use mathlib.Core.Bool.{Bool, cond}
 use mathlib.Core.List.{List, [], _∷_}
 use Prim.Native.Nat.{ℕ}
@@ -132,7 +133,8 @@ pub record TallyCode : Type 0 where
   pub value : ℕ
 
 unfoldable pub tallyCode : ℕ → List ℕ → ℕ → ℕ → ℕ → TallyCode
-tallyCode side serials level row column = let said = tallyOf side serials level row column in record { code = codeOf said; value = valueOf said }
+tallyCode side serials level row column =
+    let said = tallyOf side serials level row column in record { code = codeOf said; value = valueOf said }
 
 pub record LevelsCode : Type 0 where
   pub code : ℕ
@@ -140,7 +142,8 @@ pub record LevelsCode : Type 0 where
 
 -- the nine sums are stored in the first places, as far as there are places
 unfoldable pub levelsCode : ℕ → List ℕ → List ℕ → List ℕ → LevelsCode
-levelsCode side greys serials sums = let o = levelsOf side greys serials in record { code = codeOf (o .said); sums = sets sums 0 (o .sums) }
+levelsCode side greys serials sums =
+    let o = levelsOf side greys serials in record { code = codeOf (o .said); sums = sets sums 0 (o .sums) }
 
 -- Map Text and the sample
 pub record GreysCode : Type 0 where
@@ -208,7 +211,7 @@ pub record TwoHeadsCode : Type 0 where
   pub side : ℕ
   pub dots : ℕ
   pub knit : ℕ
-  pub holes : ℕ
+  pub made : ℕ
   pub debt : ℤ
   pub pyramid : List ℤ
   pub serials : List ℕ
@@ -222,7 +225,7 @@ twoHeadsCode side knit greys pyramid serials order =
       side = o .progress .side;
       dots = o .progress .dots;
       knit = o .progress .knit;
-      holes = o .holes;
+      made = o .made;
       debt = o .debt;
       pyramid = o .pyramid;
       serials = o .serials;

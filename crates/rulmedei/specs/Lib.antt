@@ -1,3 +1,3 @@
 pub mod Codes
-pub mod Calls
+pub mod FromCalls
 pub mod Sums

@@ -1,4 +1,4 @@
--- Storing nine sums one by one, as far as there are places.
+-- Storing nine sums one by one, as far as there are places (`SumsLeft`, `sums-whole`).
 use mathlib.Core.Path.{_≡_, refl, sym, _∙_}
 use mathlib.Core.List.{List}
 use Prim.Native.Nat.{ℕ, _+_, _≤_, _<_}
@@ -16,9 +16,16 @@ pub record SumsLeft (nine before : List ℕ) (i : ℕ) (sums : List ℕ) : Type 
 pub sums-whole : (nine before : List ℕ) → SumsLeft nine before 0 before
 sums-whole nine before = record { most = omega arith; kept = refl; rest = refl }
 
-module _ {nine before : List ℕ} {i : ℕ} {sums : List ℕ} (l : SumsLeft nine before i sums) (are-nine : length nine ≡ 9) where
-  pub sums-less : {stored : List ℕ} → i < 9 → stored ≡ set sums i (getD nine i 0) → SumsLeft nine before (i + 1) stored
-  sums-less h e = record { most = omega arith; kept = rw (e, length-set) (l .kept); rest = l .rest ∙ rw (drop-cons nine i 0 (omega arith), e, add-one i) }
+module _ {nine before : List ℕ} {i : ℕ} {sums : List ℕ} (l : SumsLeft nine before i sums) (are-nine : length nine ≡ 9)
+  where
+    pub sums-less : {stored : List ℕ} → i < 9 → stored ≡ set sums i (getD nine i 0)
+        → SumsLeft nine before (i + 1) stored
+    sums-less h e =
+        record {
+          most = omega arith;
+          kept = rw (e, length-set) (l .kept);
+          rest = l .rest ∙ rw (drop-cons nine i 0 (omega arith), e, add-one i);
+        }
 
-  pub sums-none : 9 ≤ i → sums ≡ sets before 0 nine
-  sums-none h = let past : length nine ≤ i = omega arith in sym (l .rest ∙ rw (drop-of-length-le nine past))
+    pub sums-none : 9 ≤ i → sums ≡ sets before 0 nine
+    sums-none h = let past : length nine ≤ i = omega arith in sym (l .rest ∙ rw (drop-of-length-le nine past))

@@ -1,7 +1,11 @@
-// The calls for programs in C and Rust: numbers and slices only. Each returns a code: 0 where the call did its work,
-// 100 where Advance says more, 102 to 106 for what Compare says, or else the papers' number of the refusal. The
-// renewal by itself, no call of document 01, returns 0 or 101; the lowering of greys by itself returns nothing. A slice
-// is a pointer and a length (include/rulmedei.h says what a caller must ensure).
+// The calls for programs in C and Rust, from `rulmedei_load` to `rulmedei_renew`: numbers and slices only (S 16.1).
+// Each answers and leaves what its contract says (S 15.1), comes to an end, reads and writes only what it is lent, and
+// never overflows (S 15.16): the contracts here and below show it.
+//
+// Each returns a code: 0 where the call did its work, 100 where Advance says more, 102 to 106 for what Compare says, or
+// else the number of the refusal (S 5.1). The renewal by itself returns 0 or 101; the lowering of greys by itself
+// returns nothing. A slice is a pointer and a length. What a caller in C must ensure (S 16.2) stands at the top of
+// include/rulmedei.h; the safe functions of the Rust crate (S 16.3) call these, and see to it.
 use definition::AdvanceStatus;
 use definition::CheckpointStatus;
 use definition::Checkpoints;
@@ -34,7 +38,7 @@ ghost use Rattle.rulmedei.specs.Codes.{keepCode, restoreCode};
 ghost use Rattle.rulmedei.specs.Codes.{lowerTextCode, sketchCode, twoHeadsCode};
 ghost use Rattle.rulmedei.specs.Codes.{greysCode, textCode, compareCode, shelfCode, relayCode, renewCode};
 
-// Load. The record is written to `progress_side`, `progress_dots` and `progress_knit`.
+// Load for C (S 16.1, S 7.1, S 7.2). The record is written to `progress_side`, `progress_dots` and `progress_knit`.
 #[no_mangle]
 pub extern "C" fn rulmedei_load(
     side: u32,
@@ -73,8 +77,8 @@ pub extern "C" fn rulmedei_load(
     }
 }
 
-// Advance, with the record (side, dots, knit). The holes afterwards are written to `after`, those made in this call
-// to `made`.
+// Advance for C (S 16.1, S 7.3, S 7.4), with the record (side, dots, knit). The holes afterwards are written to
+// `after`, those made in this call to `made`.
 #[no_mangle]
 pub extern "C" fn rulmedei_advance(
     side: u32,
@@ -128,7 +132,8 @@ fn status_code(status: CheckpointStatus) -> u32
     }
 }
 
-// Keep, with the record (side, dots, knit). The value is changed in place, and stays where it refuses.
+// Keep for C (S 16.1, S 10.1), with the record (side, dots, knit). The value is changed in place, and stays where it
+// refuses.
 #[no_mangle]
 pub extern "C" fn rulmedei_keep(
     side: u32,
@@ -150,7 +155,8 @@ pub extern "C" fn rulmedei_keep(
     status_code(status)
 }
 
-// Restore, with the record (side, dots, knit). The holes afterwards are written to `after`.
+// Restore for C (S 16.1, S 10.2, S 10.3), with the record (side, dots, knit). The holes afterwards are written to
+// `after`.
 #[no_mangle]
 pub extern "C" fn rulmedei_restore(
     side: u32,
@@ -192,7 +198,7 @@ pub extern "C" fn rulmedei_restore(
     status_code(status)
 }
 
-// Tally. The holes of the square are written to `dots`, 0 where it refuses.
+// Tally for C (S 16.1, S 8.1). The holes of the square are written to `dots`, 0 where it refuses.
 #[no_mangle]
 pub extern "C" fn rulmedei_tally(
     side: u32,
@@ -202,7 +208,13 @@ pub extern "C" fn rulmedei_tally(
     column: u32,
     dots: &mut u32,
 ) -> u32
-    ensures { λ n. ⌜ record { code = n; value = now (dots .exit) } ≡ tallyCode side (now (serials .entry)) level row column ⌝ }
+    ensures { λ n. ⌜
+        record {
+          code = n;
+          value = now (dots .exit);
+        }
+        ≡ tallyCode side (now (serials .entry)) level row column
+        ⌝ }
 {
     match survey::tally(side, serials, level, row, column) {
         TallyAnswer::Dots(n) => {
@@ -237,10 +249,17 @@ fn put_sums(nine: [u64; 9], sums: &mut [u64])
     }
 }
 
-// Levels. The nine sums are written to the first places of `sums`, as far as there are places; nine zeros where it refuses.
+// Levels for C (S 16.1, S 8.2). The nine sums are written to the first places of `sums`, as far as there are places;
+// nine zeros where it refuses.
 #[no_mangle]
 pub extern "C" fn rulmedei_levels(side: u32, greys: &[u8], serials: &[u32], sums: &mut [u64]) -> u32
-    ensures { λ n. ⌜ record { code = n; sums = now (sums .exit) } ≡ levelsCode side (now (greys .entry)) (now (serials .entry)) (now (sums .entry)) ⌝ }
+    ensures { λ n. ⌜
+        record {
+          code = n;
+          sums = now (sums .exit);
+        }
+        ≡ levelsCode side (now (greys .entry)) (now (serials .entry)) (now (sums .entry))
+        ⌝ }
 {
     let answer = survey::levels(side, greys, serials);
     let nine = answer.sums;
@@ -252,10 +271,17 @@ pub extern "C" fn rulmedei_levels(side: u32, greys: &[u8], serials: &[u32], sums
     }
 }
 
-// Map Text. The side is written to `side`, 0 where it refuses.
+// Map Text for C (S 16.1, S 9.1). The side is written to `side`, 0 where it refuses.
 #[no_mangle]
 pub extern "C" fn rulmedei_map_text(text: &[u8], greys: &mut [u8], side: &mut u32) -> u32
-    ensures { λ n. ⌜ record { code = n; value = now (side .exit); greys = now (greys .exit) } ≡ greysCode (mapTextOf (now (text .entry)) (now (greys .entry))) ⌝ }
+    ensures { λ n. ⌜
+        record {
+          code = n;
+          value = now (side .exit);
+          greys = now (greys .exit);
+        }
+        ≡ greysCode (mapTextOf (now (text .entry)) (now (greys .entry)))
+        ⌝ }
 {
     match map_text::map_text(text, greys) {
         MapTextAnswer::Side(n) => {
@@ -285,7 +311,7 @@ fn text_code(answer: TextAnswer, length: &mut usize) -> u32
     }
 }
 
-// Lower Text. The text's length is written to `length`, 0 where it refuses.
+// Lower Text for C (S 16.1, S 9.2). The text's length is written to `length`, 0 where it refuses.
 #[no_mangle]
 pub extern "C" fn rulmedei_lower_text(
     text: &[u8],
@@ -302,7 +328,8 @@ pub extern "C" fn rulmedei_lower_text(
     text_code(answer, length)
 }
 
-// Drill List, with the record (side, dots, knit). The list's length is written to `length`, 0 where it refuses.
+// Drill List for C (S 16.1, S 9.3), with the record (side, dots, knit). The list's length is written to `length`, 0
+// where it refuses.
 #[no_mangle]
 pub extern "C" fn rulmedei_drill_list(
     side: u32,
@@ -326,7 +353,7 @@ pub extern "C" fn rulmedei_drill_list(
     text_code(answer, length)
 }
 
-// Quote Page. The page's length is written to `length`, 0 where it refuses.
+// Quote Page for C (S 16.1, S 8.4). The page's length is written to `length`, 0 where it refuses.
 #[no_mangle]
 pub extern "C" fn rulmedei_quote_page(
     side: u32,
@@ -336,14 +363,21 @@ pub extern "C" fn rulmedei_quote_page(
     out: &mut [u8],
     length: &mut usize,
 ) -> u32
-    ensures { λ n. ⌜ record { code = n; length = now (length .exit); output = now (out .exit) } ≡ textCode (quotePageOf side (now (greys .entry)) (now (serials .entry)) level (now (out .entry))) ⌝ }
+    ensures { λ n. ⌜
+        record {
+          code = n;
+          length = now (length .exit);
+          output = now (out .exit);
+        }
+        ≡ textCode (quotePageOf side (now (greys .entry)) (now (serials .entry)) level (now (out .entry)))
+        ⌝ }
 {
     let answer = quote_page::quote_page(side, greys, serials, level, out);
     text_code(answer, length)
 }
 
-// Sketch Quote. The side, the least and the greatest total are written to `side_read`, `least` and `greatest`, 0 where
-// it refuses.
+// Sketch Quote for C (S 16.1, S 9.4). The side, the least and the greatest total are written to `side_read`, `least`
+// and `greatest`, 0 where it refuses.
 #[no_mangle]
 pub extern "C" fn rulmedei_sketch_quote(
     text: &[u8],
@@ -383,8 +417,8 @@ pub extern "C" fn rulmedei_sketch_quote(
     }
 }
 
-// Two Heads. The record is written to `progress_side`, `progress_dots` and `progress_knit`, the holes to `holes` and
-// the debt that is left to `debt`, all 0 where it refuses.
+// Two Heads for C (S 16.1, S 13.5). The record is written to `progress_side`, `progress_dots` and `progress_knit`, the
+// holes to `made` and the debt that is left to `debt`, all 0 where it refuses.
 #[no_mangle]
 pub extern "C" fn rulmedei_two_heads(
     side: u32,
@@ -396,7 +430,7 @@ pub extern "C" fn rulmedei_two_heads(
     progress_side: &mut u32,
     progress_dots: &mut u32,
     progress_knit: &mut u32,
-    holes: &mut u32,
+    made: &mut u32,
     debt: &mut i64,
 ) -> u32
     ensures { λ n. ⌜
@@ -405,7 +439,7 @@ pub extern "C" fn rulmedei_two_heads(
           side = now («progress_side» .exit);
           dots = now («progress_dots» .exit);
           knit = now («progress_knit» .exit);
-          holes = now (holes .exit);
+          made = now (made .exit);
           debt = now (debt .exit);
           pyramid = now (pyramid .exit);
           serials = now (serials .exit);
@@ -415,25 +449,32 @@ pub extern "C" fn rulmedei_two_heads(
         (now (greys .entry)) (now (pyramid .entry)) (now (serials .entry)) (now (order .entry))
         ⌝ }
 {
-    let answer = laser::two_heads(side, knit, greys, pyramid, serials, order);
-    let after = answer.progress;
+    let ran = laser::two_heads(side, knit, greys, pyramid, serials, order);
+    let after = ran.progress;
     *progress_side = after.side;
     *progress_dots = after.dots;
     *progress_knit = after.knit;
-    *holes = answer.holes;
-    let left = answer.debt;
+    *made = ran.made;
+    let left = ran.debt;
     *debt = left;
-    let status = answer.status;
+    let status = ran.status;
     match status {
         TwoHeadsStatus::Stopped => 0,
         TwoHeadsStatus::Refused(why) => checks::number_of(why),
     }
 }
 
-// The sample. The state reached is written to `state`, 0 where it refuses.
+// The sample for C (S 16.1, S 12.1). The state reached is written to `state`, 0 where it refuses.
 #[no_mangle]
 pub extern "C" fn rulmedei_sample(seed: u32, side: u32, greys: &mut [u8], state: &mut u32) -> u32
-    ensures { λ n. ⌜ record { code = n; value = now (state .exit); greys = now (greys .exit) } ≡ greysCode (sampleOf seed side (now (greys .entry))) ⌝ }
+    ensures { λ n. ⌜
+        record {
+          code = n;
+          value = now (state .exit);
+          greys = now (greys .exit);
+        }
+        ≡ greysCode (sampleOf seed side (now (greys .entry)))
+        ⌝ }
 {
     match sample_map::sample(seed, side, greys) {
         SampleAnswer::State(n) => {
@@ -447,7 +488,8 @@ pub extern "C" fn rulmedei_sample(seed: u32, side: u32, greys: &mut [u8], state:
     }
 }
 
-// Compare. The row and column of the cell that it names are written to `row` and `column`, 0 and 0 where it names none.
+// Compare for C (S 16.1, S 11.1). The row and column of the cell that it names are written to `row` and `column`, 0 and
+// 0 where it names none.
 #[no_mangle]
 pub extern "C" fn rulmedei_compare(
     side: u32,
@@ -481,7 +523,7 @@ pub extern "C" fn rulmedei_compare(
     }
 }
 
-// Shelf. The numbers of the plates are written to `list`.
+// Shelf for C (S 16.1, S 11.2). The numbers of the plates are written to `list`.
 #[no_mangle]
 pub extern "C" fn rulmedei_shelf(side: u32, n: u32, plates: &[u32], list: &mut [u32]) -> u32
     ensures { λ c. ⌜
@@ -495,7 +537,7 @@ pub extern "C" fn rulmedei_shelf(side: u32, n: u32, plates: &[u32], list: &mut [
     }
 }
 
-// Relay, with the record (side, dots, knit). The pyramid is written by quarters into `second`.
+// Relay for C (S 16.1, S 12.2), with the record (side, dots, knit). The pyramid is written by quarters into `second`.
 #[no_mangle]
 pub extern "C" fn rulmedei_relay(
     side: u32,
@@ -520,7 +562,7 @@ pub extern "C" fn rulmedei_relay(
     }
 }
 
-// The lowering of greys by itself: no call of the papers, and it refuses nothing.
+// The lowering of greys by itself, for C (S 16.1, S 12.4): it refuses nothing.
 #[no_mangle]
 pub extern "C" fn rulmedei_lower(greys: &mut [u8])
     ensures { λ _. ⌜ now (greys .exit) ≡ lowered (now (greys .entry)) ⌝ }
@@ -528,7 +570,7 @@ pub extern "C" fn rulmedei_lower(greys: &mut [u8])
     lower::lower(greys);
 }
 
-// The renewal by itself, around the cell in this row and column. It is no call of document 01: 101 where it isn't made.
+// The renewal by itself, for C (S 16.1, S 12.3), around the cell in this row and column: 101 where it isn't made.
 #[no_mangle]
 pub extern "C" fn rulmedei_renew(side: u32, row: u32, column: u32, pyramid: &mut [i64]) -> u32
     ensures { λ n. ⌜

@@ -1,4 +1,5 @@
-// Reads cases on standard input and writes what Load and then Advance, call after call, answer to each.
+// Reads cases on standard input and writes what `load` and then `advance`, call after call, answer to each.
+//
 // The input is lines of decimal numbers parted by commas. The first line is the count of cases. A case is: a line with
 // the side, the knit, a seed and the places to spare; a line with the greys, if the seed is 0; a line with the count of
 // calls; and a line for each of them: the budget, the three lengths lent (pyramid, serials, order), a place of the

@@ -1,4 +1,4 @@
--- What a loop that fills greys by a run of the generator leaves after n turns.
+-- What a loop that fills greys by a run of the generator leaves after n turns (`Sampled`, `sampled-all`).
 use mathlib.Core.Path.{_≡_, refl, ap, _∙_}
 use mathlib.Core.List.{List, _++_}
 use Prim.Native.Nat.{ℕ, _+_, _≤_, _<_}
@@ -19,7 +19,8 @@ sampled-none seed before = record { reached = refl; stored = refl }
 
 -- one step more: `next` and `grey` are what the code has worked out
 pub sampled-more : {seed n state : ℕ} {before greys : List ℕ} → Sampled seed n before state greys → n < length before
-    → {next grey : ℕ} → next ≡ nextState state → grey ≡ greyOf next → Sampled seed (n + 1) before next (set greys n grey)
+    → {next grey : ℕ} → next ≡ nextState state → grey ≡ greyOf next
+    → Sampled seed (n + 1) before next (set greys n grey)
 unfolding stateAfter sampleGreys
 sampled-more {seed} {n} {state} {before} s h {next} {grey} en eg =
     record {
@@ -31,8 +32,11 @@ sampled-more {seed} {n} {state} {before} s h {next} {grey} en eg =
     }
 
 -- all of them, once the loop's count is not below the number asked for
-pub sampled-all : {seed n count state : ℕ} {before greys : List ℕ} → n ≤ count → count ≤ n → Sampled seed n before state greys → Sampled seed count before state greys
+pub sampled-all : {seed n count state : ℕ} {before greys : List ℕ} → n ≤ count → count ≤ n
+    → Sampled seed n before state greys → Sampled seed count before state greys
 sampled-all {n = n} {count = count} h k s = let e : n ≡ count = omega arith in rw e at s
 
-pub length-sampled : {seed n state : ℕ} {before greys : List ℕ} → n ≤ length before → Sampled seed n before state greys → length greys ≡ length before
-length-sampled {seed} {n} {before = before} h s = ap length (s .stored) ∙ length-front (sampleGreys n seed) before (length-greys n seed) h
+pub length-sampled : {seed n state : ℕ} {before greys : List ℕ} → n ≤ length before → Sampled seed n before state greys
+    → length greys ≡ length before
+length-sampled {seed} {n} {before = before} h s =
+    ap length (s .stored) ∙ length-front (sampleGreys n seed) before (length-greys n seed) h

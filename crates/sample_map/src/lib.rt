@@ -1,4 +1,4 @@
-// The sample: "from a 32-bit seed and a side, fill the greys."
+// The sample: the greys of a map filled from a seed (`sample`).
 use checks::Check;
 use definition::SampleAnswer;
 ghost use mathlib.Core.Path.{_≡_};
@@ -8,14 +8,14 @@ ghost use Rattle.definition.specs.Answers.{sampleSays};
 ghost use Rattle.definition.specs.Sample.{nextState, greyOf, sampleOf};
 ghost use Rattle.sample_map.specs.Filled.{Sampled};
 
-// The state that one step reaches.
+// The state that one step reaches (S 12.1).
 fn next_state(state: u32) -> u32
     ensures { λ n. ⌜ n ≡ nextState state ⌝ }
 {
     ((1664525 * state as u64 + 1013904223) % 4294967296) as u32
 }
 
-// The grey of a state: its highest byte.
+// The grey of a state: its highest byte (S 12.1).
 fn grey_of(state: u32) -> u8
     ensures { λ g. ⌜ g ≡ greyOf state ⌝ }
 {
@@ -38,8 +38,15 @@ fn fill_greys(seed: u32, count: usize, greys: &mut [u8]) -> u32
     state
 }
 
+// The sample (S 12.1), with its checks in order (S 5.2).
 pub fn sample(seed: u32, side: u32, greys: &mut [u8]) -> SampleAnswer
-    ensures { λ a. ⌜ record { said = sampleSays a; greys = now (greys .exit) } ≡ sampleOf seed side (now (greys .entry)) ⌝ }
+    ensures { λ a. ⌜
+        record {
+          said = sampleSays a;
+          greys = now (greys .exit);
+        }
+        ≡ sampleOf seed side (now (greys .entry))
+        ⌝ }
 {
     let r = sizes::power_of(side);
     match checks::check_greys(r, greys.len()) {

@@ -1,4 +1,5 @@
--- Runs of the generator: a run of m + n steps is one of m steps and then, from the state that it reached, one of n.
+-- Runs of the generator: a run of m + n steps is one of m steps and then, from the state that it reached, one of n
+-- (`greys-in-turn`, `state-in-turn`).
 use mathlib.Core.Path.{_≡_, refl, ap}
 use mathlib.Core.List.{_++_}
 use Prim.Native.Nat.{ℕ, zero, suc, _+_, _≤_}

@@ -1,5 +1,6 @@
--- Tables of weights that the laws hold for, by one test that is computed: over every kind of cell, as seen from a square and from the map, the
--- weights' sum D divides 65,280, and three times the weight outside the square is at most D for each side of the square that the cell lies on.
+-- Tables of weights that the laws hold for (`Fit`), by one test that is computed (`fit-of`, and `knit-fit` for the
+-- table of each knit): over every kind of cell, as seen from a square and from the map, the weights' sum D divides
+-- 65,280, and three times the weight outside the square is at most D for each side of the square that the cell lies on.
 use mathlib.Core.Path.{_≡_}
 use mathlib.Core.Logic.{_⊎_, inl, inr}
 use mathlib.Core.Bool.{Bool, _&&_, _||_}
@@ -42,7 +43,9 @@ ofThree (suc (suc n)) x z = z
 module _ (kernel : Kernel) (t b l r : Next) where
   -- the weight of the place in turn n, and whether that place is in the square
   unfoldable pub kindWeight : ℕ → ℕ
-  kindWeight n = let p = kernel .turn n in kernel .weight p * (ofThree (p / 3) (present t) (present b) * ofThree (p % 3) (present l) (present r))
+  kindWeight n =
+      let p = kernel .turn n in
+      kernel .weight p * (ofThree (p / 3) (present t) (present b) * ofThree (p % 3) (present l) (present r))
 
   unfoldable pub kindStays : ℕ → ℕ
   kindStays n = let p = kernel .turn n in ofThree (p / 3) (inside t) (inside b) * ofThree (p % 3) (inside l) (inside r)
@@ -54,7 +57,8 @@ module _ (kernel : Kernel) (t b l r : Next) where
   unfoldable pub kindFits : Bool
   kindFits =
       eqb (present t + present b) 0 || eqb (present l + present r) 0
-      || (eqb (oneDot % sumTo 9 kindWeight) 0 && leb (3 * sumTo 9 (λ n. kindWeight n * (1 - kindStays n))) (sumTo 9 kindWeight * kindSides))
+      || (eqb (oneDot % sumTo 9 kindWeight) 0
+      && leb (3 * sumTo 9 (λ n. kindWeight n * (1 - kindStays n))) (sumTo 9 kindWeight * kindSides))
 
 abbrev every : (Next → Bool) → Bool
 every test = test within && (test beyond && test off)
@@ -70,7 +74,8 @@ isFit kernel = allKindsFit kernel && (allTo 9 (λ n. ltb (kernel .turn n) 9) && 
 pub record KindFits (kernel : Kernel) (t b l r : Next) : Type 0 where
   pub unit : ℕ
   pub divides : sumTo 9 (kindWeight kernel t b l r) * unit ≡ oneDot
-  pub outside : 3 * sumTo 9 (λ n. kindWeight kernel t b l r n * (1 - kindStays kernel t b l r n)) ≤ sumTo 9 (kindWeight kernel t b l r) * kindSides kernel t b l r
+  pub outside : 3 * sumTo 9 (λ n. kindWeight kernel t b l r n * (1 - kindStays kernel t b l r n))
+      ≤ sumTo 9 (kindWeight kernel t b l r) * kindSides kernel t b l r
 
 pub record Fit (kernel : Kernel) : Type 0 where
   pub kinds : (t b l r : Next) → 0 < present t + present b → 0 < present l + present r → KindFits kernel t b l r
@@ -82,7 +87,8 @@ every-at test t within = T-and (test within) (test beyond && test off) t .0
 every-at test t beyond = T-and (test beyond) (test off) (T-and (test within) (test beyond && test off) t .1) .0
 every-at test t off = T-and (test beyond) (test off) (T-and (test within) (test beyond && test off) t .1) .1
 
-kind-fits : (kernel : Kernel) (t b l r : Next) → T (kindFits kernel t b l r) → 0 < present t + present b → 0 < present l + present r → KindFits kernel t b l r
+kind-fits : (kernel : Kernel) (t b l r : Next) → T (kindFits kernel t b l r) → 0 < present t + present b
+    → 0 < present l + present r → KindFits kernel t b l r
 unfolding kindFits
 kind-fits kernel t b l r h v w = go (T-or (eqb (present t + present b) 0 || eqb (present l + present r) 0) divided h)
   where
@@ -103,7 +109,11 @@ kind-fits kernel t b l r h v w = go (T-or (eqb (present t + present b) 0 || eqb 
     go (inl e) = absurd (none (T-or (eqb (present t + present b) 0) (eqb (present l + present r) 0) e))
     go (inr e) =
         let d = T-and (eqb (oneDot % D) 0) (leb out (D * kindSides kernel t b l r)) e in
-        record { unit = oneDot / D; divides = omega (arith, div-add-mod oneDot D, eqb→eq (oneDot % D) 0 (d .0)); outside = leb→le out (D * kindSides kernel t b l r) (d .1) }
+        record {
+          unit = oneDot / D;
+          divides = omega (arith, div-add-mod oneDot D, eqb→eq (oneDot % D) 0 (d .0));
+          outside = leb→le out (D * kindSides kernel t b l r) (d .1);
+        }
 
 pub fit-of : (kernel : Kernel) → T (isFit kernel) → Fit kernel
 unfolding isFit allKindsFit
@@ -115,12 +125,13 @@ fit-of kernel h =
           kind-fits kernel t b l r
           (every-at (λ s. kindFits kernel t b l s)
           (every-at (λ s. every (λ z. kindFits kernel t b s z))
-          (every-at (λ s. every (λ y. every (λ z. kindFits kernel t s y z))) (every-at (λ s. every (λ x. every (λ y. every (λ z. kindFits kernel s x y z)))) (u .0) t) b) l) r);
+          (every-at (λ s. every (λ y. every (λ z. kindFits kernel t s y z)))
+          (every-at (λ s. every (λ x. every (λ y. every (λ z. kindFits kernel s x y z)))) (u .0) t) b) l) r);
       turns = λ n k. ltb→lt (kernel .turn n) 9 (allTo-at 9 (λ m. ltb (kernel .turn m) 9) (v .0) n k);
       hollow = eqb→eq (kernel .weight 4) 0 (v .1);
     }
 
--- the weights of each knit: the test above, computed for one table and for the other
+-- the weights of each knit (S 3.5): the test above, computed for one table and for the other
 pub knit-fit : (knit : ℕ) → Fit (kernelOf knit)
 unfolding isFit allKindsFit kindFits kindWeight kindStays kindSides present inside touching ofThree allTo sumTo
     weightsOf placesInTurn kernelOf

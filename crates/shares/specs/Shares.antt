@@ -1,9 +1,19 @@
--- The shares of a number d by running floors, over any weights: none is negative (they are natural numbers), they sum to d, and if d is at most u for
--- each unit of weight in all, then each share is at most u for each unit of its weight.
+-- The shares of a number d by running floors, over any weights: none is negative (they are natural numbers), they sum
+-- to d (`share-sum`), and if d is at most u for each unit of weight in all, then each share is at most u for each unit
+-- of its weight (`share-bound`).
 use mathlib.Core.Path.{_≡_, sym, ap, _∙_}
 use Prim.Native.Nat.{ℕ, zero, suc, _+_, _*_, _/_, _≤_, _<_}
 use native.Mathlib.Omega.{arith}
-use native.Mathlib.Nat.{div-mul-le-self, lt-div-mul-add, lt-of-mul-lt-mul-right, mul-le-mul-right, mul-div-cancel, zero-div, mul-zero, le-mul-of-pos-right}
+use native.Mathlib.Nat.{
+  div-mul-le-self,
+  lt-div-mul-add,
+  lt-of-mul-lt-mul-right,
+  mul-le-mul-right,
+  mul-div-cancel,
+  zero-div,
+  mul-zero,
+  le-mul-of-pos-right,
+}
 use Rattle.definition.specs.Lists.{sumTo}
 use Rattle.definition.specs.Diffusion.{share}
 
@@ -34,6 +44,7 @@ module _ (m : ℕ) (weight : ℕ → ℕ) (some : 0 < sumTo m weight) where
   share-run d zero = sym (zero-div (sumTo m weight)) ∙ ap (λ (k : ℕ). k / sumTo m weight) (sym (mul-zero d))
   share-run d (suc n) = omega (arith, share-run d n, floor-mono (sumTo m weight) d (sumTo n weight) (weight n) some)
 
+  -- the shares sum to what is spread (S 3.7)
   pub share-sum : (d : ℕ) → sumTo m (share m weight d) ≡ d
   share-sum d = share-run d m ∙ mul-div-cancel d some
 

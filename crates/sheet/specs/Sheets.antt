@@ -1,4 +1,4 @@
--- The checks of a sheet: its lengths, then whether it is sound.
+-- The checks of a sheet: its lengths (`lengths-first`), then whether it is sound (`then-sound`, `quarters-sound`).
 use mathlib.Core.Path.{_≡_, refl, sym, ap, _∙_}
 use mathlib.Core.Bool.{Bool, true, false, not, cond}
 use mathlib.Core.List.{List}
@@ -23,7 +23,7 @@ use Rattle.checks.specs.Checks.{checked, passed-none, failed-number}
 use Rattle.checks.specs.declared.Check.{Check}
 use Rattle.checks.specs.declared.Check.the-variants.{Passed, Failed}
 use Rattle.layouts.specs.Lent.{rows-taken, rows-take}
-use Rattle.sound.specs.Asked.{SoundAsked, inRows}
+use Rattle.sound.specs.OnePlace.{SoundAsked, inRows}
 
 -- a sheet that is long enough
 pub record SheetLent (r pyramid serials order : ℕ) : Type 0 where

@@ -1,4 +1,5 @@
-// The check of the calls that take a sheet: refusals 1, 11, 3, 4 and 5.
+// The check of the calls that take a sheet: refusals 1, 11, 3, 4 and 5 (`check_sheet`; `check_lengths` and `sound_lent`
+// are its halves).
 use checks::Check;
 use definition::Refusal;
 ghost use mathlib.Core.Path.{_≡_};
@@ -12,7 +13,7 @@ ghost use Rattle.places.specs.Table.{places};
 ghost use Rattle.checks.specs.Checks.{checked};
 ghost use Rattle.sheet.specs.Sheets.{SheetLent, shownRows};
 
-// Refusals 1, 11, 3, 4, from the side's power, the knit and the lengths lent.
+// Refusals 1, 11, 3, 4 (S 5.2), from the side's power, the knit and the lengths lent.
 pub fn check_lengths(r: usize, knit: u32, pyramid: usize, serials: usize, order: usize) -> Check
     requires { ⌜ r ≤ 8 ⌝ }
     ensures { λ c. ⌜ checked c ≡ advanceRefusal r knit pyramid serials order true ⌝ }
@@ -68,7 +69,7 @@ pub fn sound_lent(
     )
 }
 
-// Refusals 1, 11, 3, 4, 5: side, knit and the lengths lent, then whether the sheet is sound by quarters.
+// Refusals 1, 11, 3, 4, 5 (S 5.2): side, knit and the lengths lent, then whether the sheet is sound by quarters.
 pub fn check_sheet(
     r: usize,
     dots: u32,

@@ -1,6 +1,6 @@
-pub mod Asked
+pub mod PlatesLent
 pub mod Putting
 pub mod Pairs
 pub mod Searching
 pub mod Sorting
-pub mod Calls
+pub mod WaysOut

@@ -1,4 +1,5 @@
--- Two plates of a shelf, as parts of it; and what their comparison says of their order.
+-- Two plates of a shelf, as parts of it (`first-part`, `second-part`); and what their comparison says of their order
+-- (`parts-say`).
 use mathlib.Core.Path.{_≡_, refl, sym, ap, ap₂, _∙_}
 use mathlib.Core.Bool.{Bool, true, false}
 use mathlib.Core.List.{List}
@@ -9,7 +10,7 @@ use Rattle.definition.specs.Answers.{Said, returned, finished, more, comparison
 use Rattle.definition.specs.Pyramid.{cellCount}
 use Rattle.definition.specs.Shelf.{compared, plateAt, isBefore}
 use Rattle.definition.specs.declared.CompareAnswer.{CompareAnswer}
-use Rattle.shelf.specs.Asked.{PairAsked}
+use Rattle.shelf.specs.PlatesLent.{PairAsked}
 
 -- whether a comparison says before
 unfoldable pub saysBefore : Said → Bool

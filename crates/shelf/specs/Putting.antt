@@ -1,4 +1,4 @@
--- A number put into a list: those behind it move up by one.
+-- A number put into a list: those behind it move up by one (`Carrying`, `carry-next`, `carry-last`).
 use mathlib.Core.Path.{_≡_, refl, sym, ap, ap₂, _∙_}
 use mathlib.Core.List.{List, [], _∷_, _++_, append-assoc}
 use Prim.Native.Nat.{ℕ, zero, suc, _+_, _-_, _≤_, _<_}

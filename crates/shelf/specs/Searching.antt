@@ -1,4 +1,4 @@
--- The search by halves for a plate's place.
+-- The search by halves for a plate's place (`Searching`, `left-half`, `right-half`, `search-end`).
 use mathlib.Core.Path.{_≡_, refl, sym, ap, _∙_}
 use mathlib.Core.Bool.{Bool, true, false, true≢false}
 use mathlib.Core.List.{List}
@@ -14,7 +14,7 @@ use Rattle.definition.specs.Pyramid.{cellCount}
 use Rattle.definition.specs.Shelf.{isBefore, inOrder}
 use Rattle.shelf_order.specs.Insertion.{each-at, stands, in-order-length, in-order-below, in-order-pairs}
 use Rattle.shelf_order.specs.Insertion.{beforeAtPlace, before-onwards}
-use Rattle.shelf.specs.Asked.{PairAsked, PlaceAsked, PlaceFor}
+use Rattle.shelf.specs.PlatesLent.{PairAsked, PlaceAsked, PlaceFor}
 
 -- ---- the search
 -- it has the places from low to high − 1 left: plate n comes before none on their left and before all on their right

@@ -1,4 +1,4 @@
--- The list with a plate put at its place, and plate after plate.
+-- The list with a plate put at its place, and plate after plate (`Sorting`, `sort-next`, `sort-end`).
 use mathlib.Core.Path.{_≡_, refl, sym, ap, ap₂, _∙_}
 use mathlib.Core.List.{List, _∷_, _++_, append-assoc}
 use Prim.Native.Nat.{ℕ, suc, _+_, _*_, _-_, _≤_, _<_}
@@ -10,7 +10,7 @@ use lib.Seq.{length-take-le, take-at, drop-at, take-take, take-add, drop-drop}
 use Rattle.definition.specs.Pyramid.{cellCount}
 use Rattle.definition.specs.Shelf.{inOrder}
 use Rattle.shelf_order.specs.Insertion.{in-order-length, insert-at}
-use Rattle.shelf.specs.Asked.{PlaceAsked, PlaceFor, PutAsked, SortAsked}
+use Rattle.shelf.specs.PlatesLent.{PlaceAsked, PlaceFor, PutAsked, SortAsked}
 use Rattle.shelf.specs.Putting.{carried, carried-is}
 use Rattle.shelf.specs.Searching.{before-place}
 

@@ -1,5 +1,5 @@
-// Shelf: the numbers of a shelf's plates in order. Each plate is put among those before it, at the place that a search
-// by halves finds; no space beside the list is used.
+// Shelf (`shelf`): the numbers of a shelf's plates in order. Each plate is put among those before it, at the place that
+// a search by halves finds; no space beside the list is used.
 use checks::Check;
 use definition::CompareAnswer;
 use definition::Refusal;
@@ -11,7 +11,7 @@ ghost use lib.ListN.{length, drop};
 ghost use Rattle.definition.specs.Answers.{compareSays, shelfSays};
 ghost use Rattle.definition.specs.Shelf.{compared, plateAt, isBefore, inOrder, shelfRefusal, shelfOf};
 ghost use Rattle.checks.specs.Checks.{checked};
-ghost use Rattle.shelf.specs.Asked.{PairAsked, PlaceAsked, PlaceFor, PutAsked, SortAsked};
+ghost use Rattle.shelf.specs.PlatesLent.{PairAsked, PlaceAsked, PlaceFor, PutAsked, SortAsked};
 ghost use Rattle.shelf.specs.Pairs.{saysBefore};
 ghost use Rattle.shelf.specs.Putting.{carried};
 
@@ -90,7 +90,7 @@ fn sort(plates: &[u32], list: &mut [u32], r: usize, n: u32)
     }
 }
 
-// Shelf's refusals 1, 4, 8, for n plates and lengths lent. The shelf's length is worked out in 64 bits.
+// Shelf's refusals 1, 4, 8 (S 5.2), for n plates and lengths lent. The shelf's length is worked out in 64 bits.
 fn check_shelf(r: usize, n: u32, plates: usize, list: usize) -> Check
     requires { ⌜ r ≤ 8 ⌝ }
     ensures { λ c. ⌜ checked c ≡ shelfRefusal r n plates list ⌝ }
@@ -109,7 +109,7 @@ fn check_shelf(r: usize, n: u32, plates: usize, list: usize) -> Check
     Check::Passed
 }
 
-// Shelf: the plate numbers 0 to n - 1 in order, equal plates as they stood; or a refusal with nothing written.
+// Shelf (S 11.2): the plate numbers 0 to n - 1 in order, equal plates as they stood; or a refusal with nothing written.
 pub fn shelf(side: u32, n: u32, plates: &[u32], list: &mut [u32]) -> ShelfAnswer
     ensures { λ a. ⌜
         record { said = shelfSays a; list = now (list .exit) }

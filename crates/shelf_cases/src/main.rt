@@ -1,4 +1,6 @@
-// Reads shelves on standard input; writes for each what Compare answers to its two parts, and what Shelf makes of it.
+// Reads shelves on standard input; writes for each what `compare` answers to its two parts, and what `shelf` makes of
+// it.
+//
 // The input is lines of decimal numbers parted by commas. The first line is the count of cases. A case is two lines:
 // the side, the count of plates, the lengths lent of shelf and list, and the place that parts the shelf in two for
 // Compare; and the numbers of the shelf, where any are lent.

@@ -1,4 +1,5 @@
--- The first difference of two patterns: its steps, the pair reversed, chains, what "same" means, which cell is named.
+-- The first difference of two patterns: its steps, the pair reversed (`back`), chains (`leads-chain`), what "same"
+-- means (`same-cells`, `cells-same`), which cell is named (`named`).
 use mathlib.Core.Path.{_≡_, refl, sym, ap, _∙_}
 use mathlib.Core.Bool.{Bool, true, false, true≢false}
 use Prim.Native.Nat.{ℕ, zero, suc, _+_, _*_, _^_, _≤_, _<_}

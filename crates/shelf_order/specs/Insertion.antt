@@ -1,5 +1,5 @@
--- What insertion does to a list of plate numbers: which numbers it holds, that it stays in order, and at which place a
--- plate is put.
+-- What insertion does to a list of plate numbers: which numbers it holds (`times-in-order`), that it stays in order
+-- (`in-order-pairs`), and at which place a plate is put (`insert-at`).
 use mathlib.Core.Path.{_≡_, refl, sym, ap, _∙_}
 use mathlib.Core.Logic.{_⊎_, inl, inr}
 use mathlib.Core.Bool.{Bool, true, false, true≢false}

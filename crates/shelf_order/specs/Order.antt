@@ -1,4 +1,5 @@
--- Document 02, request 6: the comparison is an order on burnt patterns. The laws are at the end, for all sheets.
+-- The comparison is an order on burnt patterns. The laws are at the end, for all sheets (`one-way`, `reversing`,
+-- `chain`, `same-iff`); and what a cell that is named says (`cell-first`).
 use mathlib.Core.Path.{_≡_, refl, sym, ap, _∙_}
 use mathlib.Core.Logic.{_↔_, _⊎_, inl, inr}
 use mathlib.Core.Bool.{Bool, true, false, true≢false}
@@ -102,7 +103,7 @@ module _ (r : ℕ) where
           ∙ sym (as-many c d (sym m ∙ e ∙ l))
 
   -- ---- the laws
-  -- reversing the pair reverses the answer: same stays same, and the cell stays
+  -- reversing the pair reverses the answer: same stays same, and the cell stays (S 15.12)
   pub reversing : (a b : List ℕ) → compared r b a ≡ reversed (compared r a b)
   reversing a b = go (three (allDots r a) (allDots r b))
     where
@@ -111,7 +112,7 @@ module _ (r : ℕ) where
       go (greater h) = fewer b a h ∙ rw (more a b h) (unfold reversed in refl)
       go (equal h) = as-many b a (sym h) ∙ back r (pattern a) (pattern b) (cellCount r) 0 ∙ rw (as-many a b h)
 
-  -- before passes along a chain
+  -- before passes along a chain (S 15.12)
   pub chain : (a b c : List ℕ) → isBefore (compared r a b) ≡ true → isBefore (compared r b c) ≡ true
       → isBefore (compared r a c) ≡ true
   unfolding isBefore
@@ -133,7 +134,7 @@ module _ (r : ℕ) where
       go (less u) (greater v) = never (rw (more b c v) at k)
       go (equal u) (greater v) = never (rw (more b c v) at k)
 
-  -- the answer is same exactly if the patterns are
+  -- the answer is same exactly if the patterns are (S 15.12)
   pub same-iff : (a b : List ℕ) → (compared r a b ≡ same) ↔ SamePattern a b
   same-iff a b = (λ e. from e (three (allDots r a) (allDots r b)), to)
     where
@@ -165,6 +166,7 @@ pub data OneWay (r : ℕ) (a b : List ℕ) : Type 0 where
   goes-after : isBefore (compared r b a) ≡ true → isBefore (compared r a b) ≡ false
       → (SamePattern r a b → ⊥) → OneWay r a b
 
+-- two plates compare in one way (S 15.12)
 pub one-way : (r : ℕ) (a b : List ℕ) → OneWay r a b
 unfolding isBefore reversed
 one-way r a b = of (compared r a b) refl (reversing r a b)

@@ -1,4 +1,5 @@
--- Document 02, request 6: what the list of a shelf is, and that no other list is so.
+-- What the list of a shelf is (`sorted`), and that no other list is so (`only-list`); the same of what the call leaves
+-- (`shelf-list`, `shelf-rest`).
 use mathlib.Core.Path.{_≡_, refl, sym, ap, ap₂, _∙_}
 use mathlib.Core.Logic.{_≢_, _↔_, _⊎_, inl, inr}
 use mathlib.Core.Bool.{true, false, true≢false}
@@ -126,7 +127,7 @@ module _ (r : ℕ) (plates : List ℕ) where
       lower (inl h) e = not-before e h
       lower (inr h) e = h .1
 
-  -- and no other list is
+  -- and no other list is (S 15.12)
   pub only-list : (n : ℕ) (l : List ℕ) → Sorted n l → l ≡ inOrder r plates n
   only-list n l h =
       only (Precedes r plates) (precedes-chain r plates) (λ x. not-itself r plates x) l (inOrder r plates n)
@@ -145,7 +146,7 @@ module _ (side n : ℕ) (plates list : List ℕ)
   is-left : shelfOf side n plates list .list ≡ inOrder (powerOf side) plates n ++ drop n list
   is-left = ap (λ (o : ShelfOutcome). o .list) outcome
 
-  -- what Shelf writes is the one list that is so
+  -- what Shelf writes is the one list that is so (S 11.2, S 15.12)
   pub shelf-list : (l : List ℕ)
       → Sorted (powerOf side) plates n l ↔ (l ≡ take n (shelfOf side n plates list .list))
   shelf-list l =
@@ -154,7 +155,7 @@ module _ (side n : ℕ) (plates list : List ℕ)
       = ap (take n) is-left ∙ take-at (inOrder r plates n) (drop n list) n (in-order-length r plates n) in
       (λ h. only-list r plates n l h ∙ sym first, λ e. rw (e, first) (sorted r plates n))
 
-  -- and the places past the n-th stay
+  -- and the places past the n-th stay (S 11.2)
   pub shelf-rest : drop n (shelfOf side n plates list .list) ≡ drop n list
   shelf-rest =
       ap (drop n) is-left

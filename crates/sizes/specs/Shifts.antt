@@ -1,4 +1,4 @@
--- Powers of two by shifting.
+-- Powers of two by shifting (`shifted`), and where a level begins (`shifted-start`).
 use mathlib.Core.Path.{_≡_, refl, ap, _∙_}
 use Prim.Native.Nat.{ℕ, zero, suc, _*_, _-_, _/_, _%_, _^_, _≤_}
 use native.Mathlib.Omega.{arith}
@@ -11,7 +11,9 @@ shifted k h = shl-exact {a = 1} 1 k 64 (omega arith) (omega arith) ∙ one-mul (
 
 even-power : (k : ℕ) → 2 ^ (2 * k) ≡ 4 ^ k
 even-power zero = refl
-even-power (suc k) = let e : 2 * suc k ≡ suc (suc (2 * k)) = omega arith in rw (e, pow-succ' 2 (suc (2 * k)), pow-succ' 2 (2 * k), pow-succ' 4 k) (omega (arith, even-power k))
+even-power (suc k) =
+    let e : 2 * suc k ≡ suc (suc (2 * k)) = omega arith in
+    rw (e, pow-succ' 2 (suc (2 * k)), pow-succ' 2 (2 * k), pow-succ' 4 k) (omega (arith, even-power k))
 
 module _ (k : ℕ) (h : k ≤ 9) where
   shifted-twice : 1 * 2 ^ (2 * k) % 2 ^ 64 ≡ 4 ^ k

@@ -1,10 +1,11 @@
-// Sides, powers of two, level starts and lengths: the numbers that every call works with.
+// Sides, powers of two, level starts and lengths: the numbers that every call works with (`power_of`, `pow2`,
+// `cell_count`, `level_start`, `needed`).
 ghost use mathlib.Core.Path.{_≡_};
 ghost use Prim.Native.Nat.{_^_, _≤_, min};
 ghost use Rattle.definition.specs.Pyramid.{cellCount, needed, start};
 ghost use Rattle.definition.specs.Refusals.{powerOf};
 
-// The power of a side: 1 to 8, or 0 if the side isn't one of the eight.
+// The power of a side (S 2.1): 1 to 8, or 0 if the side isn't one of the eight.
 pub fn power_of(side: u32) -> usize
     ensures { λ r. ⌜ r ≡ powerOf side ⌝ }
 {
@@ -29,7 +30,7 @@ pub fn pow2(k: usize) -> usize
     1 << k
 }
 
-// The number of cells of a map of power r.
+// The number of cells of a map of power r (S 2.1).
 pub fn cell_count(r: usize) -> usize
     requires { ⌜ r ≤ 8 ⌝ }
     ensures { λ n. ⌜ n ≡ cellCount r ⌝ }
@@ -38,7 +39,7 @@ pub fn cell_count(r: usize) -> usize
     side * side
 }
 
-// The place at which level k begins, or one past the pyramid where k is one more than the last level.
+// The place at which level k begins (S 2.5), or one past the pyramid where k is one more than the last level.
 pub fn level_start(k: usize) -> usize
     requires { ⌜ k ≤ 9 ⌝ }
     ensures { λ n. ⌜ n ≡ start k ⌝ }
@@ -46,7 +47,7 @@ pub fn level_start(k: usize) -> usize
     ((1 << (2 * k)) - 1) / 3
 }
 
-// The needed length of a pyramid of power r.
+// The needed length of a pyramid of power r (S 2.5).
 pub fn needed(r: usize) -> usize
     requires { ⌜ r ≤ 8 ⌝ }
     ensures { λ n. ⌜ n ≡ needed r ⌝ }

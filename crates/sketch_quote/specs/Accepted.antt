@@ -1,6 +1,6 @@
--- The laws of sketches for the code: any answer of Sketch Quote that keeps the call's promise has figures exactly if
--- the text is that of a sketch which it is to quote, and they and the buffers then keep what is promised of every map
--- between low and high.
+-- The laws of sketches for the code: any answer of Sketch Quote that keeps the call's promise has figures just if the
+-- text is that of a sketch which it is to quote (`quotes-iff`), and they and the buffers then keep what is promised of
+-- every map between low and high (`keeps-range`).
 use mathlib.Core.Path.{_≡_, sym, ap, subst, _∙_}
 use mathlib.Core.List.{List, [], _∷_}
 use mathlib.Core.Logic.{_↔_}
@@ -33,6 +33,7 @@ module _ (text : List ℕ) (k : ℕ) (lows highs caps low high cap : List ℕ) (
   said : sketchSays a ≡ sketchQuoteOf text k lows highs caps .said
   said = ap (λ (o : SketchOutcome). o .said) promise
 
+  -- the grammar of sketches, of the code's answer (S 6.3, S 9.4)
   pub quotes-iff : (a ≡ Quoted side least greatest)
       ↔ QuotedSketch text k (length lows) (length highs) (length caps) side least greatest
   unfolding sketchSays
@@ -43,6 +44,7 @@ module _ (text : List ℕ) (k : ℕ) (lows highs caps low high cap : List ℕ) (
         returned-figures a side least greatest (said ∙ returns),
   )
 
+  -- what is promised, of the code's answer (S 15.11)
   pub keeps-range : a ≡ Quoted side least greatest → Ranged side k low high least greatest cap
   unfolding sketchSays
   keeps-range e =

@@ -1,5 +1,5 @@
 -- The refusals behind a good first line, one after another: what each test tells about the number of the refusal, all
--- tests before it being passed.
+-- tests before it being passed (`pair-falls` to `nothing-short`).
 use mathlib.Core.Path.{_≡_, refl, sym, ap, _∙_}
 use mathlib.Core.Bool.{true, false, not}
 use mathlib.Core.List.{List, [], _∷_}

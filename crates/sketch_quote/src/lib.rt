@@ -1,5 +1,5 @@
-// Sketch Quote (document 02, request 12): the figures of a rough sketch, which has a low and a high grey for each cell.
-// They are the least and the greatest total of the maps between, and the greatest cap of each square of a level.
+// Sketch Quote (`sketch_quote`): the figures of a rough sketch, which has a low and a high grey for each cell. They are
+// the least and the greatest total of the maps between, and the greatest cap of each square of a level.
 use checks::Check;
 use definition::Refusal;
 use definition::SketchAnswer;
@@ -13,9 +13,9 @@ ghost use Rattle.checks.specs.Checks.{checked};
 ghost use Rattle.text_cells.specs.Cells.{CellsAsked};
 ghost use Rattle.text_cells.specs.FirstLine.{GoodSide};
 ghost use Rattle.sketch_quote.specs.Checks.{sketchCheck};
-ghost use Rattle.sketch_quote.specs.Calls.{FiguresAsked, FiguresPut};
+ghost use Rattle.sketch_quote.specs.WaysOut.{FiguresAsked, FiguresPut};
 
-// The refusals behind a good first line, for a level k and so many places for caps: 7, 12, 13, 6, 8.
+// The refusals behind a good first line, for a level k and so many places for caps: 7, 12, 13, 6, 8 (S 5.2).
 fn check_sketch(text: &[u8], from: usize, side: usize, r: usize, k: usize, caps: usize) -> Check
     requires { ⌜ CellsAsked side 240 × (r ≤ 8) ⌝ }
     ensures { λ c. ⌜ checked c ≡ sketchCheck (now (text .entry)) from side r k caps ⌝ }
@@ -86,6 +86,7 @@ fn quote_cells(
     }
 }
 
+// Sketch Quote (S 9.4): totals and caps of a sketch (S 6.3), or a refusal with nothing written.
 pub fn sketch_quote(
     text: &[u8],
     level: u32,

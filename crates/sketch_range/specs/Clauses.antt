@@ -1,6 +1,6 @@
--- What is promised of a sketch's quote (document 02, request 12), clause by clause, with its own figures, in what the
--- caller has in hand: the answer and the three buffers that the call left. Each clause is taken from a field of the
--- theorem, so none of them can go, or say less, unnoticed. The last law says who may ask: nobody is left out.
+-- What is promised of a sketch's quote, clause by clause, with its own figures, in what the caller has in hand: the
+-- answer and the three buffers that the call left. Each clause is taken from a field of `sketch-holds`, so none of them
+-- can go, or say less, unnoticed. The last law, `every-map-accepted`, says who may ask: nobody is left out.
 use mathlib.Core.Path.{_≡_, sym, ap, subst, _∙_}
 use mathlib.Core.List.{List, [], _∷_}
 use Prim.Native.Nat.{ℕ, suc, _+_, _*_, _-_, _/_, _^_, _≤_, _<_, min}
@@ -14,10 +14,10 @@ use Rattle.definition.specs.Model.{topOf}
 use Rattle.definition.specs.Refusals.{powerOf}
 use Rattle.definition.specs.QuotePage.{quoteCap}
 use Rattle.definition.specs.SketchQuote.{sketchText, sketchQuoteOf}
-use Rattle.definition.specs.Calls.{Call, Held, heldAfterLoad, heldAfterCalls}
+use Rattle.definition.specs.AdvanceList.{Call, Held, heldAfterLoad, heldAfterCalls}
 use Rattle.refusals.specs.Powers.{powerOf-small, side-pow, cellCount-side}
 use Rattle.quadtree.specs.Levels.{cell-lt}
-use Rattle.guarantee.specs.Demand3.{Accepted}
+use Rattle.guarantee.specs.PriceList.{Accepted}
 use Rattle.sketch_range.specs.Promise.{Between, Ranged}
 use Rattle.sketch_range.specs.Range.{total-same, sum-same, caps-at, everyone-between}
 use Rattle.sketch_range.specs.Holds.{SketchHolds, sketch-holds, same-lows, same-highs, same-caps, ranges-left}
@@ -51,7 +51,7 @@ module _ (text : List ℕ) (k : ℕ) (lows₀ highs₀ caps₀ : List ℕ) (side
   pub text-of-sketch : text ≡ sketchText side (take (side * side) lows) (take (side * side) highs)
   text-of-sketch = rw (holds .lows-front, holds .highs-front) (holds .quotable .sketch .bytes)
 
-  -- ---- the figures
+  -- ---- the figures (S 9.4)
   pub least-total : least ≡ (2 * greyTotal r lows + 255) / 510
   least-total =
       holds .least-is ∙ ap (λ (G : ℕ). (2 * G + 255) / 510) (sym (total-same r lows (holds .lows) (same-lows holds)))
@@ -61,6 +61,7 @@ module _ (text : List ℕ) (k : ℕ) (lows₀ highs₀ caps₀ : List ℕ) (side
       holds .greatest-is
       ∙ ap (λ (G : ℕ). (2 * G + 255) / 510) (sym (total-same r highs (holds .highs) (same-highs holds)))
 
+  -- the caps are those of the highs (S 8.3, S 9.4)
   pub cap-of-square : (a b : ℕ) → a < 2 ^ k → b < 2 ^ k
       → getD caps (a * 2 ^ k + b) 0 ≡ min (s * s) ((3 * greySum r highs k a b + 764 + 1020 * s) / 765)
   unfolding quoteCap
@@ -86,7 +87,7 @@ module _ (text : List ℕ) (k : ℕ) (lows₀ highs₀ caps₀ : List ℕ) (side
     abbrev dots : ℕ
     dots = held .progress .dots
 
-    -- the low map and the high map come to the two ends, the buffers themselves or others that begin so
+    -- the low map and the high map come to the two ends, the buffers themselves or others that begin so (S 15.11)
     pub low-map-least : ((i : ℕ) → i < 2 ^ r * 2 ^ r → getD greys i 0 ≡ getD lows i 0)
         → topOf (held .pyramid) <ℤ pos 32640 → dots ≡ least
     low-map-least same finished = promise .low-end knit greys same pyramid serials order accepted calls finished
@@ -101,9 +102,11 @@ module _ (text : List ℕ) (k : ℕ) (lows₀ highs₀ caps₀ : List ℕ) (side
       between : Between r lows greys highs
       between = record { above = above; below = below }
 
+      -- a finished map between has from the least to the greatest total of holes (S 15.11)
       pub total-in-range : topOf (held .pyramid) <ℤ pos 32640 → (least ≤ dots) × (dots ≤ greatest)
       total-in-range finished = promise .range knit greys between pyramid serials order accepted calls finished
 
+      -- and no square ever has more than its cap (S 15.11)
       pub square-under-cap : (a b : ℕ) → a < 2 ^ k → b < 2 ^ k
           → dotsIn r (held .serials) k a b ≤ getD caps (a * 2 ^ k + b) 0
       square-under-cap a b row column =

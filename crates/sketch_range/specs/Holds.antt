@@ -1,5 +1,5 @@
--- The theorem on the call's own answer (document 02, request 12): where it returns a side and two totals, the text was
--- that of a sketch, its lows, highs and caps are what the buffers begin with, and totals and caps keep their promise.
+-- The theorem on the call's own answer (`sketch-holds`): where it returns a side and two totals, the text was that of a
+-- sketch, its lows, highs and caps are what the buffers begin with, and totals and caps keep their promise.
 use mathlib.Core.Path.{_≡_, refl, ap, _∙_}
 use mathlib.Core.List.{List, [], _∷_, _++_}
 use Prim.Native.Nat.{ℕ, _*_, _/_, _%_, _^_, _<_}
@@ -65,6 +65,7 @@ module _ (text : List ℕ) (k : ℕ) (lows₀ highs₀ caps₀ : List ℕ) (side
         ranges = promise;
       })
 
+  -- what the call has answered and left holds of every map between (S 9.4, S 15.11)
   pub sketch-holds : (least greatest : ℕ)
       → sketchQuoteOf text k lows₀ highs₀ caps₀ .said ≡ returned (side ∷ least ∷ greatest ∷ [])
       → SketchHolds text k lows₀ highs₀ caps₀ side least greatest (sketchQuoteOf text k lows₀ highs₀ caps₀)

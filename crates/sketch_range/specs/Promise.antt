@@ -1,4 +1,4 @@
--- What a sketch's quote promises (document 02, request 12), of every map that lies between the lows and the highs, for
+-- What a sketch's quote promises (`Ranged`), of every map that lies between the lows and the highs (`Between`), for
 -- either knit and after every list of Advance calls. `Range` proves it, and `Clauses` says it again with its figures.
 use mathlib.Core.Path.{_≡_}
 use mathlib.Core.List.{List}
@@ -10,8 +10,8 @@ use Rattle.definition.specs.Pyramid.{halfDot, cellCount}
 use Rattle.definition.specs.Blocks.{dotsIn}
 use Rattle.definition.specs.Model.{topOf}
 use Rattle.definition.specs.Refusals.{powerOf}
-use Rattle.definition.specs.Calls.{Call, Held, heldAfterLoad, heldAfterCalls}
-use Rattle.guarantee.specs.Demand3.{Accepted}
+use Rattle.definition.specs.AdvanceList.{Call, Held, heldAfterLoad, heldAfterCalls}
+use Rattle.guarantee.specs.PriceList.{Accepted}
 
 -- greys that lie between lows and highs in every cell of a map of side 2^r
 pub record Between (r : ℕ) (lows greys highs : List ℕ) : Type 0 where
@@ -34,10 +34,10 @@ abbrev pub Finished : Held → Type 0
 Finished held = topOf (held .pyramid) <ℤ pos halfDot
 
 pub record Ranged (side k : ℕ) (lows highs : List ℕ) (least greatest : ℕ) (caps : List ℕ) : Type 0 where
-  -- every map between: finished, its dots are within the totals
+  -- every map between: finished, its dots are within the totals (S 15.11)
   pub range : Always side (λ greys. Between (powerOf side) lows greys highs)
       (λ held. Finished held → (least ≤ held .progress .dots) × (held .progress .dots ≤ greatest))
-  -- the map of the lows comes to the one total, that of the highs to the other
+  -- the map of the lows comes to the one total, that of the highs to the other (S 15.11)
   pub low-end : Always side (λ greys. Same (powerOf side) greys lows)
       (λ held. Finished held → held .progress .dots ≡ least)
   pub high-end : Always side (λ greys. Same (powerOf side) greys highs)
@@ -46,7 +46,7 @@ pub record Ranged (side k : ℕ) (lows highs : List ℕ) (least greatest : ℕ) 
   pub low-between : Between (powerOf side) lows lows highs
   pub high-between : Between (powerOf side) lows highs highs
   -- every map between, finished or not: no square of level k has more dots than its cap, which stands at its place by
-  -- row then column
+  -- row then column (S 15.11)
   pub capped : Always side (λ greys. Between (powerOf side) lows greys highs)
       (λ held. (a b : ℕ) → a < 2 ^ k → b < 2 ^ k
       → dotsIn (powerOf side) (held .serials) k a b ≤ getD caps (a * 2 ^ k + b) 0)

@@ -1,5 +1,5 @@
--- The figures of a sketch keep their promise: totals and caps grow with the greys, and the rest is demand 3 of the map
--- that lies between. Every such map is one that Load accepts.
+-- The figures of a sketch keep their promise (`ranged`): totals and caps grow with the greys (`total-le`, `cap-le`),
+-- and the rest is the price list of the map that lies between. Load accepts every such map (`everyone-between`).
 use mathlib.Core.Path.{_≡_, ap₂, _∙_}
 use mathlib.Core.List.{List}
 use Prim.Native.Nat.{ℕ, suc, _+_, _*_, _-_, _/_, _%_, _^_, _≤_, _<_}
@@ -12,14 +12,14 @@ use Rattle.definition.specs.Blocks.{blockSide, greyAt, greySum, greyTotal, tota
 use Rattle.definition.specs.Refusals.{powerOf}
 use Rattle.definition.specs.QuotePage.{quoteCap, figures}
 use Rattle.definition.specs.SketchQuote.{capsOf}
-use Rattle.definition.specs.Calls.{Call, Held, heldAfterLoad, heldAfterCalls}
+use Rattle.definition.specs.AdvanceList.{Call, Held, heldAfterLoad, heldAfterCalls}
 use Rattle.integers.specs.Lists.{getD-tabulate}
 use Rattle.integers.specs.Linear.{zz, ints}
 use Rattle.quadtree.specs.Areas.{area-mono, block-area}
 use Rattle.quadtree.specs.Levels.{cell-lt, block-side, block-on-map}
-use Rattle.guarantee.specs.Demand3.{Accepted, Demand3}
+use Rattle.guarantee.specs.PriceList.{Accepted, PriceList}
 use Rattle.guarantee.specs.Start.{total-area}
-use Rattle.guarantee.specs.Theorem.{demand-3}
+use Rattle.guarantee.specs.Theorem.{price-list}
 use Rattle.guarantee.specs.Clauses.{everyone}
 use Rattle.sketch_range.specs.Promise.{Between, Same, Finished, Ranged}
 
@@ -76,7 +76,7 @@ sum-same r greys map e k a b h u v =
       sum-le r map greys (λ i h. omega (arith, e i h)) k a b h u v,
     )
 
--- ---- one map, by demand 3
+-- ---- one map, by its price list
 module _ (side knit : ℕ) (greys : List ℕ) (pyramid : List ℤ) (serials order : List ℕ)
     (accepted : Accepted side knit greys pyramid serials order) (calls : List Call) where
   abbrev r : ℕ
@@ -85,8 +85,8 @@ module _ (side knit : ℕ) (greys : List ℕ) (pyramid : List ℤ) (serials orde
   abbrev held : Held
   held = heldAfterCalls (heldAfterLoad side knit greys pyramid serials order) calls
 
-  demand : Demand3 side knit greys pyramid serials order calls
-  demand = demand-3 side knit greys pyramid serials order accepted calls
+  demand : PriceList side knit greys pyramid serials order calls
+  demand = price-list side knit greys pyramid serials order accepted calls
 
   finished-total : Finished held → held .progress .dots ≡ totalOf (greyTotal r greys)
   finished-total h = let d = demand .debt in omega (ints, simp zz at h, simp zz at d, demand .number)
@@ -105,6 +105,7 @@ caps-at r highs k a b u v =
     ∙ ap₂ (λ (x y : ℕ). quoteCap (blockSide r k) (greySum r highs k x y)) (high a k v) (low a k v)
 
 -- ---- the theorem
+-- every map between low and high (S 15.11)
 pub ranged : (side k : ℕ) (lows highs : List ℕ) → k ≤ powerOf side
     → ((i : ℕ) → i < cellCount (powerOf side) → getD lows i 0 ≤ getD highs i 0)
     → Ranged side k lows highs (totalOf (greyTotal (powerOf side) lows)) (totalOf (greyTotal (powerOf side) highs))

@@ -1,4 +1,5 @@
--- The tests of every cell as tests of one cell after another, and of one cell.
+-- The tests of every cell as tests of one cell after another (`row-every`, `held-every`), and of one cell
+-- (`bounded-burnt`, `owing-is`).
 use mathlib.Core.Path.{_≡_, refl, sym, _∙_}
 use mathlib.Core.Bool.{Bool, true, false, not, _&&_}
 use mathlib.Core.List.{List}
@@ -29,9 +30,9 @@ use Rattle.integers.specs.Machine.{back64, of-bits, natAbs-fits, words, machine
 use Rattle.quadtree.specs.Levels.{start-thrice, start-suc, start-mono, cell-lt}
 use Rattle.integers.specs.Totals.{Total}
 use Rattle.blocks.specs.Squares.{dot-none, dot-one}
-use Rattle.sound.specs.Asked.{inRows, rowPlace, columnPlace, LineAsked, ColumnPlaces, CellAsked, GridAsked}
-use Rattle.sound.specs.Asked.{NearAsked, NearPlace, OwingAsked, RowAsked, isNeighbour, burntThere, boundedCell}
-use Rattle.sound.specs.Asked.{boundedAt, onSide, nearAt, owingCell, owingAt, heldAt, heldIn, rowHeld, heldRow}
+use Rattle.sound.specs.OnePlace.{inRows, rowPlace, columnPlace, LineAsked, ColumnPlaces, CellAsked, GridAsked}
+use Rattle.sound.specs.OnePlace.{NearAsked, NearPlace, OwingAsked, RowAsked, isNeighbour, burntThere, boundedCell}
+use Rattle.sound.specs.OnePlace.{boundedAt, onSide, nearAt, owingCell, owingAt, heldAt, heldIn, rowHeld, heldRow}
 use Rattle.sound.specs.Either.{allTo-ext, two-parts-lt, cell-entry}
 use Rattle.integers.specs.Loops.{Every, held, failed}
 
@@ -85,7 +86,8 @@ module _ (residual : ℤ) {serial : ℕ} (fits : mag residual < 2 ^ 63) where
   bounded-burnt n =
       let high = leZ residual (pos oneDot) in
       let low = leZ residual (pos 0) in
-      rw (back64 residual fits, ← dot-one n .is) (same-test low (high && low) (λ t. and-T high low (lower residual t) t) (λ t. T-and high low t .1))
+      rw (back64 residual fits, ← dot-one n .is)
+      (same-test low (high && low) (λ t. and-T high low (lower residual t) t) (λ t. T-and high low t .1))
 
 -- ════ burnt neighbours
 
@@ -96,7 +98,8 @@ pub on-side-is : (side : ℕ) {x : ℕ} → (x ≡ 0 → ⊥) → leb x side ≡
 on-side-is side {x} n = rw (le-leb 1 x (omega arith))
 
 module _ {side serials x y : ℕ} where
-  pub near-place : {row column : ℕ} {a b : Bool} → NearAsked side serials row column → a ≡ onSide side x → not a ≡ false → b ≡ onSide side y → not b ≡ false → NearPlace side serials x y
+  pub near-place : {row column : ℕ} {a b : Bool} → NearAsked side serials row column → a ≡ onSide side x → not a ≡ false
+      → b ≡ onSide side y → not b ≡ false → NearPlace side serials x y
   near-place h e f g k =
       let s = T-and (leb 1 x) (leb x side) (T-true _ (held e f)) in
       let t = T-and (leb 1 y) (leb y side) (T-true _ (held g k)) in
@@ -104,7 +107,12 @@ module _ {side serials x y : ℕ} where
       let y₁ : 1 ≤ y = omega (tests, t .0) in
       let x₂ : x - 1 < side = omega (tests, s .1) in
       let y₂ : y - 1 < side = omega (tests, t .1) in
-      record { down = x₁; across = y₁; inside = omega (arith, h .cells, cell-lt side (x - 1) (y - 1) x₂ y₂); few = omega (arith, h .cells, mul-le-mul (h .small) (h .small)) }
+      record {
+        down = x₁;
+        across = y₁;
+        inside = omega (arith, h .cells, cell-lt side (x - 1) (y - 1) x₂ y₂);
+        few = omega (arith, h .cells, mul-le-mul (h .small) (h .small));
+      }
 
 module _ (side : ℕ) (serials : List ℕ) (row column p : ℕ) where
   abbrev across : Bool
@@ -114,7 +122,11 @@ module _ (side : ℕ) (serials : List ℕ) (row column p : ℕ) where
   down = onSide side (rowNear row p)
 
   near-none : T (not (isNeighbour side row column p)) → Total (nearAt side serials row column p) 1 0
-  near-none t = record { is = sym (cond-not (isNeighbour side row column p) (burntThere side serials row column p) 0 t); small = omega arith }
+  near-none t =
+      record {
+        is = sym (cond-not (isNeighbour side row column p) (burntThere side serials row column p) 0 t);
+        small = omega arith;
+      }
 
   pub near-self : p ≡ 4 → Total (nearAt side serials row column p) 1 0
   near-self e = near-none (rw e tt)
@@ -128,7 +140,14 @@ module _ (side : ℕ) (serials : List ℕ) (row column p : ℕ) where
   pub near-on : {a b : Bool} {n : ℕ} → (p ≡ 4 → ⊥) → a ≡ down → not a ≡ false → b ≡ across → not b ≡ false
       → Total (burntThere side serials row column p) 1 n → Total (nearAt side serials row column p) 1 n
   near-on q e f g k h =
-      record { is = h .is ∙ sym (cond-T (isNeighbour side row column p) (burntThere side serials row column p) 0 (and-T (not (eqb p 4)) (down && across) (ne→neqb p 4 q) (and-T down across (T-true _ (held e f)) (T-true _ (held g k))))); small = h .small }
+      record {
+        is =
+            h .is ∙ sym
+            (cond-T (isNeighbour side row column p) (burntThere side serials row column p) 0
+            (and-T (not (eqb p 4)) (down && across) (ne→neqb p 4 q)
+            (and-T down across (T-true _ (held e f)) (T-true _ (held g k)))));
+        small = h .small;
+      }
 
 -- ════ one cell's bound from below
 
@@ -146,14 +165,16 @@ module _ (near : ℕ) (few : near ≤ 9) where
   least-fits = rw least (simp words (omega machine))
 
   pub owing-is : (residual : ℤ) → mag residual < 2 ^ 63
-      → leZ (toZ w64 (ofZ w64 (pos 0 -ℤ toZ w64 (ofZ w64 (pos 65280 *ℤ toZ w64 near))))) (toZ w64 (ofZ w64 residual)) ≡ owingCell residual near
+      → leZ (toZ w64 (ofZ w64 (pos 0 -ℤ toZ w64 (ofZ w64 (pos 65280 *ℤ toZ w64 near))))) (toZ w64 (ofZ w64 residual))
+      ≡ owingCell residual near
   owing-is residual fits = rw (toZ-ofZ least-fits, least, back64 residual fits)
 
 pub near-asked : {side at pyramid serials row column : ℕ} → OwingAsked side at pyramid serials row column
     → NearAsked side serials row column
 near-asked h = record { small = h .small; cells = h .cells; down = h .down; across = h .across }
 
-pub owing-near : (residual : ℤ) {near value most : ℕ} {b : Bool} → mag residual < 2 ^ 63 → Total value most near → b ≡ owingCell (toZ w64 (ofZ w64 residual)) near → b ≡ owingCell residual value
+pub owing-near : (residual : ℤ) {near value most : ℕ} {b : Bool} → mag residual < 2 ^ 63 → Total value most near
+    → b ≡ owingCell (toZ w64 (ofZ w64 residual)) near → b ≡ owingCell residual value
 owing-near residual fits h e = rw (back64 residual fits, h .is) at e
 
 -- a residual from `low` on, which is not below 0, is at least any number of dots below 0

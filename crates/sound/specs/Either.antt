@@ -1,5 +1,5 @@
--- The two layouts as one: the row and column of a place, the test of every entry as one of every place, and the entries
--- of a pyramid in either.
+-- The two layouts as one: the row and column of a place, the test of every entry as one of every place (`every-in`),
+-- and the entries of a pyramid in either (`entry-at`).
 use mathlib.Core.Path.{_≡_, refl, sym, ap, _∙_}
 use mathlib.Core.Bool.{Bool, true, false}
 use mathlib.Core.List.{List}
@@ -15,7 +15,7 @@ use Rattle.integers.specs.Tests.{allTo-at, allTo-all, everyEntry-at, everyEntry
 use Rattle.places.specs.Parts.{place-parts}
 use Rattle.layouts.specs.Interleaved.{interleaved-any}
 use Rattle.layouts.specs.Relaid.{Layout, by-rows, by-quarters, rows-entry}
-use Rattle.sound.specs.Asked.{inRows, entryIn, rowPlace, columnPlace}
+use Rattle.sound.specs.OnePlace.{inRows, entryIn, rowPlace, columnPlace}
 
 -- ════ places
 

@@ -1,4 +1,4 @@
-pub mod Asked
+pub mod OnePlace
 pub mod Either
 pub mod Places
 pub mod Cells

@@ -1,4 +1,4 @@
--- The tests of serials and order list, at each place.
+-- The tests of serials and order list, at each place (`few-dots-is`, `numbered-every`, `counted-is`, `unused-every`).
 use mathlib.Core.Path.{_≡_}
 use mathlib.Core.Bool.{true, false}
 use mathlib.Core.List.{List}
@@ -14,12 +14,13 @@ use Rattle.definition.specs.Pyramid.{cellCount}
 use Rattle.definition.specs.Sound.{fewDots, numbered, counted, unused}
 use Rattle.integers.specs.Loops.{Every}
 use Rattle.integers.specs.Totals.{Total}
-use Rattle.sound.specs.Asked.{nextAt, freeAt}
+use Rattle.sound.specs.OnePlace.{nextAt, freeAt}
 
 -- ════ the tests of the definition as tests at each place
 
 module _ (r : ℕ) {cells : ℕ} (e : cells ≡ cellCount r) where
-  pub numbered-every : (serials order : List ℕ) (dots : ℕ) → Every (numbered r serials order dots) (nextAt cells serials order) dots
+  pub numbered-every : (serials order : List ℕ) (dots : ℕ)
+      → Every (numbered r serials order dots) (nextAt cells serials order) dots
   unfolding numbered
   numbered-every serials order dots = record { is = rw e }
 
@@ -33,7 +34,8 @@ pub few-dots-is : (r dots : ℕ) {cells : ℕ} → cells ≡ cellCount r → leb
 unfolding fewDots
 few-dots-is r dots e = rw e
 
-pub counted-is : (r : ℕ) (serials : List ℕ) (dots : ℕ) {cells i sum most : ℕ} → cells ≡ cellCount r → i ≤ cells → cells ≤ i → Total (sumTo i (λ m. burnt (getD serials m 0))) most sum → eqb sum dots ≡ counted r serials dots
+pub counted-is : (r : ℕ) (serials : List ℕ) (dots : ℕ) {cells i sum most : ℕ} → cells ≡ cellCount r → i ≤ cells
+    → cells ≤ i → Total (sumTo i (λ m. burnt (getD serials m 0))) most sum → eqb sum dots ≡ counted r serials dots
 unfolding counted
 counted-is r serials dots {cells} {i} e p q h = let z : i ≡ cellCount r = omega arith in rw (h .is, z)
 

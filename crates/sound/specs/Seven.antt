@@ -1,4 +1,5 @@
--- The seven tests together: which of them are asked after which, and what one that fails, or all, say of the sheet.
+-- The seven tests together: which of them are asked after which, and what one that fails (`few-no` and so on), or all
+-- but the sums (`all-but-sums`), say of the sheet.
 use mathlib.Core.Path.{_≡_, refl, _∙_}
 use mathlib.Core.Bool.{Bool, true, false, not, _&&_, _||_}
 use mathlib.Core.List.{List}
@@ -14,8 +15,8 @@ use Rattle.definition.specs.Model.{Halftone}
 use Rattle.definition.specs.Sound.{burntNear, fewDots, numbered, counted, unused, summed, bounded, owing, isSound}
 use Rattle.integers.specs.Tests.{T-true, T-and, everyEntry-at, tests, and-true, and-false}
 use Rattle.integers.specs.Linear.{neg-le-up, zz, ints}
-use Rattle.pyramid.specs.Asked.{Within}
-use Rattle.sound.specs.Asked.{inRows, SoundAsked, NumberedAsked, SummedAsked}
+use Rattle.pyramid.specs.PyramidPart.{Within}
+use Rattle.sound.specs.OnePlace.{inRows, SoundAsked, NumberedAsked, SummedAsked}
 use Rattle.sound.specs.Either.{in-rows}
 use Rattle.integers.specs.Loops.{held}
 use Rattle.dots.specs.Near.{burntNear-most}
@@ -26,20 +27,26 @@ few : (r dots : ℕ) {b : Bool} → b ≡ fewDots r dots → not b ≡ false →
 unfolding fewDots
 few r dots e f = omega (tests, held e f)
 
-pub numbered-asked : {r pyramid serials order dots : ℕ} {b : Bool} → SoundAsked r pyramid serials order → b ≡ fewDots r dots → not b ≡ false → NumberedAsked r serials order dots
-numbered-asked {r} {dots = dots} h e f = record { most = h .most; cells = h .cells; places = h .places; few = few r dots e f }
+pub numbered-asked : {r pyramid serials order dots : ℕ} {b : Bool} → SoundAsked r pyramid serials order
+    → b ≡ fewDots r dots → not b ≡ false → NumberedAsked r serials order dots
+numbered-asked {r} {dots = dots} h e f =
+    record { most = h .most; cells = h .cells; places = h .places; few = few r dots e f }
 
 -- a residual between the two bounds
-cell-within : (z : ℤ) (near : ℕ) → near ≤ 9 → T (leZ z (pos oneDot)) → T (leZ (negℤ (pos (oneDot * near))) z) → Within (2 ^ 20) z
-cell-within z near h s t = record { low = simp zz (omega (ints, neg-le-up (oneDot * near) z (leZ-yes t))); high = simp zz (omega ints) }
+cell-within : (z : ℤ) (near : ℕ) → near ≤ 9 → T (leZ z (pos oneDot)) → T (leZ (negℤ (pos (oneDot * near))) z)
+    → Within (2 ^ 20) z
+cell-within z near h s t =
+    record { low = simp zz (omega (ints, neg-le-up (oneDot * near) z (leZ-yes t))); high = simp zz (omega ints) }
 
 module _ (r : ℕ) (pyramid : List ℤ) (serials : List ℕ) where
-  cells-within : T (bounded r pyramid serials) → T (owing r pyramid serials) → (x y : ℕ) → x < 2 ^ r → y < 2 ^ r → Within (2 ^ 20) (entry pyramid r x y)
+  cells-within : T (bounded r pyramid serials) → T (owing r pyramid serials) → (x y : ℕ) → x < 2 ^ r → y < 2 ^ r
+      → Within (2 ^ 20) (entry pyramid r x y)
   unfolding bounded owing
   cells-within s t x y p q =
       let high = leZ (entry pyramid r x y) (pos oneDot) in
       let spent = eqb (burntAt r serials x y) 0 || leZ (entry pyramid r x y) (pos 0) in
-      cell-within (entry pyramid r x y) (burntNear r serials x y) (burntNear-most r serials x y) (T-and high spent (everyEntry-at r _ s x y p q) .0) (everyEntry-at r _ t x y p q)
+      cell-within (entry pyramid r x y) (burntNear r serials x y) (burntNear-most r serials x y)
+      (T-and high spent (everyEntry-at r _ s x y p q) .0) (everyEntry-at r _ t x y p q)
 
 pub summed-asked : (rows : Bool) (r : ℕ) (pyramid : List ℤ) (serials : List ℕ) {order : ℕ} {b : Bool}
     → SoundAsked r (length pyramid) (length serials) order

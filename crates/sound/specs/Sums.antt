@@ -1,4 +1,5 @@
--- The test of the sums as one of each place of a level, and of one place.
+-- The test of the sums as one of each place of a level (`level-every`), and of one place (`sum-by-rows`,
+-- `sum-by-quarters`).
 use mathlib.Core.Path.{_≡_, refl, sym, ap, ap₂, _∙_}
 use mathlib.Core.Bool.{Bool, true, false}
 use mathlib.Core.List.{List}
@@ -21,9 +22,9 @@ use Rattle.integers.specs.Tests.{eq→eqb, eqZ-eq, eq-eqZ, same-test}
 use Rattle.integers.specs.Machine.{ok64, eq-back}
 use Rattle.quadtree.specs.Levels.{quadruple, start-thrice, start-suc, start-mono}
 use Rattle.layouts.specs.Interleaved.{quarter, interleaved-of}
-use Rattle.pyramid.specs.Asked.{fourAt}
-use Rattle.sound.specs.Asked.{entryIn, SumAsked, SidesAsked, LevelAsked, belowPlace, sumHolds, rowSumAt, sumAt}
-use Rattle.sound.specs.Asked.{levelSummed}
+use Rattle.pyramid.specs.PyramidPart.{fourAt}
+use Rattle.sound.specs.OnePlace.{entryIn, SumAsked, SidesAsked, LevelAsked, belowPlace, sumHolds, rowSumAt, sumAt}
+use Rattle.sound.specs.OnePlace.{levelSummed}
 use Rattle.integers.specs.Loops.{Every}
 use Rattle.sound.specs.Either.{rowIn, columnIn, every-in, allTo-ext, entry-at}
 
@@ -31,7 +32,8 @@ use Rattle.sound.specs.Either.{rowIn, columnIn, every-in, allTo-ext, ent
 
 module _ {side i : ℕ} (some : 0 < side) (lt : i < side * side) where
   -- the four below place i lie in the next level
-  below-inside : (i / side < side) × (2 * (i / side) * (2 * side) + 2 * (i % side) + 2 * side + 1 < 2 * side * (2 * side))
+  below-inside : (i / side < side)
+      × (2 * (i / side) * (2 * side) + 2 * (i % side) + 2 * side + 1 < 2 * side * (2 * side))
   below-inside =
       let a : i / side < side = div-lt-iff-lt-mul some .1 lt in
       let b : i % side < side = mod-lt i some in
@@ -71,7 +73,9 @@ module _ {pyramid : List ℤ} {off next side i : ℕ} (h : SidesAsked pyramid of
           first = h .small x (omega arith);
           second = rw (add-assoc next x 1) (h .small (x + 1) (omega arith));
           third = rw (add-assoc next x (2 * side)) (h .small (x + 2 * side) (omega arith));
-          fourth = rw (add-assoc next x (2 * side), add-assoc next (x + 2 * side) 1) (h .small (x + 2 * side + 1) (omega arith));
+          fourth =
+              rw (add-assoc next x (2 * side), add-assoc next (x + 2 * side) 1)
+              (h .small (x + 2 * side + 1) (omega arith));
         };
       }
 
@@ -107,22 +111,29 @@ module _ {rows : Bool} (pyramid : List ℤ) (off next side i : ℕ) {b : Bool} w
 
 -- two words are the same where their numbers are
 pub same-word : (x y : ℤ) → mag x < 2 ^ 63 → SFits w64 y → eqb (ofZ w64 x) (ofZ w64 y) ≡ eqZ x y
-same-word x y h k = same-test (eqb (ofZ w64 x) (ofZ w64 y)) (eqZ x y) (λ t. eq-eqZ x y (eq-back (ok64 x h) k (eqb→eq (ofZ w64 x) (ofZ w64 y) t))) (λ t. eq→eqb (ofZ w64 x) (ofZ w64 y) (ap (ofZ w64) (eqZ-eq x y t)))
+same-word x y h k =
+    same-test (eqb (ofZ w64 x) (ofZ w64 y)) (eqZ x y)
+    (λ t. eq-eqZ x y (eq-back (ok64 x h) k (eqb→eq (ofZ w64 x) (ofZ w64 y) t)))
+    (λ t. eq→eqb (ofZ w64 x) (ofZ w64 y) (ap (ofZ w64) (eqZ-eq x y t)))
 
-pub sum-told : (pyramid : List ℤ) (at top wide : ℕ) (sum : ℤ) → mag (getD pyramid at (pos 0)) < 2 ^ 63 → SFits w64 sum → sum ≡ fourAt pyramid top wide
+pub sum-told : (pyramid : List ℤ) (at top wide : ℕ) (sum : ℤ) → mag (getD pyramid at (pos 0)) < 2 ^ 63 → SFits w64 sum
+    → sum ≡ fourAt pyramid top wide
     → eqb (ofZ w64 (getD pyramid at (pos 0))) (ofZ w64 sum) ≡ sumHolds pyramid at top wide
-sum-told pyramid at top wide sum h k e = same-word (getD pyramid at (pos 0)) sum h k ∙ ap (eqZ (getD pyramid at (pos 0))) e
+sum-told pyramid at top wide sum h k e =
+    same-word (getD pyramid at (pos 0)) sum h k ∙ ap (eqZ (getD pyramid at (pos 0))) e
 
 -- ════ a level
 
 pub in-square : (k : ℕ) {side size i : ℕ} → side ≡ 2 ^ k → size ≡ cellCount k → i < size → i < side * side
 in-square k es ez lt = rw es (omega arith)
 
-module _ (k : ℕ) {pyramid : List ℤ} {off next side : ℕ} (es : side ≡ 2 ^ k) (eo : off ≡ start k) (en : next ≡ start (k + 1)) where
+module _ (k : ℕ) {pyramid : List ℤ} {off next side : ℕ} (es : side ≡ 2 ^ k) (eo : off ≡ start k)
+    (en : next ≡ start (k + 1)) where
   pub sides-asked : LevelAsked pyramid k → SidesAsked pyramid off next side
   sides-asked h =
       let one : start (k + 1) ≡ start k + 2 ^ k * 2 ^ k = rw (add-one k) (start-suc k) in
-      let two : start (k + 2) ≡ start (k + 1) + 2 ^ (k + 1) * 2 ^ (k + 1) = rw (add-one k) (rw (two-more k) (start-suc (suc k))) in
+      let two : start (k + 2) ≡ start (k + 1) + 2 ^ (k + 1)
+      * 2 ^ (k + 1) = rw (add-one k) (rw (two-more k) (start-suc (suc k))) in
       let wide : 2 ^ (k + 1) * 2 ^ (k + 1) ≡ 4 * (2 ^ k * 2 ^ k) = rw (add-one k) (quadruple k) in
       rw (es, eo, en)
       (record {
@@ -138,17 +149,21 @@ module _ (k : ℕ) {pyramid : List ℤ} {off next side : ℕ} (es : side ≡ 2 ^
       two-more n = omega arith
 
 module _ (k : ℕ) (pyramid : List ℤ) where
-  finer-at : (x y j : ℕ) → j ≡ start (suc k) + (x * (2 * 2 ^ k) + y) → entry pyramid (suc k) x y ≡ getD pyramid j (pos 0)
+  finer-at : (x y j : ℕ) → j ≡ start (suc k) + (x * (2 * 2 ^ k) + y)
+      → entry pyramid (suc k) x y ≡ getD pyramid j (pos 0)
   unfolding entry placeIn
   finer-at x y j e = ap (λ (m : ℕ). getD pyramid m (pos 0)) (rw (pow-succ' 2 k) (sym e))
 
-  four-place : (i : ℕ) → four (entry pyramid (suc k)) (rowAt k i) (columnAt k i) ≡ fourAt pyramid (belowPlace (start (suc k)) (2 ^ k) i) (2 * 2 ^ k)
+  four-place : (i : ℕ)
+      → four (entry pyramid (suc k)) (rowAt k i) (columnAt k i)
+      ≡ fourAt pyramid (belowPlace (start (suc k)) (2 ^ k) i) (2 * 2 ^ k)
   unfolding four fourAt rowAt columnAt
   four-place i =
       let a = i / 2 ^ k in
       let b = i % 2 ^ k in
       ap₂ _+ℤ_
-      (ap₂ _+ℤ_ (ap₂ _+ℤ_ (finer-at (2 * a) (2 * b) _ refl) (finer-at (2 * a) (2 * b + 1) _ (omega arith))) (finer-at (2 * a + 1) (2 * b) _ (omega arith)))
+      (ap₂ _+ℤ_ (ap₂ _+ℤ_ (finer-at (2 * a) (2 * b) _ refl) (finer-at (2 * a) (2 * b + 1) _ (omega arith)))
+      (finer-at (2 * a + 1) (2 * b) _ (omega arith)))
       (finer-at (2 * a + 1) (2 * b + 1) _ (omega arith))
 
   -- by quarters

@@ -1,4 +1,5 @@
--- The levels one after another, from the finest on: the entries of a level that holds are sums of four, so that they stay far from overflow.
+-- The levels one after another, from the finest on (`Upward`, `turn`, `passes`): the entries of a level that holds are
+-- sums of four, so that they stay far from overflow.
 use mathlib.Core.Path.{_≡_, sym, ap, ap₂, _∙_}
 use mathlib.Core.Bool.{Bool, true, false, not}
 use mathlib.Core.List.{List}
@@ -15,10 +16,10 @@ use Rattle.definition.specs.Sound.{everyEntry, summed}
 use Rattle.integers.specs.Tests.{T-true, T-false, true-T, false-T, allTo-all, not-allTo, everyEntry-at, eqZ-eq}
 use Rattle.quadtree.specs.Levels.{quadruple, start-mono, cells-few}
 use Rattle.quadtree.specs.Pyramids.{four-ext}
-use Rattle.pyramid.specs.Asked.{Within}
+use Rattle.pyramid.specs.PyramidPart.{Within}
 use Rattle.pyramid.specs.Four.{within-mono}
 use Rattle.pyramid.specs.Small.{four-small}
-use Rattle.sound.specs.Asked.{inRows, entryIn, LevelAsked, SummedAsked, levelSummed}
+use Rattle.sound.specs.OnePlace.{inRows, entryIn, LevelAsked, SummedAsked, levelSummed}
 use Rattle.integers.specs.Loops.{held, failed}
 use Rattle.sound.specs.Either.{rowIn, columnIn, layout, allTo-ext, every-ext, entry-at, in-rows}
 

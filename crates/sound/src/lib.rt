@@ -1,5 +1,5 @@
-// Whether a sheet is sound: document 01's seven tests, for any contents of the three buffers, in either layout of the
-// pyramid.
+// Whether a sheet is sound (`is_sound`): its seven tests, for any contents of the three buffers, in either layout of
+// the pyramid.
 ghost use mathlib.Core.Path.{_≡_};
 ghost use mathlib.Core.Bool.{_&&_};
 ghost use Prim.Native.Nat.{_≤_, _<_, _+_, _*_, _-_};
@@ -10,16 +10,25 @@ ghost use Rattle.definition.specs.Sound.{fewDots, numbered, counted, unused, su
 ghost use Rattle.definition.specs.Sound.{everyEntry};
 ghost use Rattle.integers.specs.Totals.{Total};
 ghost use Rattle.places.specs.Table.{places};
-ghost use Rattle.sound.specs.Asked.{inRows, SoundAsked, CellsAsked, NumberedAsked, NextAsked, nextAt, freeAt};
-ghost use Rattle.sound.specs.Asked.{LineAsked, rowPlace, columnPlace, ColumnPlaces, CellAsked, boundedAt};
-ghost use Rattle.sound.specs.Asked.{onSide, NearPlace, NearAsked, nearAt, owingCell, OwingAsked, owingAt, heldAt};
-ghost use Rattle.sound.specs.Asked.{SumAsked, sumHolds, SidesAsked, rowSumAt, sumAt, LevelAsked, levelSummed};
-ghost use Rattle.sound.specs.Asked.{GridAsked, RowAsked, rowHeld, SummedAsked};
+ghost use Rattle.sound.specs.OnePlace.{inRows, SoundAsked, CellsAsked, NumberedAsked, NextAsked, nextAt, freeAt};
+ghost use Rattle.sound.specs.OnePlace.{LineAsked, rowPlace, columnPlace, ColumnPlaces, CellAsked, boundedAt};
+ghost use Rattle.sound.specs.OnePlace.{
+  onSide,
+  NearPlace,
+  NearAsked,
+  nearAt,
+  owingCell,
+  OwingAsked,
+  owingAt,
+  heldAt,
+};
+ghost use Rattle.sound.specs.OnePlace.{SumAsked, sumHolds, SidesAsked, rowSumAt, sumAt, LevelAsked, levelSummed};
+ghost use Rattle.sound.specs.OnePlace.{GridAsked, RowAsked, rowHeld, SummedAsked};
 
 // What one dot is worth.
 const DOT: i64 = 65280;
 
-// Whether there are at most as many dots as cells.
+// Whether there are at most as many dots as cells (S 4.1).
 fn few_dots(r: usize, dots: u32) -> bool
     requires { ⌜ r ≤ 8 ⌝ }
     ensures { λ b. ⌜ b ≡ fewDots r dots ⌝ }
@@ -39,7 +48,7 @@ fn is_next(cells: usize, serials: &[u32], order: &[u32], i: usize) -> bool
     serials[cell] as usize == i + 1
 }
 
-// Whether each dot stands at its order place, and has its serial there.
+// Whether each dot stands at its order place, and has its serial there (S 4.2).
 fn numbered(r: usize, serials: &[u32], order: &[u32], dots: u32) -> bool
     requires { ⌜ NumberedAsked r (length (now serials)) (length (now order)) dots ⌝ }
     ensures { λ b. ⌜ b ≡ numbered r (now (serials .entry)) (now (order .entry)) dots ⌝ }
@@ -56,7 +65,7 @@ fn numbered(r: usize, serials: &[u32], order: &[u32], dots: u32) -> bool
     true
 }
 
-// Whether there are as many serials other than 0 as dots.
+// Whether there are as many serials other than 0 as dots (S 4.3).
 fn counted(r: usize, serials: &[u32], dots: u32) -> bool
     requires { ⌜ CellsAsked r (length (now serials)) ⌝ }
     ensures { λ b. ⌜ b ≡ counted r (now (serials .entry)) dots ⌝ }
@@ -82,7 +91,7 @@ fn is_free(order: &[u32], dots: u32, i: usize) -> bool
     order[i] == 0
 }
 
-// Whether the order places past those of the dots are 0.
+// Whether the order places past those of the dots are 0 (S 4.4).
 fn unused(r: usize, order: &[u32], dots: u32) -> bool
     requires { ⌜ CellsAsked r (length (now order)) ⌝ }
     ensures { λ b. ⌜ b ≡ unused r (now (order .entry)) dots ⌝ }
@@ -138,7 +147,8 @@ fn column_places(rows: bool, table: &[u16; 1024], side: usize) -> [usize; 256]
     columns
 }
 
-// Whether the residual of cell i, which is at place `at`, is at most one dot, and at most 0 if the cell is burnt.
+// Whether the residual of cell i, which is at place `at`, is at most one dot, and at most 0 if the cell is burnt
+// (S 4.6).
 fn cell_bounded(at: usize, pyramid: &[i64], serials: &[u32], i: usize) -> bool
     requires { ⌜ CellAsked at (length (now pyramid)) (length (now serials)) i ⌝ }
     ensures { λ b. ⌜ b ≡ boundedAt (now (pyramid .entry)) (now (serials .entry)) at i ⌝ }
@@ -202,7 +212,7 @@ fn burnt_near(side: usize, serials: &[u32], row: usize, column: usize) -> u32
     sum
 }
 
-// Whether a residual is at least -65,280 for each of `near` burnt neighbours.
+// Whether a residual is at least -65,280 for each of `near` burnt neighbours (S 4.7).
 fn is_owing(residual: i64, near: u32) -> bool
     requires { ⌜ near ≤ 9 ⌝ }
     ensures { λ b. ⌜ b ≡ owingCell residual near ⌝ }
@@ -351,8 +361,8 @@ fn level_summed(k: usize, rows: bool, pyramid: &[i64]) -> bool
     true
 }
 
-// Whether it holds of every level over the cells. It goes from the finest on, so that no sum overflows: the entries of
-// a level that holds are sums of small entries.
+// Whether it holds of every level over the cells (S 4.5). It goes from the finest on, so that no sum overflows: the
+// entries of a level that holds are sums of small entries.
 fn summed(r: usize, rows: bool, pyramid: &[i64]) -> bool
     requires { ⌜ SummedAsked rows (now pyramid) r ⌝ }
     ensures { λ b. ⌜ b ≡ summed r (inRows rows r (now (pyramid .entry))) ⌝ }
@@ -367,8 +377,8 @@ fn summed(r: usize, rows: bool, pyramid: &[i64]) -> bool
     true
 }
 
-// Whether a sheet of power r is sound, its pyramid lying row after row or by quarters. The bounds of the cells are
-// tested before the sums, which then do not overflow.
+// Whether a sheet of power r is sound (S 4.1, S 4.2, S 4.3, S 4.4, S 4.5, S 4.6, S 4.7), its pyramid lying row after
+// row or by quarters. The bounds of the cells are tested before the sums, which then do not overflow.
 pub fn is_sound(
     r: usize,
     dots: u32,

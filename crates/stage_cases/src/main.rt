@@ -1,5 +1,6 @@
-// Reads cases on standard input and writes what Load answers to each, and then Advance, Keep and Restore one after
-// another, with changes between them.
+// Reads cases on standard input and writes what `load` answers to each, and then `advance`, `keep` and `restore` one
+// after another, with changes between them.
+//
 // The input is lines of decimal numbers parted by commas. The first line is the count of cases. A case is: a line with
 // the side, the knit, a seed and the places to spare; a line with the greys, if the seed is 0; a line with the count of
 // actions; and a line of five numbers for each of them, a kind and a, b, c and d:

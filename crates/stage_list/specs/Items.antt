@@ -1,10 +1,11 @@
--- The list of calls that slices of numbers give, and what the caller holds between two of them.
+-- The list of calls that slices of numbers give (`itemAt`, `actionsIn`), and what the caller holds between two of them
+-- (`callerOf`).
 use mathlib.Core.List.{List}
 use Prim.Native.Nat.{ℕ, zero, suc}
 use lib.ListN.{length, getD}
 use lib.IntN.{ℤ}
 use Rattle.definition.specs.Lists.{tabulate}
-use Rattle.definition.specs.Calls.{Call}
+use Rattle.definition.specs.AdvanceList.{Call}
 use Rattle.definition.specs.Stages.{Return, Action, advancing, keeping, returning, Caller}
 use Rattle.stage_list.specs.declared.Item.{Item}
 use Rattle.stage_list.specs.declared.Latest.{Latest}

@@ -1,4 +1,4 @@
 pub mod Items
-pub mod Promise
+pub mod PromiseOfCode
 pub mod OneItem
 pub mod ManyItems

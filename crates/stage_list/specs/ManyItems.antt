@@ -1,4 +1,5 @@
--- The loop over the list: a call more is a call made on what the calls before it left. Then Load in front of it.
+-- The loop over the list: a call more is a call made on what the calls before it left (`goes-on`, `all-acted`). Then
+-- Load in front of it (`loaded-first`).
 use mathlib.Core.Path.{_≡_, refl, sym, ap, _∙_}
 use mathlib.Core.List.{List, [], _∷_, _++_}
 use Prim.Native.Nat.{ℕ, _+_, _≤_, _<_}
@@ -13,11 +14,11 @@ use Rattle.definition.specs.ByQuarters.{loadByQuarters}
 use Rattle.definition.specs.Stages.{Action, Caller, callerAtFirst, act, callerAfterAll}
 use Rattle.definition.specs.declared.Progress.{Progress}
 use Rattle.definition.specs.declared.Checkpoints.{Checkpoints}
-use Rattle.call_list.specs.Promise.{tabulate-more, loaded-held}
+use Rattle.call_list.specs.PriceListOfCode.{tabulate-more, loaded-held}
 use Rattle.stage_list.specs.declared.Item.{Item}
 use Rattle.stage_list.specs.declared.Latest.{Latest}
 use Rattle.stage_list.specs.Items.{itemAt, actionIn, actionAt, actionsIn, callerOf}
-use Rattle.stage_list.specs.Promise.{Promised, promised}
+use Rattle.stage_list.specs.PromiseOfCode.{Promised, promised}
 
 -- ---- one call more
 caller-more : (g : List ℕ) (caller : Caller) (actions : List Action) (a : Action)

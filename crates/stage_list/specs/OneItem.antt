@@ -1,4 +1,5 @@
--- One call of the list in code: read off the slices, made, and its answer handed on.
+-- One call of the list in code: read off the slices (`item-read`), made (`return-made`), and its answer handed on
+-- (`went-on`).
 use mathlib.Core.Path.{_≡_, refl}
 use mathlib.Core.List.{List, _++_}
 use Prim.Native.Nat.{ℕ, zero, suc, _<_, min}
@@ -6,13 +7,13 @@ use native.Mathlib.Omega.{arith}
 use lib.ListN.{length, getD, take, drop}
 use lib.IntN.{ℤ}
 use Rattle.definition.specs.Answers.{Said}
-use Rattle.definition.specs.Calls.{callOf, heldAfter}
+use Rattle.definition.specs.AdvanceList.{callOf, heldAfter}
 use Rattle.definition.specs.Checkpoints.{keepOf}
 use Rattle.definition.specs.ByQuarters.{restoreByQuarters}
 use Rattle.definition.specs.Stages.{advancing, keeping, returning, returnOf, callerAfter, act}
 use Rattle.definition.specs.declared.Progress.{Progress}
 use Rattle.definition.specs.declared.Checkpoints.{Checkpoints}
-use Rattle.call_list.specs.Promise.{lent-take, lent-drop}
+use Rattle.call_list.specs.PriceListOfCode.{lent-take, lent-drop}
 use Rattle.stage_list.specs.declared.Item.{Item}
 use Rattle.stage_list.specs.declared.Latest.{Latest}
 use Rattle.stage_list.specs.Items.{itemAt, callIn, returnIn, actionOf, actionIn, callerOf}

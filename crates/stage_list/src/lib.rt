@@ -1,5 +1,6 @@
-// Document 02's request 7 in code: a map is loaded, and a list of Advance, Keep and Restore calls is made on it, each
-// lent parts of the greys and the buffers. What is promised of such a list is promised of what this code leaves.
+// The promise of names in code (`run_stages`): a map is loaded, and a list of Advance, Keep and Restore calls is made
+// on it, each lent parts of the greys and the buffers. What is promised of such a list is promised of what this code
+// leaves.
 use definition::CheckpointAnswer;
 use definition::Checkpoints;
 use definition::Progress;
@@ -9,7 +10,7 @@ ghost use lib.ListN.{length, replicate};
 ghost use Rattle.definition.specs.Answers.{checkpointSays};
 ghost use Rattle.definition.specs.Stages.{returnOf, act, callerAfterAll};
 ghost use Rattle.stage_list.specs.Items.{itemAt, returnIn, actionIn, actionsIn, callerOf};
-ghost use Rattle.stage_list.specs.Promise.{Promised};
+ghost use Rattle.stage_list.specs.PromiseOfCode.{Promised};
 
 // A call of the list: which one (0 Advance, 1 Keep, any other number Restore), its budget or its name, and how many
 // places it is lent of the greys and of each buffer. A Keep is lent nothing, and an Advance no greys.
@@ -28,7 +29,7 @@ pub struct Latest {
     pub checkpoints: Checkpoints,
 }
 
-// The value to begin with: all names are empty.
+// The value to begin with: all names are empty (S 2.11).
 fn no_names() -> Checkpoints
     ensures { λ c. ⌜ c ≡ record { kept = replicate 8 0 } ⌝ }
 {
@@ -185,7 +186,8 @@ fn make_actions(
     latest
 }
 
-// Load, then these calls, on the greys and the buffers that Load was lent.
+// Load, then these calls, on the greys and the buffers that Load was lent: the promise of names holds of what they
+// leave (S 15.9).
 pub fn run_stages(
     side: u32,
     knit: u32,

@@ -1,5 +1,5 @@
--- What request 7 promises, clause by clause, for every list of calls after an accepted Load. Each clause is written out
--- with its own figures and taken from a field of `request-7`, so none of them can go, or say less, unnoticed.
+-- What is promised of names, clause by clause, for every list of calls after an accepted Load. Each clause is written
+-- out with its own figures and taken from a field of `names-hold`, so none of them can go, or say less, unnoticed.
 use mathlib.Core.Path.{_≡_, ap}
 use mathlib.Core.Logic.{_≢_}
 use mathlib.Core.List.{List, [], _∷_, _++_, map}
@@ -32,9 +32,9 @@ use Rattle.definition.specs.Stages.{
   countOf,
   countsOf,
 }
-use Rattle.guarantee.specs.Demand3.{Each, Accepted}
-use Rattle.stages.specs.Promise.{Request7}
-use Rattle.stages.specs.Theorem.{request-7}
+use Rattle.guarantee.specs.PriceList.{Each, Accepted}
+use Rattle.stages.specs.Promise.{NamesHold}
+use Rattle.stages.specs.Theorem.{names-hold}
 
 module _ (side knit : ℕ) (greys : List ℕ) (pyramid : List ℤ) (serials order : List ℕ)
     (accepted : Accepted side knit greys pyramid serials order) (actions : List Action) where
@@ -65,8 +65,8 @@ module _ (side knit : ℕ) (greys : List ℕ) (pyramid : List ℤ) (serials orde
   abbrev model : Memory
   model = memoryAfterAll knit r (memoryAtFirst r greys) actions
 
-  promise : Request7 side knit greys pyramid serials order actions
-  promise = request-7 side knit greys pyramid serials order accepted actions
+  promise : NamesHold side knit greys pyramid serials order actions
+  promise = names-hold side knit greys pyramid serials order accepted actions
 
   -- buffers, record, value and answers are the model's
   pub pyramid-as-model : take ((4 ^ suc r - 1) / 3) (caller .held .pyramid) ≡ quartersFrom r (model .sheet .pyramid)
@@ -115,7 +115,7 @@ module _ (side knit : ℕ) (greys : List ℕ) (pyramid : List ℤ) (serials orde
   pub dots-counted : allDots r (caller .held .serials) ≡ dots
   dots-counted = promise .all-dots
 
-  -- a return that isn't refused leaves record and buffers as they were when the name was last kept ..
+  -- a return that isn't refused leaves record and buffers as they were when the name was last kept (S 15.9) ..
   pub as-last-kept : (before between : List Action) (b : Return)
       → actions ≡ (before ++ (keeping (b .name) ∷ between)) ++ (returning b ∷ [])
       → Each (λ a. a ≢ keeping (b .name)) between
@@ -132,12 +132,12 @@ module _ (side knit : ℕ) (greys : List ℕ) (pyramid : List ℤ) (serials orde
   unfolding start
   can-return = promise .returns
 
-  -- no cell is burnt twice
+  -- no cell is burnt twice (S 15.6, S 15.9)
   pub no-cell-twice : (i j : ℕ) → i < j → j < dots
       → getD (caller .held .order) i 0 ≢ getD (caller .held .order) j 0
   no-cell-twice = promise .once
 
-  -- what is left at the top
+  -- what is left at the top (S 15.7, S 15.9)
   pub residual-left : pos (65280 * dots) +ℤ topOf (caller .held .pyramid) ≡ pos (256 * G)
   residual-left = promise .debt
 
@@ -152,9 +152,11 @@ module _ (side knit : ℕ) (greys : List ℕ) (pyramid : List ℤ) (serials orde
     abbrev block-dots : ℕ
     block-dots = dotsIn r (caller .held .serials) k a b
 
+    -- the cap (S 15.4, S 15.9)
     pub under-the-cap : 765 * block-dots < 3 * g + 765 + 1020 * s
     under-the-cap = promise .cap k a b level row column
 
+    -- the floor of a finished map (S 15.5, S 15.9)
     pub over-the-floor : topOf (caller .held .pyramid) <ℤ pos 32640
         → 2 * g < 510 * block-dots + 255 + 1530 * k + 2040 * (N - s)
     over-the-floor low = promise .floor low k a b level row column

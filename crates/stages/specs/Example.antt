@@ -1,5 +1,6 @@
--- An instance of request 7, so that it is seen to speak of something: P3 on ribbed cloth, kept with no dot under name 1
--- and with one dot under name 8, run to its end, and returned to. The buffers are one place longer than needed.
+-- An instance of `names-hold`, so that it is seen to speak of something (`holds-here`): P3 on ribbed cloth, kept with
+-- no dot under name 1 and with one dot under name 8, run to its end, and returned to. The buffers are one place longer
+-- than needed.
 use mathlib.Core.Path.{_≡_, refl}
 use mathlib.Core.List.{List, [], _∷_}
 use Prim.Native.Nat.{ℕ}
@@ -72,7 +73,7 @@ use Rattle.definition.specs.Quarters.{
   asQuarters,
 }
 use Rattle.definition.specs.ByQuarters.{loadByQuarters, advanceByQuarters, restoreByQuarters}
-use Rattle.definition.specs.Calls.{heldAfterLoad, callOf, heldAfter}
+use Rattle.definition.specs.AdvanceList.{heldAfterLoad, callOf, heldAfter}
 use Rattle.definition.specs.Checkpoints.{isName, keptAt, keepRefusal, keepOf}
 use Rattle.definition.specs.Checkpoints.{canRestore, restoreRefusal, restored, restoreOf}
 use Rattle.definition.specs.Stages.{
@@ -92,9 +93,9 @@ use Rattle.definition.specs.Stages.{
   callerAfterAll,
   answersOf,
 }
-use Rattle.guarantee.specs.Demand3.{Accepted}
-use Rattle.stages.specs.Promise.{Request7}
-use Rattle.stages.specs.Theorem.{request-7}
+use Rattle.guarantee.specs.PriceList.{Accepted}
+use Rattle.stages.specs.Promise.{NamesHold}
+use Rattle.stages.specs.Theorem.{names-hold}
 
 abbrev greys : List ℕ
 greys = 128 ∷ 128 ∷ 128 ∷ 128 ∷ []
@@ -126,8 +127,8 @@ unfolding loadByQuarters asRows relaid rowsFrom joined levelOf tabulateFrom load
 accepted =
     record { bytes = (omega arith, (omega arith, (omega arith, (omega arith, tt)))); said = refl }
 
-pub holds-here : Request7 2 ribbed greys pyramid sheet sheet actions
-holds-here = request-7 2 ribbed greys pyramid sheet sheet accepted actions
+pub holds-here : NamesHold 2 ribbed greys pyramid sheet sheet actions
+holds-here = names-hold 2 ribbed greys pyramid sheet sheet accepted actions
 
 -- what they answer, by computing
 abbrev made : ℕ → ℕ → Said → Answer

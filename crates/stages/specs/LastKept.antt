@@ -1,4 +1,5 @@
--- In the model a name keeps its sheet until it is kept again, and a return that isn't refused puts that sheet back.
+-- In the model a name keeps its sheet until it is kept again (`just-kept`, `all-still-kept`), and a return that isn't
+-- refused puts that sheet back.
 use mathlib.Core.Path.{_≡_, refl, ap, _∙_}
 use mathlib.Core.Logic.{_≢_}
 use mathlib.Core.Bool.{Bool, true, false}
@@ -11,7 +12,7 @@ use lib.Seq.{getD-set-same, getD-set-other}
 use Rattle.definition.specs.Checkpoints.{isName}
 use Rattle.definition.specs.Stages.{Action, advancing, keeping, returning, Memory, sheetAt, modelAct, memoryAfterAll}
 use Rattle.refusals.specs.Names.{at-least-one, at-most-eight}
-use Rattle.guarantee.specs.Demand3.{Each}
+use Rattle.guarantee.specs.PriceList.{Each}
 
 -- lists of calls one after the other
 pub memory-more : (knit r : ℕ) (m : Memory) (first then : List Action)
@@ -50,6 +51,7 @@ module _ (knit r : ℕ) (name : ℕ) (is : isName name ≡ true) where
   still-kept m (keeping other) differ = other-kept m other (λ q. differ (ap keeping q))
   still-kept m (returning b) differ = refl
 
+  -- it is held there until the name is kept anew (S 15.9)
   pub all-still-kept : (m : Memory) (between : List Action) → Each (λ a. a ≢ keeping name) between
       → sheetAt (memoryAfterAll knit r m between) name ≡ sheetAt m name
   unfolding memoryAfterAll

@@ -1,5 +1,5 @@
--- One call of the list, and so every list: on buffers that begin with the model's sheet it does as the model does, in
--- which a name holds the whole sheet.
+-- One call of the list (`act-same`), and so every list (`all-held`, `all-answered`): on buffers that begin with the
+-- model's sheet it does as the model does, in which a name holds the whole sheet.
 use mathlib.Core.Path.{_≡_, refl, sym, ap, ap₂, _∙_}
 use mathlib.Core.Bool.{Bool, true, false, cond, not, _&&_, true≢false}
 use mathlib.Core.List.{List, [], _∷_, _++_, map}
@@ -62,7 +62,7 @@ use Rattle.layouts.specs.Relaid.{length-quarters}
 use Rattle.layouts.specs.Lent.{rows-length}
 use Rattle.dots.specs.Steps.{Sheet}
 use Rattle.dots.specs.SoundTest.{sound-test}
-use Rattle.guarantee.specs.Demand3.{Each}
+use Rattle.guarantee.specs.PriceList.{Each}
 use Rattle.guarantee.specs.Start.{each-getD, start-front, total-front}
 use Rattle.guarantee.specs.Lent.{heldOf, lent-test, lent-part, lent-back, rows-part, rows-over, rows-stay}
 use Rattle.guarantee.specs.OneCall.{call-same, held-same}
@@ -350,6 +350,7 @@ module _ (knit : ℕ) (known : knit ≤ 1) (r : ℕ) (big : 2 ≤ 2 ^ r) (power 
             order = modelReturn r m b .order ++ o;
           }
 
+      -- a return does as the model's (S 10.2, S 10.3)
       pub return-same : returnOf greys (callerOf m) b ≡ expected
       return-same = go (modelReturnRefusal r m b) refl
         where

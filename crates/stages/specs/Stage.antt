@@ -1,5 +1,5 @@
--- A stage of a loaded map is a sheet that so many steps from the start lead to. It depends on its dots alone, so the
--- kept number of dots makes the kept sheet again.
+-- A stage of a loaded map is a sheet that so many steps from the start lead to (`Stage`). It depends on its dots alone,
+-- so the kept number of dots makes the kept sheet again (`stage-again`).
 use mathlib.Core.Path.{_≡_, refl, sym, ap, _∙_}
 use mathlib.Core.List.{List}
 use Prim.Native.Nat.{ℕ, _+_, _^_, _≤_, min}
@@ -9,10 +9,10 @@ use Rattle.definition.specs.Diffusion.{kernelOf}
 use Rattle.definition.specs.Model.{Halftone, topOf, modelStart, steps}
 use Rattle.definition.specs.Refusals.{powerOf}
 use Rattle.definition.specs.Advance.{dotsDue}
-use Rattle.definition.specs.Calls.{Call, modelCall}
+use Rattle.definition.specs.AdvanceList.{Call, modelCall}
 use Rattle.shares.specs.Kernels.{knit-fit}
 use Rattle.dots.specs.Steps.{Sheet, steps-sheet, steps-made, steps-min, steps-add}
-use Rattle.guarantee.specs.Demand3.{Each}
+use Rattle.guarantee.specs.PriceList.{Each}
 use Rattle.guarantee.specs.Start.{start-sheet, start-dots, start-due}
 use Rattle.guarantee.specs.ManyCalls.{call-keeps}
 
@@ -54,6 +54,7 @@ module _ (knit : ℕ) (known : knit ≤ 1) (r : ℕ) (big : 2 ≤ 2 ^ r) (power 
   pub stage-most : (t : Halftone) → Stage t → t .dots ≤ total
   stage-most t h = rw (h .is) (omega (arith, dots-of (h .made)))
 
+  -- so many steps from the start make the kept sheet again (S 10.2)
   pub stage-again : (t : Halftone) → Stage t → steps (kernelOf knit) r (t .dots) (modelStart r greys) ≡ t
   stage-again t h =
       ap (λ (u : Halftone). steps (kernelOf knit) r (u .dots) (modelStart r greys)) (h .is)

@@ -1,4 +1,5 @@
--- Request 7, for either knit and every list of Advance, Keep and Restore calls after an accepted Load.
+-- `names-hold`: the promise of names, for either knit and every list of Advance, Keep and Restore calls after an
+-- accepted Load.
 use mathlib.Core.Path.{_≡_, refl, sym, ap, _∙_}
 use mathlib.Core.Logic.{_≢_}
 use mathlib.Core.Bool.{true}
@@ -16,7 +17,7 @@ use Rattle.definition.specs.Pyramid.{needed, cellCount}
 use Rattle.definition.specs.Blocks.{greyTotal}
 use Rattle.definition.specs.Model.{Halftone, modelStart}
 use Rattle.definition.specs.Refusals.{powerOf, lowest}
-use Rattle.definition.specs.Calls.{Call, Held, heldAfterLoad, heldAfterCalls, modelRefusal, modelAfterCalls}
+use Rattle.definition.specs.AdvanceList.{Call, Held, heldAfterLoad, heldAfterCalls, modelRefusal, modelAfterCalls}
 use Rattle.definition.specs.Checkpoints.{isName, RestoreOutcome}
 use Rattle.definition.specs.Quarters.{quartersFrom}
 use Rattle.definition.specs.Stages.{
@@ -44,13 +45,13 @@ use Rattle.definition.specs.Stages.{
 use Rattle.refusals.specs.Names.{both, one-to-eight}
 use Rattle.layouts.specs.Relaid.{length-quarters}
 use Rattle.dots.specs.Steps.{Sheet}
-use Rattle.guarantee.specs.Demand3.{Each, Accepted, Demand3}
+use Rattle.guarantee.specs.PriceList.{Each, Accepted, PriceList}
 use Rattle.guarantee.specs.Start.{Loaded, start-sheet, accepted-loaded, loaded-held}
 use Rattle.guarantee.specs.Lent.{heldOf}
 use Rattle.guarantee.specs.OneCall.{model-taken}
 use Rattle.guarantee.specs.ManyCalls.{calls-held}
-use Rattle.guarantee.specs.Theorem.{demand-3}
-use Rattle.stages.specs.Promise.{StagesHold, Request7}
+use Rattle.guarantee.specs.Theorem.{price-list}
+use Rattle.stages.specs.Promise.{StagesHold, NamesHold}
 use Rattle.stages.specs.Stage.{stage-first, stage-sheet, stage-most, stage-again}
 use Rattle.stages.specs.OneAction.{
   GreysLent,
@@ -140,7 +141,7 @@ module _ (side knit : ℕ) (greys : List ℕ) (pyramid : List ℤ) (serials orde
         checkpoints = record { kept = replicate 8 0 };
       }
 
-  -- ---- a stage is what one Advance call leaves, so demand 3 speaks of it
+  -- ---- a stage is what one Advance call leaves, so the price list speaks of it
   module _ (t : Halftone) (h : IsStage knit known r big power greys (accepted .bytes) lent t) where
     one-call : heldAfterCalls (heldAfterLoad side knit greys pyramid serials order) (whole r (t .dots) ∷ [])
         ≡ heldOf knit r t p s o
@@ -157,8 +158,8 @@ module _ (side knit : ℕ) (greys : List ℕ) (pyramid : List ℤ) (serials orde
         ∙ calls-held knit known r big power p s o (call ∷ []) fresh sheet
         ∙ ap (λ (u : Halftone). heldOf knit r u p s o) one
 
-    demand : Demand3 side knit greys pyramid serials order (whole r (t .dots) ∷ [])
-    demand = demand-3 side knit greys pyramid serials order accepted (whole r (t .dots) ∷ [])
+    promised : PriceList side knit greys pyramid serials order (whole r (t .dots) ∷ [])
+    promised = price-list side knit greys pyramid serials order accepted (whole r (t .dots) ∷ [])
 
   module _ (actions : List Action) where
     abbrev last : Memory
@@ -272,7 +273,7 @@ module _ (side knit : ℕ) (greys : List ℕ) (pyramid : List ℤ) (serials orde
         (modelAnswers knit r memory actions) last (modelAnswers knit r memory actions)
     holds =
         let one = one-call t (last-good .at-stage) in
-        let d = demand t (last-good .at-stage) in
+        let d = promised t (last-good .at-stage) in
         record {
           pyramid = take-at (quartersFrom r (t .pyramid)) p (needed r) (length-quarters r (t .pyramid));
           serials = take-at (t .serials) s (cellCount r) (sheet .sized .serials);
@@ -296,8 +297,9 @@ module _ (side knit : ℕ) (greys : List ℕ) (pyramid : List ℤ) (serials orde
           debt = rw one at (d .debt);
         }
 
-    pub request-7 : Request7 side knit greys pyramid serials order actions
-    request-7 =
+    -- the promise of names (S 15.9)
+    pub names-hold : NamesHold side knit greys pyramid serials order actions
+    names-hold =
         rw (
           first-is,
           all-held knit known r big power greys (accepted .bytes) lent p s o actions memory good,

@@ -1,4 +1,5 @@
--- The error of a cell, and the sum of four errors, with the square of it added to the sum of a level.
+-- The error of a cell (`error-none`, `error-dot`), and the sum of four errors, with the square of it added to the sum
+-- of a level (`joined`).
 use mathlib.Core.Path.{_≡_, refl}
 use mathlib.Core.List.{List}
 use Prim.Native.Nat.{ℕ, _+_, _*_, _^_, _≤_, _<_}
@@ -13,7 +14,7 @@ use Rattle.integers.specs.Linear.{zz, natAbs-within}
 use Rattle.integers.specs.Machine.{of-bits}
 use Rattle.integers.specs.Totals.{TotalZ, addZ, read}
 use Rattle.blocks.specs.Squares.{dot-none, dot-one}
-use Rattle.survey.specs.Asked.{quarterMost, errorMost, AddAsked, JoinAsked, Joined, added}
+use Rattle.survey.specs.BlockErrors.{quarterMost, errorMost, AddAsked, JoinAsked, Joined, added}
 
 -- the error of a cell: its grey, less 255 for a dot
 abbrev pub cellError : ℕ → ℕ → ℤ

@@ -1,4 +1,4 @@
--- The walk from the block of level 0, the whole map, sums up every level.
+-- The walk from the block of level 0, the whole map, sums up every level (`whole-walked`).
 use mathlib.Core.Path.{_≡_, refl, _∙_}
 use mathlib.Core.Bool.{cond}
 use mathlib.Core.List.{List}
@@ -11,7 +11,7 @@ use Rattle.definition.specs.Lists.{tabulate}
 use Rattle.definition.specs.Survey.{errorAt, levelSum}
 use Rattle.integers.specs.Lists.{eq-tabulate, getD-replicate-self}
 use Rattle.quadtree.specs.Levels.{cells-few}
-use Rattle.survey.specs.Asked.{LevelsAsked, WalkAsked, Walked}
+use Rattle.survey.specs.BlockErrors.{LevelsAsked, WalkAsked, Walked}
 use Rattle.survey.specs.Within.{within-whole}
 
 replicate-most : (v n i : ℕ) → getD (replicate n v) i 0 ≤ v

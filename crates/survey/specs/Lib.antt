@@ -1,6 +1,6 @@
 pub mod Within
-pub mod Asked
+pub mod BlockErrors
 pub mod Errors
 pub mod Walk
 pub mod Levels
-pub mod Calls
+pub mod WaysOut

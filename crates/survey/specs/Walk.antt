@@ -1,4 +1,4 @@
--- The walk over the blocks: a cell alone, and a block from its four quarters.
+-- The walk over the blocks: a cell alone (`cell-walked`), and a block from its four quarters (`block-walked`).
 use mathlib.Core.Path.{_≡_, refl, sym, ap, _∙_}
 use mathlib.Core.Bool.{Bool, true, false, cond}
 use mathlib.Core.List.{List}
@@ -20,8 +20,8 @@ use Rattle.quadtree.specs.Levels.{quadruple, cells-few, cell-lt}
 use Rattle.quadtree.specs.Quarters.{blockZ-quarters, blockZ-cell}
 use Rattle.blocks.specs.Blocks.{BlockAsked}
 use Rattle.survey.specs.Errors.{cellError, word}
-use Rattle.survey.specs.Asked.{cells, share, quarterMost, added}
-use Rattle.survey.specs.Asked.{Room, WalkAsked, AddAsked, JoinAsked, Joined, Walked}
+use Rattle.survey.specs.BlockErrors.{cells, share, quarterMost, added}
+use Rattle.survey.specs.BlockErrors.{Room, WalkAsked, AddAsked, JoinAsked, Joined, Walked}
 use Rattle.survey.specs.Within.{within, squareOf, withinQuarters, within-coarser, within-quarters, within-cell}
 
 length-added : (l : List ℕ) (k v : ℕ) → length (added l k v) ≡ length l

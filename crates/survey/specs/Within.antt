@@ -1,5 +1,5 @@
 -- The squares of the sums of a function over the blocks of a level, summed up over those blocks that lie within one
--- block: by quarters, and over the whole map.
+-- block: by quarters (`within-quarters`), and over the whole map (`within-whole`).
 use mathlib.Core.Path.{_≡_, refl}
 use mathlib.Core.Logic.{_⊎_, inl, inr}
 use mathlib.Core.Bool.{Bool, true, false, not, cond}

@@ -1,4 +1,4 @@
-// Tally, the dots of a block; and Levels, for each level the summed squares of its blocks' errors.
+// Tally, the dots of a block (`tally`); and Levels, for each level the summed squares of its blocks' errors (`levels`).
 use checks::Check;
 use definition::LevelsAnswer;
 use definition::LevelsStatus;
@@ -15,10 +15,19 @@ ghost use Rattle.definition.specs.Survey.{errorAt, squared, levelSum, tallyRefu
 ghost use Rattle.checks.specs.Checks.{checked};
 ghost use Rattle.integers.specs.Totals.{TotalZ};
 ghost use Rattle.blocks.specs.Blocks.{BlockAsked};
-ghost use Rattle.survey.specs.Asked.{LevelsAsked, AddAsked, JoinAsked, Room, WalkAsked, Joined, Walked, added};
+ghost use Rattle.survey.specs.BlockErrors.{
+  LevelsAsked,
+  AddAsked,
+  JoinAsked,
+  Room,
+  WalkAsked,
+  Joined,
+  Walked,
+  added,
+};
 ghost use Rattle.survey.specs.Errors.{cellError};
 
-// The error of a cell: its grey, less 255 if it has a dot.
+// The error of a cell: its grey, less 255 if it has a dot (S 8.2).
 fn cell_error(grey: u8, serial: u32) -> i64
     ensures { λ e. ⌜ TotalZ (cellError grey serial) 255 e ⌝ }
 {
@@ -125,14 +134,17 @@ fn walk(
 // The nine sums of Levels: level 0 first, those past r 0.
 pub fn level_sums(greys: &[u8], serials: &[u32], r: usize) -> [u64; 9]
     requires { ⌜ LevelsAsked (length (now greys)) (length (now serials)) r ⌝ }
-    ensures { λ a. ⌜ a ≡ tabulate 9 (λ k. cond (leb k r) (levelSum r (now (greys .entry)) (now (serials .entry)) k) 0) ⌝ }
+    ensures { λ a. ⌜
+        a
+        ≡ tabulate 9 (λ k. cond (leb k r) (levelSum r (now (greys .entry)) (now (serials .entry)) k) 0)
+        ⌝ }
 {
     let mut out = [0u64; 9];
     walk(greys, serials, r, 0, 0, 0, &mut out);
     out
 }
 
-// Tally's refusals 1, 4, 6, for the aligned square (row, column) of level k.
+// Tally's refusals 1, 4, 6 (S 5.2), for the aligned square (row, column) of level k.
 fn check_tally(r: usize, serials: usize, k: usize, row: usize, column: usize) -> Check
     requires { ⌜ r ≤ 8 ⌝ }
     ensures { λ c. ⌜ checked c ≡ tallyRefusal r serials k row column ⌝ }
@@ -156,7 +168,7 @@ fn check_tally(r: usize, serials: usize, k: usize, row: usize, column: usize) ->
     Check::Passed
 }
 
-// Tally: the dots of an aligned square.
+// Tally (S 8.1): the dots of an aligned square.
 pub fn tally(side: u32, serials: &[u32], level: u32, row: u32, column: u32) -> TallyAnswer
     ensures { λ a. ⌜ tallySays a ≡ tallyOf side (now (serials .entry)) level row column ⌝ }
 {
@@ -170,7 +182,7 @@ pub fn tally(side: u32, serials: &[u32], level: u32, row: u32, column: u32) -> T
     }
 }
 
-// Levels' refusals 1, 2, 4.
+// Levels' refusals 1, 2, 4 (S 5.2).
 fn check_levels(r: usize, greys: usize, serials: usize) -> Check
     requires { ⌜ r ≤ 8 ⌝ }
     ensures { λ c. ⌜ checked c ≡ levelsRefusal r greys serials ⌝ }
@@ -188,9 +200,15 @@ fn check_levels(r: usize, greys: usize, serials: usize) -> Check
     Check::Passed
 }
 
-// Levels: the summed squares of the errors of each level, or nine zeros beside a refusal.
+// Levels (S 8.2): the summed squares of the errors of each level, or nine zeros beside a refusal.
 pub fn levels(side: u32, greys: &[u8], serials: &[u32]) -> LevelsAnswer
-    ensures { λ a. ⌜ record { sums = a .sums; said = levelsSays (a .status) } ≡ levelsOf side (now (greys .entry)) (now (serials .entry)) ⌝ }
+    ensures { λ a. ⌜
+        record {
+          sums = a .sums;
+          said = levelsSays (a .status);
+        }
+        ≡ levelsOf side (now (greys .entry)) (now (serials .entry))
+        ⌝ }
 {
     let r = sizes::power_of(side);
     match check_levels(r, greys.len(), serials.len()) {

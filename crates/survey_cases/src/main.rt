@@ -1,7 +1,8 @@
-// Reads cases on standard input and writes what Load, Tally and Levels answer to each.
-// The input is lines of decimal numbers parted by commas. The first line is the count of cases. A case is four
-// lines: the side, the knit and the four lengths lent (greys, pyramid, serials, order); the greys; the count of
-// marks and the cells to mark; the count of tallies, and a level, row and column for each.
+// Reads cases on standard input and writes what `load`, `tally` and `levels` answer to each.
+//
+// The input is lines of decimal numbers parted by commas. The first line is the count of cases. A case is four lines:
+// the side, the knit and the four lengths lent (greys, pyramid, serials, order); the greys; the count of marks and the
+// cells to mark; the count of tallies, and a level, row and column for each.
 use case_io::end_line;
 use case_io::end_refused;
 use case_io::field;

@@ -1,10 +1,11 @@
-// Reads cases on standard input and writes what Map Text answers to each text, what Drill List answers where a map was
-// read, and what Lower Text answers to the same text. The first line is the count of cases. A case is a line of six
-// decimal numbers parted by commas: the text's length, the places lent of the greys buffer and of the output, a damage,
-// the knit that Load is given and the one that Drill List is given in its record; and then the text itself, of just
-// that length. Damage 0 is none.
-// Before Drill List 1 adds 1 to the pyramid's top; 2 says one hole more than were made, and 3 says side 3; 4, 5 and
-// 6 lend one place less of the pyramid, the serial sheet and the order list.
+// Reads cases on standard input and writes what `map_text` answers to each text, what `drill_list` answers where a map
+// was read, and what `lower_text` answers to the same text.
+//
+// The first line is the count of cases. A case is a line of six decimal numbers parted by commas: the text's length,
+// the places lent of the greys buffer and of the output, a damage, the knit that Load is given and the one that Drill
+// List is given in its record; and then the text itself, of just that length. Damage 0 is none. Before Drill List 1
+// adds 1 to the pyramid's top; 2 says one hole more than were made, and 3 says side 3; 4, 5 and 6 lend one place less
+// of the pyramid, the serial sheet and the order list.
 use case_io::end_line;
 use case_io::field;
 use case_io::field_u32;

@@ -1,5 +1,5 @@
--- What a text says of one cell, by what the code has read; and numbers read cell by cell. A map (`pairs` is false) has
--- one number for each cell, a sketch two, its low and its high.
+-- What a text says of one cell, by what the code has read (`cell-read`); and numbers read cell by cell (`values-cell`,
+-- `values-broken`). A map (`pairs` is false) has one number for each cell, a sketch two, its low and its high.
 use mathlib.Core.Path.{_≡_, refl, sym, ap, _∙_}
 use mathlib.Core.Bool.{Bool, true, false}
 use mathlib.Core.List.{List, [], _∷_}

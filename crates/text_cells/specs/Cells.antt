@@ -1,4 +1,5 @@
--- The cells of a text, from one on: what two buffers hold once they are read and stored, and the loop that reads them.
+-- The cells of a text, from one on: what two buffers hold once they are read and stored (`CellsRead`), and the loop
+-- that reads them (`CellsLeft`, `left-less`).
 use mathlib.Core.Path.{_≡_, refl, sym, ap, _∙_}
 use mathlib.Core.Bool.{Bool, true, false, cond, _&&_}
 use mathlib.Core.List.{List, [], _∷_}

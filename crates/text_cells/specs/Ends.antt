@@ -1,5 +1,5 @@
--- The bytes that end the cells of a text, by place; and those that end its numbers, which are two for each cell of a
--- sketch.
+-- The bytes that end the cells of a text, by place (`rows-ends-at`); and those that end its numbers, which are two for
+-- each cell of a sketch (`pairs-sketch`).
 use mathlib.Core.Path.{_≡_, refl, sym, ap, ap₂, _∙_}
 use mathlib.Core.Bool.{Bool, true, false, cond}
 use mathlib.Core.List.{List, [], _∷_, _++_}

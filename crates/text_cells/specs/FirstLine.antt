@@ -1,4 +1,5 @@
--- The first line of a text: what the code finds it to say, for every text that begins so, a map's or a sketch's.
+-- The first line of a text: what the code finds it to say, for every text that begins so, a map's or a sketch's
+-- (`line-good`, `line-refused`).
 use mathlib.Core.Path.{_≡_, sym, ap, _∙_}
 use mathlib.Core.List.{List}
 use Prim.Native.Nat.{ℕ, suc, _-_, _*_, _<_, _≤_}

@@ -1,4 +1,5 @@
--- What a caller makes of the cells that were found, or stored: the numbers that the definitions read.
+-- What a caller makes of the cells that were found (`cells-found`), or stored (`cells-stored`): the numbers that the
+-- definitions read.
 use mathlib.Core.Path.{_≡_, refl, sym, ap, _∙_}
 use mathlib.Core.Bool.{Bool, true, false, cond, not}
 use mathlib.Core.List.{List}

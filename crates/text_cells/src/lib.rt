@@ -1,6 +1,6 @@
-// The texts of maps and of sketches (document 01, Map Text; document 02, request 12): the first line, with the side,
-// and what the lines behind it say of each cell. A map says one number of a cell, its grey; a sketch says a pair, its
-// low and its high grey. One reader serves both: to it the grey of a map is low and high at once.
+// The texts of maps and of sketches: the first line, with the side (`first_line`), and what the lines behind it say of
+// each cell (`read_cells`, `find_cells`). A map says one number of a cell, its grey; a sketch says a pair, its low and
+// its high grey. One reader serves both: to it the grey of a map is low and high at once.
 use checks::Check;
 use decimals::Number;
 use definition::Refusal;
@@ -35,7 +35,7 @@ pub struct Cells {
     pub rise: bool,
 }
 
-// The byte that ends cell i: a comma, or byte 10 at the end of a row.
+// The byte that ends cell i: a comma, or byte 10 at the end of a row (S 6.1).
 pub fn end_at(side: usize, i: usize) -> u8
     requires { ⌜ (0 < side) × (i < 65536) ⌝ }
     ensures { λ b. ⌜ b ≡ endAt side i ⌝ }
@@ -82,8 +82,8 @@ fn still_rise(rise: bool, low: u32, high: u32) -> bool
     false
 }
 
-// Reads the cells from a place of the text on, and stores the lows and highs for which the parts lent have a place:
-// none in an empty one.
+// Reads the cells of a map (S 6.2) or of a sketch (S 6.3) from a place of the text on, and stores the lows and highs
+// for which the parts lent have a place: none in an empty one.
 pub fn read_cells(
     text: &[u8],
     from: usize,
@@ -141,8 +141,8 @@ pub fn why_not(text: &[u8], from: usize, side: usize, pairs: bool) -> Refusal
     Refusal::GreyHigh
 }
 
-// The first line of a text, for greys buffers of which the shortest has `room` places: refusals 7, 1 and 2, in this
-// order.
+// The first line of a text (S 6.4), for greys buffers of which the shortest has `room` places: refusals 7, 1 and 2, in
+// this order (S 5.2).
 pub fn first_line(text: &[u8], room: usize) -> FirstLine
     ensures { λ line. ⌜ LineSays (now (text .entry)) room line ⌝ }
 {

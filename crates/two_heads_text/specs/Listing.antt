@@ -1,5 +1,5 @@
--- A map of at most 1,024 cells, run with two heads: a side below 16 is refused with 14, and for every other one Drill
--- List prints the run.
+-- A map of at most 1,024 cells, run with two heads: a side below 16 is refused with 14 (`refused-printed`), and for
+-- every other one Drill List prints the run (`list-printed`).
 use mathlib.Core.Path.{_≡_, sym, ap, _∙_}
 use mathlib.Core.List.{List, []}
 use Prim.Native.Nat.{ℕ, _≤_, _<_}
@@ -27,7 +27,7 @@ use Rattle.definition.specs.declared.TwoHeadsStatus.the-variants.{Stopped, Refu
 use Rattle.heads.specs.TwoHeads.{twoHeads, TwoHeadsOutcome, twoHeadsRefusal, twoHeadsByQuarters, twoHeadsList}
 use Rattle.refusals.specs.Lowest.{load-none}
 use Rattle.shares.specs.Kernels.{knit-fit}
-use Rattle.guarantee.specs.Demand3.{Each}
+use Rattle.guarantee.specs.PriceList.{Each}
 use Rattle.guarantee.specs.Start.{each-of}
 use Rattle.head_order.specs.Checks.{power-large, heads-none, heads-small}
 use Rattle.head_order.specs.Promise.{HeadsHold}
@@ -103,7 +103,7 @@ module _ (side : ℕ) (greys : List ℕ) (bytes : (i : ℕ) → getD greys i 0 �
   module _ {a : TwoHeadsAnswer} {p₁ : List ℤ} {s₁ o₁ : List ℕ}
       (q : record {
         progress = a .progress;
-        holes = a .holes;
+        made = a .made;
         debt = a .debt;
         said = twoHeadsSays (a .status);
         pyramid = p₁;

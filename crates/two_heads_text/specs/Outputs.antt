@@ -1,4 +1,5 @@
--- The ways out of `two_heads`: an input that is too long, a text that Map Text refuses, the list of a map.
+-- The ways out of `two_heads`: an input that is too long (`long-printed`), a text that Map Text refuses
+-- (`refused-printed`), the list of a map (`side-printed`).
 use mathlib.Core.Path.{_≡_, ap, _∙_}
 use mathlib.Core.Bool.{true, false}
 use mathlib.Core.List.{List, _++_}

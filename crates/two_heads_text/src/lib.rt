@@ -1,4 +1,4 @@
-// What the program `two_heads` prints, as a function from bytes to bytes (document 02, request 13).
+// What the program `two_heads` prints, as a function from bytes to bytes (`two_heads_text`).
 use definition::MapTextAnswer;
 use definition::TextAnswer;
 use definition::TwoHeadsStatus;
@@ -58,6 +58,7 @@ fn put_text(input: &[u8], out: &mut [u8]) -> usize
     }
 }
 
+// What `two_heads` prints (S 14.6).
 pub fn two_heads_text(input: &[u8]) -> TwoHeadsText
     ensures { λ p. ⌜ take (p .length) (p .bytes) ≡ twoHeadsText (now (input .entry)) ⌝ }
     ensures { λ p. ⌜ p .length ≤ 11300 ⌝ }

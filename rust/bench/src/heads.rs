@@ -55,7 +55,7 @@ fn two_heads(greys: &[u8]) -> (Time, Made) {
     let b = &mut buffers;
     let (time, end) =
         timed(|| rulmedei::two_heads(SIDE, rulmedei::PLAIN, greys, &mut b.pyramid, &mut b.serials, &mut b.order));
-    (time, Made { holes: end.expect("two heads").holes, buffers })
+    (time, Made { holes: end.expect("two heads").made, buffers })
 }
 
 fn by_reference(greys: &[u8]) -> Made {
@@ -63,5 +63,5 @@ fn by_reference(greys: &[u8]) -> Made {
     let b = &mut buffers;
     let end = reference::two_heads(SIDE, reference::PLAIN, greys, &mut b.pyramid, &mut b.serials, &mut b.order);
     assert_eq!(end.status, Ok(()));
-    Made { holes: end.holes, buffers }
+    Made { holes: end.made, buffers }
 }

@@ -54,7 +54,7 @@ pub fn two_heads(
     order: &mut [u32],
 ) -> Outcome {
     let answer = reference::two_heads(side, knit, greys, pyramid, serials, order);
-    let values = [record(answer.progress), vec![answer.holes.into(), answer.debt as u64]].concat();
+    let values = [record(answer.progress), vec![answer.made.into(), answer.debt as u64]].concat();
     Outcome { code: code_of(answer.status), values }
 }
 

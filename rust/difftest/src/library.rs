@@ -52,7 +52,7 @@ pub fn two_heads(
     order: &mut [u32],
 ) -> Outcome {
     let (code, end) = codes::two_heads(side, knit, greys, pyramid, serials, order);
-    Outcome { code, values: [numbers(end.progress), vec![end.holes.into(), end.debt as u64]].concat() }
+    Outcome { code, values: [numbers(end.progress), vec![end.made.into(), end.debt as u64]].concat() }
 }
 
 pub fn tally(side: u32, serials: &[u32], [level, row, column]: [u32; 3]) -> Outcome {

@@ -71,7 +71,7 @@ fn compare_vectors() -> Result<String, String> {
     Ok(format!("vectors: the library gives the same {counts}"))
 }
 
-/// Compares the cases and prints the calls by name and code. Returns the last line.
+/// Compares the cases and prints the calls by name and code. Returns the last line (S 15.1).
 fn compare_cases(cases: u64, seed: u64) -> Result<String, String> {
     let mut random = Random::new(seed);
     let mut calls = SideBySide::default();

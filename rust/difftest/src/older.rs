@@ -7,7 +7,7 @@ use crate::random::Random;
 use crate::side_by_side::{Differs, Lent, Sheet, SideBySide};
 
 /// An older sheet with some holes, now and then damaged, or in the layout of today; or noise. Relay writes it into a
-/// pyramid of any length; where it does, the sheet is run on.
+/// pyramid of any length; where it does, the sheet is run on (S 2.6, S 12.2).
 pub fn older_case(random: &mut Random, calls: &mut SideBySide, side: u32) -> Result<(), Differs> {
     let (mut progress, mut old) = older(random, side);
     match random.below(8) {

@@ -15,7 +15,7 @@ const TWO_HEADS_RUNS: &str = include_str!("../../../vectors/two-heads.csv");
 /// A stored map: its side, the knit of its cloth and its name.
 type Map = (u32, u32, &'static str);
 
-/// Compares every line of the three files and returns how many each has, or says which line differs.
+/// Compares every line of the three files and returns how many each has, or says which line differs (S 15.1).
 pub fn compare() -> Result<[usize; 3], String> {
     let one_head = |knit, names: &[&'static str]| maps(&[knit], &SIDES, names);
     let heads = maps(&[PLAIN, RIBBED], &TWO_HEADS_SIDES, &TWO_HEADS_NAMES);

@@ -47,7 +47,7 @@ extern "C" {
         progress_side: *mut u32,
         progress_dots: *mut u32,
         progress_knit: *mut u32,
-        holes: *mut u32,
+        made: *mut u32,
         debt: *mut i64,
     ) -> u32;
 

@@ -84,7 +84,7 @@ pub fn two_heads(
     order: &mut [u32],
 ) -> (u32, TwoHeads) {
     let progress = Progress { side: UNWRITTEN, dots: UNWRITTEN, knit: UNWRITTEN };
-    let mut end = TwoHeads { progress, holes: UNWRITTEN, debt: UNWRITTEN.into() };
+    let mut end = TwoHeads { progress, made: UNWRITTEN, debt: UNWRITTEN.into() };
     // SAFETY: each pointer and length is that of a slice, or a reference to a field of a local.
     let code = unsafe {
         c::rulmedei_two_heads(
@@ -101,7 +101,7 @@ pub fn two_heads(
             &mut end.progress.side,
             &mut end.progress.dots,
             &mut end.progress.knit,
-            &mut end.holes,
+            &mut end.made,
             &mut end.debt,
         )
     };

@@ -53,7 +53,7 @@ pub struct Progress {
     pub knit: u32,
 }
 
-/// What Advance answers: the new record, the holes made in this call, and whether none are due any more.
+/// What Advance answers: the record afterwards, how many holes the call made, and whether none are due any more.
 #[derive(Clone, Copy, Debug, PartialEq, Eq)]
 pub struct Advanced {
     pub progress: Progress,
@@ -65,7 +65,7 @@ pub struct Advanced {
 #[derive(Clone, Copy, Debug, PartialEq, Eq)]
 pub struct TwoHeads {
     pub progress: Progress,
-    pub holes: u32,
+    pub made: u32,
     pub debt: i64,
 }
 
@@ -209,7 +209,7 @@ pub fn advance(
 /// greys[7 * 16 + 7] = 240;
 /// greys[10 * 16 + 10] = 200;
 /// let end = two_heads(16, PLAIN, &greys, &mut pyramid, &mut serials, &mut order)?;
-/// assert_eq!(end, TwoHeads { progress: Progress { side: 16, dots: 2, knit: PLAIN }, holes: 2, debt: -17920 });
+/// assert_eq!(end, TwoHeads { progress: Progress { side: 16, dots: 2, knit: PLAIN }, made: 2, debt: -17920 });
 /// // the darker cell lies on the rim of its first macroblock, and is burnt in a later round
 /// assert_eq!(order[..2], [10 * 16 + 10, 7 * 16 + 7]);
 /// let small = two_heads(8, PLAIN, &greys, &mut pyramid, &mut serials, &mut order);

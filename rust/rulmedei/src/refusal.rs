@@ -16,7 +16,7 @@ pub(crate) const AFTER: u32 = 106;
 /// The enum, the list of its cases and their words, from one table of names, numbers and words.
 macro_rules! refusals {
     ($($name:ident = $number:literal: $words:literal,)*) => {
-        /// Why a call says no: document 01's table, row by row, and document 02's further ones.
+        /// Why a call says no, in the order of the numbers (S 5.1).
         #[derive(Clone, Copy, Debug, PartialEq, Eq)]
         pub enum Refusal {
             $(#[doc = $words] $name = $number,)*
@@ -53,7 +53,7 @@ refusals! {
 }
 
 impl Refusal {
-    /// The papers' number.
+    /// Its number (S 5.1).
     pub fn number(self) -> u32 {
         self as u32
     }

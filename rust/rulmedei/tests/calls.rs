@@ -1,6 +1,6 @@
-//! The calls on document 01's example, a map of side 2 with four greys of 128, on plain cloth and on ribbed, and each
-//! refusal once; those of Quote Page and Sample in their order, and the one for the knit among the others. Samples of
-//! sides 2 and 4. And the renewal by itself. What has to do with greys above 240 is in lowering.rs.
+//! The calls on the plate P3, a map of side 2 with four greys of 128, on plain cloth and on ribbed, and each refusal
+//! once; those of Quote Page and Sample in their order, and the one for the knit among the others. Samples of sides 2
+//! and 4. And the renewal by itself. What has to do with greys above 240 is in lowering.rs.
 
 use rulmedei::{
     advance, cells, codes, drill_list, levels, list_room, load, map_text, page_length, place, pyramid_length,
@@ -52,6 +52,7 @@ fn finished() -> Sheet {
     sheet
 }
 
+/// For S 7.1, S 16.3.
 #[test]
 fn load_fills_the_buffers() {
     for knit in [PLAIN, RIBBED] {
@@ -63,6 +64,7 @@ fn load_fills_the_buffers() {
     }
 }
 
+/// For S 7.3, S 17.3.
 #[test]
 fn advance_says_more_until_it_is_finished() {
     let mut sheet = Sheet::new();
@@ -76,7 +78,7 @@ fn advance_says_more_until_it_is_finished() {
     assert_eq!(sheet.order, [0, 3, 0, 0, 9]);
 }
 
-/// The same on ribbed cloth: a half of what the first hole makes too much is taken from either cell beside it.
+/// The same on ribbed cloth: a half of what the first hole makes too much is taken from either cell beside it (S 3.5).
 #[test]
 fn advance_on_ribbed_cloth() {
     let mut sheet = Sheet::new();
@@ -91,7 +93,7 @@ fn advance_on_ribbed_cloth() {
     assert_eq!(&out[..length], LIST);
 }
 
-/// Inside a map of side 4, on its side and in its corner: a fourth, a third and a half of 65,280 - 32,768.
+/// Inside a map of side 4, on its side and in its corner: a fourth, a third and a half of 65,280 - 32,768 (S 3.5).
 #[test]
 fn ribbed_cells_by_place() {
     for (cell, debts) in [
@@ -111,6 +113,7 @@ fn ribbed_cells_by_place() {
     }
 }
 
+/// For S 9.3.
 #[test]
 fn drill_list_writes_the_list() {
     let mut out = [9; 20];
@@ -119,6 +122,7 @@ fn drill_list_writes_the_list() {
     assert!(out[length..].iter().all(|byte| *byte == 9));
 }
 
+/// For S 8.1.
 #[test]
 fn tally_counts_holes() {
     let sheet = finished();
@@ -127,6 +131,7 @@ fn tally_counts_holes() {
     assert_eq!(tally(2, &sheet.serials, 1, 0, 1), Ok(0));
 }
 
+/// For S 8.2.
 #[test]
 fn levels_sums_squares() {
     let whole = 2 * 128 - 2 * 127;
@@ -134,6 +139,7 @@ fn levels_sums_squares() {
     assert_eq!(levels(2, &GREYS, &finished().serials), Ok([whole * whole, of_cells, 0, 0, 0, 0, 0, 0, 0]));
 }
 
+/// For S 9.1.
 #[test]
 fn map_text_reads_a_map() {
     let mut greys = [9; 5];
@@ -141,6 +147,7 @@ fn map_text_reads_a_map() {
     assert_eq!(greys, [1, 20, 240, 0, 9]);
 }
 
+/// For S 8.4.
 #[test]
 fn quote_page_writes_the_page() {
     let sheet = finished();
@@ -153,6 +160,7 @@ fn quote_page_writes_the_page() {
     assert!(out[116..].iter().all(|byte| *byte == 9));
 }
 
+/// For S 5.2.
 #[test]
 fn quote_page_refuses_in_order() {
     let sheet = finished();
@@ -170,6 +178,7 @@ fn quote_page_refuses_in_order() {
     assert_eq!(out, [9; 115]);
 }
 
+/// For S 12.1.
 #[test]
 fn sample_fills_the_greys() {
     let mut greys = [9; 5];
@@ -179,6 +188,7 @@ fn sample_fills_the_greys() {
     assert_eq!(greys, [60, 48, 34, 161, 9]);
 }
 
+/// For S 15.13.
 #[test]
 fn sample_goes_on_from_the_state_reached() {
     let mut whole = [9; 16];
@@ -192,6 +202,7 @@ fn sample_goes_on_from_the_state_reached() {
     assert_eq!(state, end);
 }
 
+/// For S 5.2.
 #[test]
 fn sample_refuses_in_order() {
     let mut greys = [9; 15];
@@ -206,6 +217,7 @@ fn sample_refuses_in_order() {
     assert_eq!(greys, [9; 15]);
 }
 
+/// For S 8.4.
 #[test]
 fn page_lengths() {
     let levels = [0, 1, 2, 3, 4, 5, 6, 7, 8];
@@ -214,6 +226,7 @@ fn page_lengths() {
     assert_eq!([29, 30, 31, 32, u32::MAX].map(page_length), [29 << 58, usize::MAX, usize::MAX, usize::MAX, usize::MAX]);
 }
 
+/// For S 2.5, S 16.3.
 #[test]
 fn lengths_are_the_header_s() {
     let sides = [2, 4, 8, 16, 32, 64, 128, 256];
@@ -222,6 +235,7 @@ fn lengths_are_the_header_s() {
     assert_eq!(sides.map(list_room), [70, 238, 910, 3598, 14350, 57358, 229390, 917518]);
 }
 
+/// For S 5.1, S 16.3.
 #[test]
 fn each_refusal() {
     let sheet = finished();
@@ -239,7 +253,7 @@ fn each_refusal() {
     assert_eq!(out, [9; 15]);
 }
 
-/// Numbers that are no knit: after the side, and before all lengths, the sheet and the output.
+/// Numbers that are no knit: after the side, and before all lengths, the sheet and the output (S 5.2).
 #[test]
 fn the_knit_is_looked_at_directly_after_the_side() {
     for knit in [2, 3, 255, 256, 1 << 31, u32::MAX] {
@@ -263,6 +277,7 @@ fn the_knit_is_looked_at_directly_after_the_side() {
     }
 }
 
+/// For S 7.4.
 #[test]
 fn a_refused_advance_changes_nothing() {
     let mut sheet = finished();
@@ -276,6 +291,7 @@ fn wrong_sums() -> [i64; 22] {
     [-1, -2, -3, -4, -5, 1, 2, 3, 4, 5, 6, 7, 8, 9, 10, 11, 12, 13, 14, 15, 16, i64::MAX]
 }
 
+/// For S 12.3.
 #[test]
 fn renew_makes_the_sums_over_a_cell_and_its_neighbours() {
     // one sum lies over a corner and its neighbours; two lie over a cell of the rim and its, all four over one inside
@@ -293,6 +309,7 @@ fn renew_makes_the_sums_over_a_cell_and_its_neighbours() {
     }
 }
 
+/// For S 12.3.
 #[test]
 fn renew_changes_nothing_outside_its_promise() {
     let refused = |side, row, column, before: &[i64]| {

@@ -1,5 +1,5 @@
-//! Keep and Restore: stages of document 01's example, each refusal in its order, values that no Keep made, and finished
-//! maps taken back, on plain cloth and on ribbed.
+//! Keep and Restore: stages of the plate P3, each refusal in its order, values that no Keep made, and finished maps
+//! taken back, on plain cloth and on ribbed.
 
 use rulmedei::{
     advance, cells, codes, keep, load, lower, pyramid_length, restore, sample, Checkpoints, Progress, Refusal, PLAIN,
@@ -62,6 +62,7 @@ fn only(entry: u64) -> Checkpoints {
     Checkpoints { kept: [0, 0, 0, entry, 0, 0, 0, 0] }
 }
 
+/// For S 10.1, S 10.2.
 #[test]
 fn stages_of_the_example() {
     let stages = [0, 1, 2].map(|dots| Sheet::new(2, &[128; 4], dots));
@@ -80,6 +81,7 @@ fn stages_of_the_example() {
     }
 }
 
+/// For S 2.11.
 #[test]
 fn counts_under_names() {
     let checkpoints = Checkpoints { kept: [0, 1, 2, u64::MAX, 0, 0, 0, 1 << 32] };
@@ -105,6 +107,7 @@ fn keep_writes_one_place() {
     }
 }
 
+/// For S 5.2.
 #[test]
 fn keep_refuses_in_order() {
     let before = Checkpoints { kept: [1, 2, 3, 4, 5, 6, 7, 8] };
@@ -124,6 +127,7 @@ fn keep_refuses_in_order() {
     }
 }
 
+/// For S 5.2.
 #[test]
 fn restore_refuses_in_order() {
     let (mut sheet, progress) = Sheet::new(4, &[200; 16], 5);
@@ -181,6 +185,7 @@ fn a_refused_restore_writes_the_record_given() {
     }
 }
 
+/// For S 10.3.
 #[test]
 fn values_around_the_total() {
     for (greys, total) in [([0; 4], 0), ([127, 0, 0, 0], 0), ([0, 128, 0, 0], 1), ([0, 0, 240, 143], 2), ([240; 4], 4)]
@@ -196,7 +201,7 @@ fn values_around_the_total() {
     }
 }
 
-/// The greys given need not be those loaded.
+/// The greys given need not be those loaded (S 10.2).
 #[test]
 fn other_greys() {
     let (mut sheet, progress) = Sheet::new(4, &[10; 16], 1);
@@ -223,7 +228,7 @@ fn the_other_knit() {
     }
 }
 
-/// Samples run to their end, with names on the way, and taken back to each; the largest side once.
+/// Samples run to their end, with names on the way, and taken back to each; the largest side once (S 15.9).
 #[test]
 fn finished_maps() {
     for (side, knit) in [(8, PLAIN), (8, RIBBED), (32, PLAIN), (64, RIBBED), (256, PLAIN)] {

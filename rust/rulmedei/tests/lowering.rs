@@ -17,6 +17,7 @@ fn load_number(side: u32, knit: u32, greys: &[u8], [p, s, o]: [usize; 3]) -> u32
     code
 }
 
+/// For S 7.2.
 #[test]
 fn load_refuses_high_greys_last() {
     let whole = [5, 4, 4];
@@ -37,6 +38,7 @@ fn load_refuses_high_greys_last() {
     assert_eq!(load_number(2, PLAIN, &[241; 4], [5, 4, 3]), 4);
 }
 
+/// For S 9.1.
 #[test]
 fn map_text_refuses_high_greys_last() {
     let number = |text: &[u8], room: usize| {
@@ -69,6 +71,7 @@ fn return_number(record: Progress, name: u32, greys: &[u8], lent: [usize; 3]) ->
     code
 }
 
+/// For S 10.3.
 #[test]
 fn restore_refuses_high_greys_before_the_name() {
     let record = Progress { side: 2, dots: 1, knit: PLAIN };
@@ -88,7 +91,8 @@ fn restore_refuses_high_greys_before_the_name() {
     }
 }
 
-/// A sheet of greys of 255, loaded before these were refused: it burns to its end, and a return takes lowered greys.
+/// A sheet of greys of 255, loaded before these were refused: it burns to its end, and a return takes lowered greys
+/// (S 7.5).
 #[test]
 fn an_older_sheet() {
     let (mut pyramid, mut serials, mut order) = ([4 * 65_280, 65_280, 65_280, 65_280, 65_280], [0; 4], [0; 4]);
@@ -104,6 +108,7 @@ fn an_older_sheet() {
     assert_eq!(pyramid, [180_480, 0, 59_904, 59_904, 60_672]);
 }
 
+/// For S 12.4.
 #[test]
 fn lower_lowers_each_grey() {
     let mut greys: Vec<u8> = (0..=255).collect();
@@ -115,6 +120,7 @@ fn lower_lowers_each_grey() {
     lower(&mut []);
 }
 
+/// For S 9.2.
 #[test]
 fn lower_text_writes_the_text() {
     let (mut greys, mut out) = ([9; 5], [b'#'; 20]);
@@ -123,6 +129,7 @@ fn lower_text_writes_the_text() {
     assert_eq!(greys, [0, 240, 240, 10, 9]);
 }
 
+/// For S 5.2.
 #[test]
 fn lower_text_refuses_in_order() {
     let number = |text: &[u8], room: usize, length: usize| {
@@ -152,7 +159,7 @@ fn text_of(side: u32, greys: &[u8]) -> Vec<u8> {
 }
 
 /// Samples of every side: refused, then lowered as a text and as greys, which comes to the same; the text has as many
-/// bytes, is read back, and lowered once more it is copied.
+/// bytes, is read back, and lowered once more it is copied (S 15.10).
 #[test]
 fn samples_of_every_side() {
     for side in SIDES {

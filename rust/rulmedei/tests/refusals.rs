@@ -43,6 +43,7 @@ fn header_name(refusal: Refusal) -> String {
     name
 }
 
+/// For S 5.1, S 16.1.
 #[test]
 fn the_header_has_the_same_refusals() {
     let of_header: Vec<_> = HEADER.lines().filter_map(defined).collect();
@@ -50,6 +51,7 @@ fn the_header_has_the_same_refusals() {
     assert_eq!(of_header, ours);
 }
 
+/// For S 5.1.
 #[test]
 fn the_numbers_are_1_to_14() {
     assert_eq!(REFUSALS.map(Refusal::number), [1, 2, 3, 4, 5, 6, 7, 8, 9, 10, 11, 12, 13, 14]);
@@ -69,6 +71,7 @@ fn the_example_in_c_has_the_words_of_the_calls_refusals() {
     }
 }
 
+/// For S 16.3.
 #[test]
 fn a_refusal_is_printed_with_its_number_and_words() {
     let printed = Refusal::TextMalformed.to_string();

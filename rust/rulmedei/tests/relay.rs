@@ -32,7 +32,7 @@ fn sheet(side: u32, knit: u32, dots: u32) -> Sheet {
     Sheet { record, pyramid, serials, order }
 }
 
-/// Each place once; the four below an entry side by side; level after level.
+/// Each place once; the four below an entry side by side; level after level (S 2.5).
 #[test]
 fn places() {
     let mut used = vec![0; pyramid_length(256)];
@@ -47,6 +47,7 @@ fn places() {
     assert!(used.iter().all(|times| *times == 1));
 }
 
+/// For S 12.2.
 #[test]
 fn relay_gives_the_pyramid_back() {
     for power in 1..=8 {
@@ -61,7 +62,7 @@ fn relay_gives_the_pyramid_back() {
     }
 }
 
-/// Of several refusals the first is told; none of them writes.
+/// Of several refusals the first is told; none of them writes (S 5.2).
 #[test]
 fn relay_refuses_in_order() {
     let sheet = sheet(4, PLAIN, 3);

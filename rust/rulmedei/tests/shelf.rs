@@ -30,6 +30,7 @@ fn pairs() -> [([u32; 4], [u32; 4], Compared); 8] {
     ]
 }
 
+/// For S 11.1, S 16.3.
 #[test]
 fn compare_answers() {
     for (left, right, expected) in pairs() {
@@ -46,6 +47,7 @@ fn in_header(name: &str) -> u32 {
     line.split_whitespace().next().unwrap().parse().unwrap()
 }
 
+/// For S 16.1.
 #[test]
 fn compare_returns_the_header_s_codes_and_a_cell_with_two_of_them() {
     for (left, right, expected) in pairs() {
@@ -62,6 +64,7 @@ fn compare_returns_the_header_s_codes_and_a_cell_with_two_of_them() {
     assert_eq!(codes::compare(2, &[1; 3], &[0; 4]), (4, [0, 0]));
 }
 
+/// For S 5.2.
 #[test]
 fn compare_refuses_in_order() {
     for no_side in [0, 1, 3, 512, u32::MAX] {
@@ -74,6 +77,7 @@ fn compare_refuses_in_order() {
     assert_eq!(compare(4, &[1; 16], &[2; 16]), Ok(Same));
 }
 
+/// For S 11.2.
 #[test]
 fn shelf_lists_the_plates_in_order() {
     let mut list = [9; 6];
@@ -89,6 +93,7 @@ fn shelf_lists_the_plates_in_order() {
     assert_eq!(list, [0, 0]);
 }
 
+/// For S 5.2.
 #[test]
 fn shelf_refuses_in_order() {
     let mut list = [9; 3];
@@ -124,7 +129,7 @@ fn plate(side: u32, light: usize) -> Vec<u32> {
     serials
 }
 
-/// The lighter a map, the fewer holes its plate has.
+/// The lighter a map, the fewer holes its plate has (S 11.2).
 #[test]
 fn plates_of_finished_maps() {
     for side in [8, 16, 32] {

@@ -34,6 +34,7 @@ fn sketched(seed: u32, side: u32) -> (Vec<u8>, Vec<u8>) {
     one.iter().zip(&other).map(|(one, other)| (*one.min(other), *one.max(other))).unzip()
 }
 
+/// For S 9.4.
 #[test]
 fn two_sketches() {
     let (mut lows, mut highs, mut caps) = ([9; 5], [8; 6], [7; 3]);
@@ -49,6 +50,7 @@ fn two_sketches() {
     assert_eq!(caps, [3, 4, 4, 3, 7]);
 }
 
+/// For S 5.2.
 #[test]
 fn refusals_in_order() {
     let whole = [4, 4, 4];
@@ -126,7 +128,7 @@ fn burnt_under(side: u32, knit: u32, greys: &[u8], level: u32, caps: &[u32]) -> 
 }
 
 /// Sketches of every side: the caps are those of the quote page, and the lows, the highs and a map between them, burnt
-/// on either knit, keep to what was said.
+/// on either knit, keep to what was said (S 15.11).
 #[test]
 fn maps_between_lows_and_highs() {
     for side in SIDES {
@@ -146,6 +148,7 @@ fn maps_between_lows_and_highs() {
     }
 }
 
+/// For S 6.3.
 #[test]
 fn the_text_of_a_map_is_no_sketch() {
     let (mut lows, mut highs) = ([9; 4], [9; 4]);

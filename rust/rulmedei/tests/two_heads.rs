@@ -41,9 +41,10 @@ fn burnt(dark: &[(usize, usize, u8)]) -> Vec<(u32, u32)> {
         greys[16 * row + column] = *grey;
     }
     let (end, buffers) = run(16, PLAIN, &greys);
-    buffers.order[..end.holes as usize].iter().map(|cell| (cell / 16, cell % 16)).collect()
+    buffers.order[..end.made as usize].iter().map(|cell| (cell / 16, cell % 16)).collect()
 }
 
+/// For S 13.5.
 #[test]
 fn small_maps() {
     // each cell can be burnt at one offset alone; the darkest keeps the others back
@@ -59,14 +60,14 @@ fn small_maps() {
     assert_eq!(burnt(&[]), []);
 }
 
-/// A hole inside a map, on plain cloth and on ribbed: the whole pyramid.
+/// A hole inside a map, on plain cloth and on ribbed: the whole pyramid (S 13.5).
 #[test]
 fn the_pyramid_lies_by_quarters() {
     let mut greys = [0; 256];
     greys[7 * 16 + 7] = 240;
     for (knit, straight, diagonal) in [(PLAIN, -640, -320), (RIBBED, -960, 0)] {
         let (end, buffers) = run(16, knit, &greys);
-        assert_eq!((end.holes, end.debt), (1, -3840));
+        assert_eq!((end.made, end.debt), (1, -3840));
         for row in 0..16usize {
             for column in 0..16usize {
                 let owed = match (row.abs_diff(7), column.abs_diff(7)) {
@@ -83,7 +84,8 @@ fn the_pyramid_lies_by_quarters() {
     }
 }
 
-/// Every cell once, serials and order alike, sums that hold, and what the holes are worth with the debt is the map's.
+/// Every cell once, serials and order alike, sums that hold, and what the holes are worth with the debt is the map's
+/// (S 15.15).
 #[test]
 fn nothing_is_lost() {
     for side in [16, 32, 64, 128, 256] {
@@ -91,14 +93,14 @@ fn nothing_is_lost() {
             [(PLAIN, sampled(side, side)), (RIBBED, sampled(side, side)), (PLAIN, vec![240; cells(side)])]
         {
             let (end, Buffers { pyramid, serials, order }) = run(side, knit, &greys);
-            assert_eq!(end.progress, Progress { side, dots: end.holes, knit });
-            let dots = end.holes as usize;
+            assert_eq!(end.progress, Progress { side, dots: end.made, knit });
+            let dots = end.made as usize;
             assert!(order[..dots].iter().zip(1..).all(|(cell, serial)| serials[*cell as usize] == serial));
             assert!(order[dots..].iter().all(|cell| *cell == 0));
             assert_eq!(serials.iter().filter(|serial| **serial != 0).count(), dots);
-            assert_eq!(tally(side, &serials, 0, 0, 0), Ok(end.holes));
+            assert_eq!(tally(side, &serials, 0, 0, 0), Ok(end.made));
             let grey_sum: i64 = greys.iter().map(|grey| i64::from(*grey)).sum();
-            assert_eq!(65_280 * i64::from(end.holes) + end.debt, 256 * grey_sum);
+            assert_eq!(65_280 * i64::from(end.made) + end.debt, 256 * grey_sum);
             assert_eq!(end.debt, pyramid[0]);
             let mut list = vec![0; list_room(side)];
             let length = drill_list(end.progress, &pyramid, &serials, &order, &mut list).unwrap();
@@ -120,7 +122,7 @@ fn stored_figures() {
         (256, RIBBED, sampled(1, 256), 32_730, -8_080_640),
     ] {
         let (end, _) = run(side, knit, &greys);
-        assert_eq!((end.holes, end.debt), (holes, debt));
+        assert_eq!((end.made, end.debt), (holes, debt));
     }
 }
 
@@ -129,12 +131,12 @@ fn number(side: u32, knit: u32, grey: u8, [a, b, c, d]: [usize; 4]) -> u32 {
     let (mut pyramid, mut serials, mut order) = (vec![-7; b], vec![9; c], vec![8; d]);
     let (code, end) = codes::two_heads(side, knit, &vec![grey; a], &mut pyramid, &mut serials, &mut order);
     let left_alone = (pyramid, serials, order) == (vec![-7; b], vec![9; c], vec![8; d]);
-    let zeros = TwoHeads { progress: Progress { side: 0, dots: 0, knit: 0 }, holes: 0, debt: 0 };
+    let zeros = TwoHeads { progress: Progress { side: 0, dots: 0, knit: 0 }, made: 0, debt: 0 };
     assert!(code == 0 || (left_alone && end == zeros));
     code
 }
 
-/// Each refusal with all that are looked for later: 1, 14, 11, 2, 3, 4, 12.
+/// Each refusal with all that are looked for later: 1, 14, 11, 2, 3, 4, 12 (S 5.2).
 #[test]
 fn refusals_in_order() {
     for side in [0, 1, 3, 15, 17, 255, 257, 512, u32::MAX] {
@@ -160,7 +162,7 @@ fn refusals_in_order() {
     assert_eq!(small.unwrap_err().to_string(), "refused, 14: the side is below 16");
 }
 
-/// A grey past the map may be above 240, and places past the needed lengths stay.
+/// A grey past the map may be above 240, and places past the needed lengths stay (S 2.9).
 #[test]
 fn places_past_stay() {
     let greys = [sampled(3, 16), vec![255; 2]].concat();

@@ -20,7 +20,7 @@ advance-spec =
     (tie.spec
     (λ c κs. search needs)
     (λ c κs. search needs)
-    (λ c κs. (search (power-small, needs), search needs))
+    (λ c κs. (search (power-small, needs), search needs))  -- check-sheet-requires
     (λ c. search needs)
     (λ c κs. search needs)
     (λ c. search needs)
@@ -31,7 +31,7 @@ advance-spec =
       advance-asked (a .progress) _ _ _ (u .power-of .ensures) _ (t .before .before .check-sheet .ensures)
           (t .enum-told .given .1),
       search needs,
-    ))
+    ))  -- advance-sheet-requires
     (λ c. search needs)
     (λ c. search needs)
     (λ c. search needs)
@@ -44,4 +44,4 @@ advance-spec =
     let u = t .before .before .before .before .before .before .before in
     let a = u .before .before .before .before .args in
     passed-is (a .progress) _ _ _ (u .power-of .ensures) _ (t .before .before .check-sheet .ensures)
-    (t .enum-told .given .1) _ (c .before .before .before .before .before .advance-sheet .ensures)))
+    (t .enum-told .given .1) _ (c .before .before .before .before .before .advance-sheet .ensures)))  -- returns-2

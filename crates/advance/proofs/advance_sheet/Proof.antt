@@ -21,12 +21,12 @@ advance-sheet-spec =
     (λ c κs. search needs)
     (λ c κs. search needs)
     (λ c. search needs)
-    (λ c. search (pyramid-part, needs))
+    (λ c. search (pyramid-part, needs))  -- slice-aggregate-run
     (λ c. search needs)
-    (λ c. search (serials-part, needs))
+    (λ c. search (serials-part, needs))  -- slice-aggregate-run-2
     (λ c. search needs)
-    (λ c. search (order-part, needs))
-    (λ c κs. (search (run-asked, needs), (search (whole, needs), search needs)))
+    (λ c. search (order-part, needs))  -- slice-aggregate-run-3
+    (λ c κs. (search (run-asked, needs), (search (whole, needs), search needs)))  -- run-requires
     (λ c.
     let back = c .before .before .before .before in
     let ran = back .before in
@@ -34,9 +34,9 @@ advance-sheet-spec =
     let start = cells .before .before .before .before in
     top-there _ _ _ (start .pre .0) (cells .before .needed .ensures) (cells .cell-count .ensures) _ _
     (ran .run .last .0)
-    (search needs) (ran .run .ensures))
+    (search needs) (ran .run .ensures))  -- slice-copy-out-ended
     (λ c κs. search needs)
-    (λ c. search (dots-fit, needs))
+    (λ c. search (dots-fit, needs))  -- add-answer
     (λ c κs. search needs)
     (λ c. search needs)
     (λ c. search needs)
@@ -49,4 +49,4 @@ advance-sheet-spec =
     advanced-is _ _ _ (start .pre .0) (cells .before .needed .ensures) (cells .cell-count .ensures) _ _
     (ran .run .last .0)
     (search needs) (ran .run .ensures) (start .args .progress) _ refl refl (search needs) (c .before .ended .ensures)
-    (c .answer .ensures)))
+    (c .answer .ensures)))  -- returns

@@ -8,5 +8,5 @@ pub ended-spec : {M : Type 1} → statement M
 ended-spec =
     tie.close
     (tie.spec
-    (λ c. search (says-finished, needs))
-    (λ c. search (says-more, needs)))
+    (λ c. search (says-finished, needs))  -- returns
+    (λ c. search (says-more, needs)))  -- returns-2

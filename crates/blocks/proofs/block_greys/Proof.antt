@@ -12,7 +12,17 @@ block-greys-spec =
     (λ c κs. search needs)
     (λ c. search needs)
     (λ c κs. search needs)
-    (λ c. omega (arith, block-square (c .before .before .before .pre) (c .before .pow2 .ensures) (c .pow22 .ensures)))
-    (λ c. omega (arith, block-square (c .before .before .before .pre) (c .before .pow2 .ensures) (c .pow22 .ensures)))
-    (λ c κs. block-square (c .before .before .before .pre) (c .before .pow2 .ensures) (c .pow22 .ensures))
-    (λ c. block-greys (c .before .before .before .before .pre) (c .before .before .pow2 .ensures) (c .before .pow22 .ensures) _ (c .square-greys .ensures .is)))
+    (λ c. omega (
+      arith,
+      block-square (c .before .before .before .pre) (c .before .pow2 .ensures)
+          (c .pow22 .ensures),
+    ))  -- mul-square-greys
+    (λ c. omega (
+      arith,
+      block-square (c .before .before .before .pre) (c .before .pow2 .ensures)
+          (c .pow22 .ensures),
+    ))  -- mul-square-greys-2
+    (λ c κs. block-square (c .before .before .before .pre) (c .before .pow2 .ensures)
+    (c .pow22 .ensures))  -- square-greys-requires
+    (λ c. block-greys (c .before .before .before .before .pre) (c .before .before .pow2 .ensures)
+    (c .before .pow22 .ensures) _ (c .square-greys .ensures .is)))  -- returns

@@ -4,4 +4,5 @@ use Rattle.blocks.proofs.mark.Statement.{statement}
 use Rattle.blocks.proofs.mark.Tie as tie
 
 pub mark-spec : {M : Type 1} → statement M
-mark-spec = tie.close (tie.spec (λ c. dot-one (c .if1 .taken)) (λ c. dot-none (c .if1 .left)))
+mark-spec = tie.close (tie.spec (λ c. dot-one (c .if1 .taken))  -- returns
+    (λ c. dot-none (c .if1 .left)))  -- returns-2

@@ -18,7 +18,7 @@ row-dots-spec =
     (tie.spec
     Inv-loop
     μ-loop
-    (λ c. (omega arith, none _ 1))
+    (λ c. (omega arith, none _ 1))  -- loop-holds
     (λ c. omega arith)
     (λ c. omega arith)
     (λ c. omega arith)
@@ -26,5 +26,6 @@ row-dots-spec =
     (λ c. omega arith)
     (λ c. omega arith)
     (λ c. omega arith)
-    (λ c. (omega arith, turn _ _ 1 (c .before .before .before .loop .inv .1) (c .mark .ensures)))
-    (λ c. whole _ _ 1 _ (c .before .loop .inv .0) (c .loop-test .left) (omega arith) (c .before .loop .inv .1)))
+    (λ c. (omega arith, turn _ _ 1 (c .before .before .before .loop .inv .1) (c .mark .ensures)))  -- loop-again
+    (λ c. whole _ _ 1 _ (c .before .loop .inv .0) (c .loop-test .left) (omega arith)
+    (c .before .loop .inv .1)))  -- returns

@@ -19,12 +19,32 @@ row-greys-spec =
     (tie.spec
     Inv-loop
     μ-loop
-    (λ c. (omega arith, none _ 255))
+    (λ c. (omega arith, none _ 255))  -- loop-holds
     (λ c. omega arith)
     (λ c. omega arith)
-    (λ c. omega (arith, c .shared-slice-known .given (c .before .before .before .args .from + c .before .before .loop .y)))
-    (λ c. omega (arith, c .shared-slice-known .given (c .before .before .before .args .from + c .before .before .loop .y)))
+    (λ c. omega (
+      arith,
+      c .shared-slice-known .given
+          (c .before .before .before .args .from + c .before .before .loop .y),
+    ))  -- cast-sum
+    (λ c. omega (
+      arith,
+      c .shared-slice-known .given
+          (c .before .before .before .args .from + c .before .before .loop .y),
+    ))  -- add-sum-2
     (λ c. omega arith)
     (λ c. omega arith)
-    (λ c. (omega arith, turn _ _ 255 (c .before .before .loop .inv .1) (record { is = refl; small = omega (arith, c .shared-slice-known .given (c .before .before .before .args .from + c .before .before .loop .y)) })))
-    (λ c. whole _ _ 255 _ (c .before .loop .inv .0) (c .loop-test .left) (omega arith) (c .before .loop .inv .1)))
+    (λ c. (
+      omega arith,
+      turn _ _ 255 (c .before .before .loop .inv .1) (record {
+        is = refl;
+        small =
+            omega (
+              arith,
+              c .shared-slice-known .given
+                  (c .before .before .before .args .from + c .before .before .loop .y),
+            );
+      }),
+    ))  -- loop-again
+    (λ c. whole _ _ 255 _ (c .before .loop .inv .0) (c .loop-test .left) (omega arith)
+    (c .before .loop .inv .1)))  -- returns

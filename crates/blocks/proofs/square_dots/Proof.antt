@@ -8,7 +8,8 @@ use Rattle.blocks.proofs.square_dots.Statement.{statement}
 use Rattle.blocks.proofs.square_dots.Tie as tie
 
 abbrev Inv-loop : tie.InvT-loop
-Inv-loop serials side s top left sum₀ x₀ sum x = (x ≤ s) × Total (sumTo x (λ i. rowDots serials ((top + i) * side + left) s)) (x * 256) sum
+Inv-loop serials side s top left sum₀ x₀ sum x =
+    (x ≤ s) × Total (sumTo x (λ i. rowDots serials ((top + i) * side + left) s)) (x * 256) sum
 
 abbrev μ-loop : tie.MeasureT-loop
 μ-loop serials side s top left sum₀ x₀ sum x = s - x
@@ -19,13 +20,14 @@ square-dots-spec =
     (tie.spec
     Inv-loop
     μ-loop
-    (λ c. (omega arith, none _ 256))
+    (λ c. (omega arith, none _ 256))  -- loop-holds
     (λ c. omega arith)
-    (λ c. omega (arith, square-row (c .before .before .before .pre) (c .loop-test .taken)))
-    (λ c. omega (arith, square-row (c .before .before .before .pre) (c .loop-test .taken)))
-    (λ c κs. square-row (c .before .before .before .pre) (c .loop-test .taken) .asked)
+    (λ c. omega (arith, square-row (c .before .before .before .pre) (c .loop-test .taken)))  -- mul-row-dots
+    (λ c. omega (arith, square-row (c .before .before .before .pre) (c .loop-test .taken)))  -- add-row-dots-2
+    (λ c κs. square-row (c .before .before .before .pre) (c .loop-test .taken) .asked)  -- row-dots-requires
     (λ c. omega arith)
     (λ c. omega arith)
     (λ c. omega arith)
-    (λ c. (omega arith, turn _ _ 256 (c .before .before .loop .inv .1) (c .row-dots .ensures)))
-    (λ c. whole _ _ 256 _ (c .before .loop .inv .0) (c .loop-test .left) (omega arith) (c .before .loop .inv .1)))
+    (λ c. (omega arith, turn _ _ 256 (c .before .before .loop .inv .1) (c .row-dots .ensures)))  -- loop-again
+    (λ c. whole _ _ 256 _ (c .before .loop .inv .0) (c .loop-test .left) (omega arith)
+    (c .before .loop .inv .1)))  -- returns

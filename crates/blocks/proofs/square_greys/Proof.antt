@@ -8,7 +8,8 @@ use Rattle.blocks.proofs.square_greys.Statement.{statement}
 use Rattle.blocks.proofs.square_greys.Tie as tie
 
 abbrev Inv-loop : tie.InvT-loop
-Inv-loop greys side s top left sum₀ x₀ sum x = (x ≤ s) × Total (sumTo x (λ i. rowGreys greys ((top + i) * side + left) s)) (x * rowMost) sum
+Inv-loop greys side s top left sum₀ x₀ sum x =
+    (x ≤ s) × Total (sumTo x (λ i. rowGreys greys ((top + i) * side + left) s)) (x * rowMost) sum
 
 abbrev μ-loop : tie.MeasureT-loop
 μ-loop greys side s top left sum₀ x₀ sum x = s - x
@@ -19,13 +20,14 @@ square-greys-spec =
     (tie.spec
     Inv-loop
     μ-loop
-    (λ c. (omega arith, none _ rowMost))
+    (λ c. (omega arith, none _ rowMost))  -- loop-holds
     (λ c. omega arith)
-    (λ c. omega (arith, square-row (c .before .before .before .pre) (c .loop-test .taken)))
-    (λ c. omega (arith, square-row (c .before .before .before .pre) (c .loop-test .taken)))
-    (λ c κs. square-row (c .before .before .before .pre) (c .loop-test .taken) .asked)
+    (λ c. omega (arith, square-row (c .before .before .before .pre) (c .loop-test .taken)))  -- mul-row-greys
+    (λ c. omega (arith, square-row (c .before .before .before .pre) (c .loop-test .taken)))  -- add-row-greys-2
+    (λ c κs. square-row (c .before .before .before .pre) (c .loop-test .taken) .asked)  -- row-greys-requires
     (λ c. omega arith)
     (λ c. omega arith)
     (λ c. omega arith)
-    (λ c. (omega arith, turn _ _ rowMost (c .before .before .loop .inv .1) (c .row-greys .ensures)))
-    (λ c. whole _ _ rowMost _ (c .before .loop .inv .0) (c .loop-test .left) (omega arith) (c .before .loop .inv .1)))
+    (λ c. (omega arith, turn _ _ rowMost (c .before .before .loop .inv .1) (c .row-greys .ensures)))  -- loop-again
+    (λ c. whole _ _ rowMost _ (c .before .loop .inv .0) (c .loop-test .left) (omega arith)
+    (c .before .loop .inv .1)))  -- returns

@@ -12,4 +12,4 @@ at-spec =
     (λ c. search needs)
     (λ c. search needs)
     (λ c. search needs)
-    (λ c. sym (List·getD-eq-default (c .before .args .numbers .now) 0 (c .if1 .left))))
+    (λ c. sym (List·getD-eq-default (c .before .args .numbers .now) 0 (c .if1 .left))))  -- returns-2

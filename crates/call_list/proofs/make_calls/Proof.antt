@@ -3,7 +3,7 @@ use Prim.Native.Nat.{_-_}
 use native.Mathlib.Omega.{arith}
 use lib.ListN.{length}
 use borrow.Author.Needs.{needs}
-use Rattle.call_list.specs.Promise.{Called, begins, goes-on, all-called}
+use Rattle.call_list.specs.PriceListOfCode.{Called, begins, goes-on, all-called}
 use Rattle.call_list.proofs.make_calls.Statement.{statement}
 use Rattle.call_list.proofs.make_calls.Tie as tie
 
@@ -12,7 +12,8 @@ Inv-loop pyramid₀ serials₀ order₀ budgets pyramids sheets orders progress�
     Called progress₀ pyramid₀ serials₀ order₀ budgets pyramids sheets orders progress pyramid serials order i
 
 abbrev μ-loop : tie.MeasureT-loop
-μ-loop pyramid₀ serials₀ order₀ budgets pyramids sheets orders progress₀ i₀ pyramid serials order progress i = length budgets - i
+μ-loop pyramid₀ serials₀ order₀ budgets pyramids sheets orders progress₀ i₀ pyramid serials order progress i =
+    length budgets - i
 
 -- a length is a number of 64 bits: what is known of the slice `budgets`
 in-range : tie.Need-add-i Inv-loop μ-loop
@@ -28,7 +29,7 @@ make-calls-spec =
     (tie.spec
     Inv-loop
     μ-loop
-    (λ c. search (begins, needs))
+    (λ c. search (begins, needs))  -- loop-holds
     (λ c κs. search needs)
     (λ c κs. search needs)
     (λ c κs. search needs)
@@ -42,8 +43,8 @@ make-calls-spec =
     let called = c .before .before .before .before .before in
     goes-on _ _ _ _ _ _ _ _ _ _ _ _ _ (t .before .before .before .before .loop .inv)
     (t .before .before .before .loop-test .taken) (t .before .before .at .ensures) (t .before .at2 .ensures)
-    (t .at3 .ensures) _ _ _ _ (search needs) (search needs) (search needs) (called .one-call .ensures))
+    (t .at3 .ensures) _ _ _ _ (search needs) (search needs) (search needs) (called .one-call .ensures))  -- loop-again
     (λ c. search needs)
     (λ c. search needs)
     (λ c. search needs)
-    (λ c. search (all-called, needs)))
+    (λ c. search (all-called, needs)))  -- returns

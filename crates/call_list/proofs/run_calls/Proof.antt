@@ -1,6 +1,6 @@
--- `call_list::run_calls`: what the calls leave after Load, and demand 3 of it.
+-- `call_list::run_calls`: what the calls leave after Load, and the price list of it.
 use borrow.Author.Needs.{needs}
-use Rattle.call_list.specs.Promise.{promised}
+use Rattle.call_list.specs.PriceListOfCode.{promised}
 use Rattle.call_list.proofs.run_calls.Statement.{statement}
 use Rattle.call_list.proofs.run_calls.Tie as tie
 
@@ -16,4 +16,4 @@ run-calls-spec =
     (λ c.
     let called = c .before .before .before .before .before in
     let loaded = called .before .before .before .before .before .before .before .before .before .before in
-    promised _ _ _ _ _ _ _ _ _ (loaded .load .ensures) (called .make-calls .ensures)))
+    promised _ _ _ _ _ _ _ _ _ (loaded .load .ensures) (called .make-calls .ensures)))  -- returns

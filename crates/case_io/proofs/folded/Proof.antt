@@ -46,7 +46,8 @@ module _ (n : ℤ) (f : SFits w64 n) (t : ltZ (toZ w64 (ofZ w64 n)) (toZ w64 0) 
   cast-asks = rw more-read (cast-asks64 turned-fits turned-up)
 
   size : natAbs (toZ w64 (ofZ w64 turned)) < 2 ^ 63
-  size = rw (more-read, cast-gives turned-fits turned-up) (omega (arith, fit-hi w64 (pos 0 -ℤ (n +ℤ pos 1)) turned-fits))
+  size =
+      rw (more-read, cast-gives turned-fits turned-up) (omega (arith, fit-hi w64 (pos 0 -ℤ (n +ℤ pos 1)) turned-fits))
 
 module _ (n : ℤ) (f : SFits w64 n) (t : ltZ (toZ w64 (ofZ w64 n)) (toZ w64 0) ≡ false) where
   up-of : pos 0 ≤ℤ n

@@ -9,4 +9,5 @@ pub put-digits-spec : {M : Type 1} → statement M
 put-digits-spec = tie.close (tie.spec
     (λ c κs. search needs)  -- put-number-requires
     (λ c. search needs)  -- same-length
-    (λ c. let w = c .before .before .put-number .ensures in let a = c .before .before .before .before .before in omega (arith, a .pre, wrote-length w, number-end _ (a .fits .n .fits) w)))  -- returns
+    (λ c. let w = c .before .before .put-number .ensures in let a = c .before .before .before .before .before in omega
+    (arith, a .pre, wrote-length w, number-end _ (a .fits .n .fits) w)))  -- returns

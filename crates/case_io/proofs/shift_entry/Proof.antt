@@ -14,7 +14,8 @@ use Rattle.integers.specs.Machine.{words, machine, ok64, lit64, ltZ-back, of-bi
 use Rattle.case_io.proofs.shift_entry.Statement.{statement}
 use Rattle.case_io.proofs.shift_entry.Tie as tie
 
-module _ (e : ℤ) (f : SFits w64 e) (lo : ltZ (toZ w64 (ofZ w64 e)) (toZ w64 (ofZ w64 (negsuc 999999999999))) ≡ false) (hi : ltZ (toZ w64 1000000000000) (toZ w64 (ofZ w64 e)) ≡ false) (p m : ℕ) (hp : Fits w32 p) (hm : Fits w32 m) where
+module _ (e : ℤ) (f : SFits w64 e) (lo : ltZ (toZ w64 (ofZ w64 e)) (toZ w64 (ofZ w64 (negsuc 999999999999))) ≡ false)
+    (hi : ltZ (toZ w64 1000000000000) (toZ w64 (ofZ w64 e)) ≡ false) (p m : ℕ) (hp : Fits w32 p) (hm : Fits w32 m) where
   above : ltZ e (negsuc 999999999999) ≡ false
   above = ltZ-back f (lit64 (negsuc 999999999999) tt) lo
 
@@ -44,9 +45,13 @@ shift-entry-spec = tie.close (tie.spec
     (λ c. search needs)  -- returns-2
     (λ c. search needs)  -- returns-3
     (λ c. search needs)  -- cast-pyramid
-    (λ c. let s = c .before .before .before .before in let e = getD (s .args .pyramid .now) (s .args .place) (pos 0) in add-asks e (ok64 e (c .before .before .entry .given)) (c .before .if2 .left) (c .if3 .left) _ _ (s .fits .plus) (s .fits .minus))  -- add-pyramid
+    (λ c. let s = c .before .before .before .before in let e = getD (s .args .pyramid .now) (s .args .place) (pos 0)
+    in add-asks e (ok64 e (c .before .before .entry .given)) (c .before .if2 .left) (c .if3 .left) _ _ (s .fits .plus)
+    (s .fits .minus))  -- add-pyramid
     (λ c. search needs)  -- cast-pyramid-2
-    (λ c. let s = c .before .before .before .before in let e = getD (s .args .pyramid .now) (s .args .place) (pos 0) in sub-asks e (ok64 e (c .before .before .entry .given)) (c .before .if2 .left) (c .if3 .left) _ _ (s .fits .plus) (s .fits .minus))  -- sub-pyramid
+    (λ c. let s = c .before .before .before .before in let e = getD (s .args .pyramid .now) (s .args .place) (pos 0)
+    in sub-asks e (ok64 e (c .before .before .entry .given)) (c .before .if2 .left) (c .if3 .left) _ _ (s .fits .plus)
+    (s .fits .minus))  -- sub-pyramid
     (λ c. search needs)  -- mul-t6
     (λ c. search needs)  -- slice-set-from-pyramid
     (λ c. search needs)  -- same-length

@@ -14,7 +14,7 @@ unfolding checked numberOf lowest keepRefusal
 check-keep-spec =
     tie.close
     (tie.spec
-    (λ c. simp (eq-eqb _ 0 (c .if1 .taken)))
+    (λ c. simp (eq-eqb _ 0 (c .if1 .taken)))  -- returns
     (λ c κs. search needs)
-    (λ c. search (keep-passed, needs))
-    (λ c. search (keep-failed, needs)))
+    (λ c. search (keep-passed, needs))  -- returns-2
+    (λ c. search (keep-failed, needs)))  -- returns-3

@@ -1,6 +1,6 @@
 -- `checkpoints::keep`: what the check says, told apart.
 use borrow.Author.Needs.{needs}
-use Rattle.checkpoints.specs.Calls.{keep-refused, keep-named, keep-done}
+use Rattle.checkpoints.specs.WaysOut.{keep-refused, keep-named, keep-done}
 use Rattle.checkpoints.proofs.keep.Statement.{statement}
 use Rattle.checkpoints.proofs.keep.Tie as tie
 
@@ -17,7 +17,7 @@ keep-spec =
     (λ c. search needs)
     (λ c κs. search needs)
     (λ c. search needs)
-    (λ c κs. search (keep-named, needs))
+    (λ c κs. search (keep-named, needs))  -- with-dots-requires
     (λ c κs. search needs)
     left-alone
-    (λ c. search (keep-done, needs)))
+    (λ c. search (keep-done, needs)))  -- returns-2

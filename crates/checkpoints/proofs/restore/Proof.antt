@@ -2,7 +2,7 @@
 use native.Mathlib.Omega.{arith}
 use borrow.Author.Needs.{needs}
 use Rattle.refusals.specs.Powers.{power-small}
-use Rattle.checkpoints.specs.Calls.{restore-refused, anew-asked, count-asked, restore-done}
+use Rattle.checkpoints.specs.WaysOut.{restore-refused, anew-asked, count-asked, restore-done}
 use Rattle.checkpoints.proofs.restore.Statement.{statement}
 use Rattle.checkpoints.proofs.restore.Tie as tie
 
@@ -44,7 +44,7 @@ restore-spec =
     (tie.spec
     (λ c κs. search needs)
     (λ c κs. search needs)
-    (λ c κs. (search (power-small, needs), search needs))
+    (λ c κs. (search (power-small, needs), search needs))  -- check-restore-requires
     (λ c. search needs)
     (λ c κs. search needs)
     (λ c. search needs)
@@ -58,4 +58,4 @@ restore-spec =
     (λ c. search needs)
     (λ c. search needs)
     (λ c. search needs)
-    (λ c. search (restore-done, needs)))
+    (λ c. search (restore-done, needs)))  -- returns-2

@@ -12,13 +12,13 @@ restore-sheet-spec =
     (λ c κs. search needs)
     (λ c κs. search needs)
     (λ c. search needs)
-    (λ c. search (pyramid-part, needs))
+    (λ c. search (pyramid-part, needs))  -- slice-aggregate-run
     (λ c. search needs)
-    (λ c. search (serials-part, needs))
+    (λ c. search (serials-part, needs))  -- slice-aggregate-run-2
     (λ c. search needs)
-    (λ c. search (order-part, needs))
-    (λ c κs. (search (run-asked, needs), (search (whole, needs), search needs)))
+    (λ c. search (order-part, needs))  -- slice-aggregate-run-3
+    (λ c κs. (search (run-asked, needs), (search (whole, needs), search needs)))  -- run-requires
     (λ c. search needs)
     (λ c. search needs)
     (λ c. search needs)
-    (λ c. search (made-anew, needs)))
+    (λ c. search (made-anew, needs)))  -- returns

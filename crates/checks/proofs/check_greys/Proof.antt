@@ -13,6 +13,6 @@ check-greys-spec =
     tie.close
     (tie.spec
     (λ c κs. search needs)
-    (λ c. search (eq-eqb, needs))
-    (λ c. search (ne-eqb, short (c .before .before .cell-count .ensures) (c .if2 .taken), needs))
-    (λ c. search (ne-eqb, enough (c .before .before .cell-count .ensures) (c .if2 .left), needs)))
+    (λ c. search (eq-eqb, needs))  -- returns
+    (λ c. search (ne-eqb, short (c .before .before .cell-count .ensures) (c .if2 .taken), needs))  -- returns-2
+    (λ c. search (ne-eqb, enough (c .before .before .cell-count .ensures) (c .if2 .left), needs)))  -- returns-3

@@ -24,14 +24,15 @@ unfolding checked numberOf lowest compareRefusal
 check-compare-spec =
     tie.close
     (tie.spec
-    (λ c. simp (eq-eqb _ 0 (c .if1 .taken)))
+    (λ c. simp (eq-eqb _ 0 (c .if1 .taken)))  -- returns
     (λ c κs. search needs)
-    (λ c. simp (ne-eqb _ 0 (c .before .before .if1 .left), short (c .before .cell-count .ensures) (c .if2 .taken)))
+    (λ c. simp
+    (ne-eqb _ 0 (c .before .before .if1 .left), short (c .before .cell-count .ensures) (c .if2 .taken)))  -- returns-2
     (λ c.
     let w = c .before .before in
     simp (
       ne-eqb _ 0 (w .before .if1 .left),
       enough (w .cell-count .ensures) (c .before .if2 .left),
       short (w .cell-count .ensures) (c .if3 .taken),
-    ))
+    ))  -- returns-3
     none-short)

@@ -28,31 +28,65 @@ put-right-below t = and 1 put-right-kinds.ps (falls 1 put-right-kinds.ps _<_ μ-
 pub +put-right-spec : {M : Type 1} → statement M
 +put-right-spec =
     close μ-put-right λ t.
-    put-right-lts.spec
-    (one-less-reads.Asked, one-less-reads.Learnt, put-spaces-reads.Asked, put-spaces-reads.Learnt, put-byte-reads.Asked, put-byte-reads.Learnt, put-right-below t, put-right.Post)
+    put-right-lts.spec (
+      one-less-reads.Asked,
+      one-less-reads.Learnt,
+      put-spaces-reads.Asked,
+      put-spaces-reads.Learnt,
+      put-byte-reads.Asked,
+      put-byte-reads.Learnt,
+      put-right-below t,
+      put-right.Post,
+    )
     (put-right-at t) put-right.Post
     (λ c κs. search needs)
-    (λ c κs. let z = c .before .before in omega (arith, z .one-less .ensures, z .before .before .pre .1))
+    (λ c κs. let z = c .before .before in omega
+    (arith, z .one-less .ensures, z .before .before .pre .1))  -- put-spaces-requires
     (λ c. omega (arith, c .before .before .before .before .before .if1 .taken))
     (λ c. omega (arith, c .before .before .before .before .before .if1 .taken))
     (λ c κs.
     let y = c .before .before .before in
     let z = y .before .before .before in
-    omega (arith, spaces-end (z .one-less .result) (y .put-spaces .ensures), z .one-less .ensures, z .before .before .pre .1))
+    omega (
+      arith,
+      spaces-end (z .one-less .result) (y .put-spaces .ensures),
+      z .one-less .ensures,
+      z .before .before .pre .1,
+    ))  -- put-byte-requires
     (λ c. c .before .before .put-byte .kept .0 ∙ c .before .before .before .before .before .before .put-spaces .kept .0)
     (λ c.
     let y = c .before .before .before .before .before .before in
     let z = y .before .before .before in
-    one-digit _ _ (z .one-less .ensures) (y .before .before .if1 .taken) (y .put-spaces .ensures) (c .before .before .put-byte .ensures))
-    (λ c κs. let z = c .before .before in (omega (arith, c .before .if1 .left, z .before .before .pre .0), omega (arith, z .one-less .ensures, z .before .before .pre .1)))
-    (λ c. omega (arith, mod-lt (c .before .before .before .before .before .before .before .before .args .n) {m = 10} (omega arith)))
-    (λ c. omega (arith, mod-lt (c .before .before .before .before .before .before .before .before .args .n) {m = 10} (omega arith)))
+    one-digit _ _ (z .one-less .ensures) (y .before .before .if1 .taken) (y .put-spaces .ensures)
+    (c .before .before .put-byte .ensures))  -- returns
+    (λ c κs. let z = c .before .before
+    in (
+      omega (arith, c .before .if1 .left, z .before .before .pre .0),
+      omega
+          (arith, z .one-less .ensures, z .before .before .pre .1),
+    ))  -- put-right-requires
+    (λ c. omega (
+      arith,
+      mod-lt (c .before .before .before .before .before .before .before .before .args .n)
+          {m = 10} (omega arith),
+    ))  -- cast-put-byte-2
+    (λ c. omega (
+      arith,
+      mod-lt (c .before .before .before .before .before .before .before .before .args .n)
+          {m = 10} (omega arith),
+    ))  -- add-put-byte-2
     (λ c κs.
     let y = c .before .before .before in
     let z = y .before .before .before in
-    omega (arith, right-end _ (omega arith) _ (y .put-right .ensures), z .one-less .ensures, z .before .before .pre .1))
+    omega (
+      arith,
+      right-end _ (omega arith) _ (y .put-right .ensures),
+      z .one-less .ensures,
+      z .before .before .pre .1,
+    ))  -- put-byte-requires-2
     (λ c. c .before .before .put-byte2 .kept .0 ∙ c .before .before .before .before .before .before .put-right .kept .0)
     (λ c.
     let y = c .before .before .before .before .before .before in
     let z = y .before .before .before in
-    more-digits _ _ (z .one-less .ensures) (y .before .before .if1 .left) (y .put-right .ensures) (c .before .before .put-byte2 .ensures))
+    more-digits _ _ (z .one-less .ensures) (y .before .before .if1 .left) (y .put-right .ensures)
+    (c .before .before .put-byte2 .ensures))  -- returns-2

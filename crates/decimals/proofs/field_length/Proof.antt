@@ -21,9 +21,9 @@ field-length-spec =
     Inv-loop
     μ-loop
     (λ c. omega arith)
-    (λ c. omega (arith, length-number (c .before .before .args .n) (omega arith)))
+    (λ c. omega (arith, length-number (c .before .before .args .n) (omega arith)))  -- add-bytes
     (λ c. omega arith)
-    (λ c. omega (arith, length-five-off (c .before .loop .rest) (omega arith)))
+    (λ c. omega (arith, length-five-off (c .before .loop .rest) (omega arith)))  -- loop-again
     (λ c κs. omega arith)
-    (λ c. omega (arith, length-number (c .before .before .before .args .n) (omega arith)))
-    (λ c. (omega arith, omega (arith, length-number (c .before .before .before .args .n) (omega arith)))))
+    (λ c. omega (arith, length-number (c .before .before .before .args .n) (omega arith)))  -- add-result
+    (λ c. (omega arith, omega (arith, length-number (c .before .before .before .args .n) (omega arith)))))  -- returns

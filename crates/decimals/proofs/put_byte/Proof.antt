@@ -11,6 +11,6 @@ put-byte-spec =
     (λ c. search needs)
     (λ c. search needs)
     (λ c. search needs)
-    (λ c. search (byte-inside, needs))
+    (λ c. search (byte-inside, needs))  -- returns
     (λ c. search needs)
-    (λ c. search (byte-outside, needs)))
+    (λ c. search (byte-outside, needs)))  -- returns-2

@@ -10,6 +10,8 @@ put-column-spec =
     tie.close
     (tie.spec
     (λ c κs. search needs)
-    (λ c κs. omega (arith, right-end _ (omega arith) _ (c .before .before .before .put-right .ensures)))
+    (λ c κs. omega
+    (arith, right-end _ (omega arith) _ (c .before .before .before .put-right .ensures)))  -- put-byte-requires
     (λ c. search needs)
-    (λ c. column-wrote _ (omega arith) _ _ (c .before .before .before .before .before .before .put-right .ensures) (c .before .before .put-byte .ensures)))
+    (λ c. column-wrote _ (omega arith) _ _ (c .before .before .before .before .before .before .put-right .ensures)
+    (c .before .before .put-byte .ensures)))  -- returns

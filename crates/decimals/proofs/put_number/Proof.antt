@@ -5,4 +5,5 @@ use Rattle.decimals.proofs.put_number.Statement.{statement}
 use Rattle.decimals.proofs.put_number.Tie as tie
 
 pub put-number-spec : {M : Type 1} → statement M
-put-number-spec = tie.close (tie.spec (λ c κs. search needs) (λ c. search needs) (λ c. search (number-wrote, needs)))
+put-number-spec =
+    tie.close (tie.spec (λ c κs. search needs) (λ c. search needs) (λ c. search (number-wrote, needs)))  -- returns

@@ -20,10 +20,16 @@ put-spaces-spec =
     (tie.spec
     Inv-loop
     μ-loop
-    (λ c. (omega arith, wrote-none))
-    (λ c κs. omega (arith, spaces-end (c .before .before .loop .i) (c .before .before .loop .inv .1)))
+    (λ c. (omega arith, wrote-none))  -- loop-holds
+    (λ c κs. omega
+    (arith, spaces-end (c .before .before .loop .i) (c .before .before .loop .inv .1)))  -- put-byte-requires
     (λ c. omega arith)
     (λ c. omega arith)
-    (λ c. (omega arith, one-more-space (c .before .before .before .before .before .loop .i) (c .before .before .before .before .before .loop .inv .1) (c .before .before .put-byte .ensures)))
-    (λ c. wrote-length (c .before .loop .inv .1))
-    (λ c. let e : c .before .loop .i ≡ c .before .before .before .args .count = omega arith in rw e at (c .before .loop .inv .1)))
+    (λ c. (
+      omega arith,
+      one-more-space (c .before .before .before .before .before .loop .i)
+          (c .before .before .before .before .before .loop .inv .1) (c .before .before .put-byte .ensures),
+    ))  -- loop-again
+    (λ c. wrote-length (c .before .loop .inv .1))  -- same-length
+    (λ c. let e : c .before .loop .i ≡ c .before .before .before .args .count = omega arith in rw e
+    at (c .before .loop .inv .1)))  -- returns

@@ -38,22 +38,35 @@ pub +walk-spec : {M : Type 1} → statement M
     )
     (walk-at t) walk.Post
     (λ c κs. search needs)
-    (λ c. omega (arith, number-few (c .before .before .pre .1) (c .pow2 .ensures)))
-    (λ c. omega (arith, number-few (c .before .before .pre .1) (c .pow2 .ensures)))
-    (λ c. search (number-here, needs))
-    (λ c. omega (arith, entry-few (c .before .pre .1) (c .if1 .left)))
-    (λ c. omega (arith, entry-few (c .before .pre .1) (c .if1 .left)))
-    (λ c κs. four-asked (c .before .pre .1) (c .if1 .left) (omega arith))
+    (λ c. omega (arith, number-few (c .before .before .pre .1) (c .pow2 .ensures)))  -- mul-result
+    (λ c. omega (arith, number-few (c .before .before .pre .1) (c .pow2 .ensures)))  -- add-result
+    (λ c. search (number-here, needs))  -- returns
+    (λ c. omega (arith, entry-few (c .before .pre .1) (c .if1 .left)))  -- mul-first
+    (λ c. omega (arith, entry-few (c .before .pre .1) (c .if1 .left)))  -- add-first
+    (λ c κs. four-asked (c .before .pre .1) (c .if1 .left) (omega arith))  -- largest-requires
     (λ c κs. search needs)
-    (λ c. search (part-long, needs))
-    (λ c. let e = c .before .before .before in omega (arith, entry-few (e .before .pre .1) (e .if1 .left)))
+    (λ c. search (part-long, needs))  -- slice-aggregate-walk
+    (λ c. let e = c .before .before .before in omega (arith, entry-few (e .before .pre .1) (e .if1 .left)))  -- add-walk
     (λ c. let e = c .before .before .before in
-    omega (arith, entry-few (e .before .pre .1) (e .if1 .left), c .before .before .largest .ensures .one))
-    (λ c. let e = c .before .before .before in omega (arith, entry-few (e .before .pre .1) (e .if1 .left)))
+    omega (
+      arith,
+      entry-few (e .before .pre .1) (e .if1 .left),
+      c .before .before .largest .ensures .one,
+    ))  -- add-walk-2
+    (λ c. let e = c .before .before .before in omega (arith, entry-few (e .before .pre .1) (e .if1 .left)))  -- mul-walk
     (λ c. let e = c .before .before .before in
-    omega (arith, entry-few (e .before .pre .1) (e .if1 .left), c .before .before .largest .ensures .one))
-    (λ c. let e = c .before .before .before in omega (arith, entry-few (e .before .pre .1) (e .if1 .left)))
+    omega (
+      arith,
+      entry-few (e .before .pre .1) (e .if1 .left),
+      c .before .before .largest .ensures .one,
+    ))  -- add-walk-3
+    (λ c. let e = c .before .before .before in omega
+    (arith, entry-few (e .before .pre .1) (e .if1 .left)))  -- mul-walk-2
     (λ c. let e = c .before .before .before in
-    omega (arith, entry-few (e .before .pre .1) (e .if1 .left), c .before .before .largest .ensures .one))
-    (λ c κs. (search needs, search (next-asked, needs)))
-    (λ c. search (next-number, needs))
+    omega (
+      arith,
+      entry-few (e .before .pre .1) (e .if1 .left),
+      c .before .before .largest .ensures .one,
+    ))  -- add-walk-4
+    (λ c κs. (search needs, search (next-asked, needs)))  -- walk-requires
+    (λ c. search (next-number, needs))  -- returns-2

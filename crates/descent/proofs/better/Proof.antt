@@ -11,12 +11,12 @@ better-spec =
     (λ c. tt)
     (λ c.
     let g = c .before .before .before .args in
-    raised-fits (g .last) (g .best) (g .next) (search needs) (search needs) (search needs))
+    raised-fits (g .last) (g .best) (g .next) (search needs) (search needs) (search needs))  -- add-sum
     (λ c.
     let g = c .before .before .before .before .args in
     better-is (g .last) (g .best) (g .next) (search needs) (search needs) (search needs)
-    (c .if1 .taken))
+    (c .if1 .taken))  -- returns
     (λ c.
     let g = c .before .before .before .before .args in
     better-is (g .last) (g .best) (g .next) (search needs) (search needs) (search needs)
-    (c .if1 .left)))
+    (c .if1 .left)))  -- returns-2

@@ -10,6 +10,6 @@ descend-spec =
     (tie.spec
     (λ c κs. search needs)
     (λ c κs. search needs)
-    (λ c. search (side-some, needs))
-    (λ c. search (side-some, needs))
-    (λ c. search (cell-is, needs)))
+    (λ c. search (side-some, needs))  -- div-t10
+    (λ c. search (side-some, needs))  -- rem-t11
+    (λ c. search (cell-is, needs)))  -- returns

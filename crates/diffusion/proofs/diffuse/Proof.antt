@@ -20,15 +20,15 @@ diffuse-spec =
     Inv-loop
     μ-loop
     (λ c κs. search needs)
-    (λ c. search (turns-none, needs))
+    (λ c. search (turns-none, needs))  -- loop-holds
     (λ c κs. search needs)
-    (λ c. search (sum-fits, needs))
-    (λ c κs. (search needs, search (sum-next, needs), search (sum-some, needs)))
+    (λ c. search (sum-fits, needs))  -- add-sum
+    (λ c κs. (search needs, search (sum-next, needs), search (sum-some, needs)))  -- part-requires
     (λ c κs. search needs)
-    (λ c. search (given-grows, sum-some, needs))
-    (λ c κs. (search (turn-asked, needs), search needs))
+    (λ c. search (given-grows, sum-some, needs))  -- sub-take-share
+    (λ c κs. (search (turn-asked, needs), search needs))  -- take-share-requires
     (λ c. search needs)
     (λ c. search needs)
-    (λ c. search (turn, needs))
+    (λ c. search (turn, needs))  -- loop-again
     (λ c. search needs)
-    (λ c. search (turns-all, needs)))
+    (λ c. search (turns-all, needs)))  -- returns

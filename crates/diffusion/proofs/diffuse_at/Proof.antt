@@ -9,7 +9,7 @@ diffuse-at-spec =
     tie.close
     (tie.spec
     (λ c κs. search needs)
-    (λ c κs. search (told-inside, needs))
+    (λ c κs. search (told-inside, needs))  -- spread-inside-requires
     (λ c. search needs)
     (λ c. search needs)
     (λ c κs. search needs)

@@ -9,8 +9,8 @@ is-inside-spec =
     tie.close
     (tie.spec
     (λ c κs. search needs)
-    (λ c. search (side-some, needs))
-    (λ c. search (none-above, needs))
-    (λ c. search (none-left, needs))
-    (λ c. search (none-below, needs))
-    (λ c. search (right-decides, needs)))
+    (λ c. search (side-some, needs))  -- sub-last
+    (λ c. search (none-above, needs))  -- returns
+    (λ c. search (none-left, needs))  -- returns-2
+    (λ c. search (none-below, needs))  -- returns-3
+    (λ c. search (right-decides, needs)))  -- returns-4

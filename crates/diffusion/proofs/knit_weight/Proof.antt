@@ -8,7 +8,7 @@ pub knit-weight-spec : {M : Type 1} → statement M
 knit-weight-spec =
     tie.close
     (tie.spec
-    (λ c. search (weight-own, needs))
-    (λ c. search (weight-ribbed, needs))
+    (λ c. search (weight-own, needs))  -- returns
+    (λ c. search (weight-ribbed, needs))  -- returns-2
     (λ c. search needs)
-    (λ c. search (weight-plain, needs)))
+    (λ c. search (weight-plain, needs)))  -- returns-3

@@ -5,4 +5,5 @@ use Rattle.diffusion.proofs.part.Statement.{statement}
 use Rattle.diffusion.proofs.part.Tie as tie
 
 pub part-spec : {M : Type 1} → statement M
-part-spec = tie.close (tie.spec (λ c. search (part-fits, needs)) (λ c. search needs) (λ c. search needs))
+part-spec = tie.close (tie.spec (λ c. search (part-fits, needs))  -- mul-result
+    (λ c. search needs) (λ c. search needs))

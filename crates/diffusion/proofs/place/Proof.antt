@@ -18,12 +18,12 @@ pub place-spec : {M : Type 1} → statement M
 place-spec =
     tie.close
     (tie.spec
-    (λ c. search (cell-bytes, needs))
-    (λ c. search (cell-in, needs))
-    (λ c. search (lack-fits, needs))
-    (λ c. search (cell-bytes, needs))
-    (λ c. search (cell-in, needs))
+    (λ c. search (cell-bytes, needs))  -- mul-d
+    (λ c. search (cell-in, needs))  -- slice-copy-out-d
+    (λ c. search (lack-fits, needs))  -- sub-d
+    (λ c. search (cell-bytes, needs))  -- mul-cells
+    (λ c. search (cell-in, needs))  -- slice-set-of-cells
     (λ c. (search (lack-sign, needs), search (lack-word, needs)))
-    (λ c κs. (search (lack-asked, needs), search needs))
-    (λ c. c .before .diffuse-at .kept .0 ∙ simp length-set)
-    (λ c. search (burnt, needs)))
+    (λ c κs. (search (lack-asked, needs), search needs))  -- diffuse-at-requires
+    (λ c. c .before .diffuse-at .kept .0 ∙ simp length-set)  -- same-length
+    (λ c. search (burnt, needs)))  -- returns

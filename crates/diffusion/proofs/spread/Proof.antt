@@ -20,18 +20,18 @@ spread-spec =
     (tie.spec
     Inv-loop
     μ-loop
-    (λ c. search (turns-none, needs))
+    (λ c. search (turns-none, needs))  -- loop-holds
     (λ c κs. search needs)
-    (λ c κs. search (turn-nine, needs))
-    (λ c. search (sum-fits, weight-inside, needs))
-    (λ c κs. (search needs, search (sum-next, weight-inside, needs), search (sum-some, needs)))
+    (λ c κs. search (turn-nine, needs))  -- knit-weight-requires
+    (λ c. search (sum-fits, weight-inside, needs))  -- add-sum
+    (λ c κs. (search needs, search (sum-next, weight-inside, needs), search (sum-some, needs)))  -- part-requires
     (λ c κs. search needs)
     (λ c κs. search needs)
-    (λ c. search (inside-fits, needs))
-    (λ c. search (given-grows, sum-some, weight-inside, needs))
-    (λ c κs. search (inside-asked, needs))
+    (λ c. search (inside-fits, needs))  -- add-take
+    (λ c. search (given-grows, sum-some, weight-inside, needs))  -- sub-take
+    (λ c κs. search (inside-asked, needs))  -- take-requires
     (λ c. search needs)
     (λ c. search needs)
-    (λ c. search (inside-turn, needs))
+    (λ c. search (inside-turn, needs))  -- loop-again
     (λ c. search needs)
-    (λ c. search (turns-all, needs)))
+    (λ c. search (turns-all, needs)))  -- returns

@@ -8,9 +8,9 @@ pub spread-inside-spec : {M : Type 1} → statement M
 spread-inside-spec =
     tie.close
     (tie.spec
-    (λ c κs. (search needs, search (sum-plain, needs)))
+    (λ c κs. (search needs, search (sum-plain, needs)))  -- spread-requires
     (λ c. search needs)
-    (λ c. search (as-plain, needs))
-    (λ c κs. (search needs, search (sum-ribbed, needs)))
+    (λ c. search (as-plain, needs))  -- returns
+    (λ c κs. (search needs, search (sum-ribbed, needs)))  -- spread-requires-2
     (λ c. search needs)
-    (λ c. search (as-ribbed, needs)))
+    (λ c. search (as-ribbed, needs)))  -- returns-2

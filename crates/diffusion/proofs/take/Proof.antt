@@ -11,8 +11,8 @@ take-spec =
     (λ c. search needs)
     (λ c. search needs)
     (λ c. search needs)
-    (λ c. search (less-fits, needs))
+    (λ c. search (less-fits, needs))  -- sub-cells
     (λ c. search needs)
     (λ c. search needs)
     (λ c. search needs)
-    (λ c. search (less-stored, needs)))
+    (λ c. search (less-stored, needs)))  -- returns

@@ -9,17 +9,17 @@ pub take-share-spec : {M : Type 1} → statement M
 take-share-spec =
     tie.close
     (tie.spec
-    (λ c. search (taken-none, needs))
-    (λ c. search (near-fits, needs))
-    (λ c. search (nearby, needs))
-    (λ c. search (near-fits, needs))
-    (λ c. search (nearby, needs))
-    (λ c κs. (search needs, search (nearby, needs), search (nearby, needs)))
-    (λ c. search (nearby, needs))
-    (λ c. search (nearby, needs))
+    (λ c. search (taken-none, needs))  -- returns
+    (λ c. search (near-fits, needs))  -- add-place
+    (λ c. search (nearby, needs))  -- sub-place
+    (λ c. search (near-fits, needs))  -- add-place-2
+    (λ c. search (nearby, needs))  -- sub-place-2
+    (λ c κs. (search needs, search (nearby, needs), search (nearby, needs)))  -- place-requires
+    (λ c. search (nearby, needs))  -- mul-z
+    (λ c. search (nearby, needs))  -- slice-copy-out-z
     (λ c. search needs)
-    (λ c. search (less-fits, nearby, needs))
-    (λ c. search (nearby, needs))
-    (λ c. search (nearby, needs))
+    (λ c. search (less-fits, nearby, needs))  -- sub-cells
+    (λ c. search (nearby, needs))  -- mul-t17
+    (λ c. search (nearby, needs))  -- slice-set-from-cells
     (λ c. search needs)
-    (λ c. search (share-taken, needs)))
+    (λ c. search (share-taken, needs)))  -- returns-2

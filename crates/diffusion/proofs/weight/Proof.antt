@@ -11,11 +11,11 @@ weight-spec =
     (tie.spec
     (λ c κs. search needs)
     (λ c κs. search needs)
-    (λ c. search (row-fits, turn-nine, needs))
-    (λ c. search (column-fits, needs))
-    (λ c. search (weight-above, needs))
-    (λ c. search (weight-below, needs))
-    (λ c. search (weight-left, needs))
-    (λ c. search (weight-right, needs))
-    (λ c κs. search (turn-nine, needs))
-    (λ c. search (weight-on, needs)))
+    (λ c. search (row-fits, turn-nine, needs))  -- add-x
+    (λ c. search (column-fits, needs))  -- add-y
+    (λ c. search (weight-above, needs))  -- returns
+    (λ c. search (weight-below, needs))  -- returns-2
+    (λ c. search (weight-left, needs))  -- returns-3
+    (λ c. search (weight-right, needs))  -- returns-4
+    (λ c κs. search (turn-nine, needs))  -- knit-weight-requires
+    (λ c. search (weight-on, needs)))  -- returns-5

@@ -21,10 +21,10 @@ weight-sum-spec =
     (tie.spec
     Inv-loop
     μ-loop
-    (λ c. (search needs, search (sum-none, needs)))
+    (λ c. (search needs, search (sum-none, needs)))  -- loop-holds
     (λ c κs. search needs)
-    (λ c. search (sum-fits, needs))
+    (λ c. search (sum-fits, needs))  -- add-sum
     (λ c. search needs)
     (λ c. search needs)
-    (λ c. (search needs, search (sum-more, needs)))
-    (λ c. let e : c .before .loop .n ≡ 9 = omega arith in c .before .loop .inv .1 ∙ rw e))
+    (λ c. (search needs, search (sum-more, needs)))  -- loop-again
+    (λ c. let e : c .before .loop .n ≡ 9 = omega arith in c .before .loop .inv .1 ∙ rw e))  -- returns

@@ -35,18 +35,18 @@ run-spec =
     (tie.spec
     Inv-loop
     μ-loop
-    (λ c. search (begins, needs))
-    (λ c. search (top-in, needs))
-    (λ c. search (same-pyramid, needs))
-    (λ c. search (same-serials, needs))
-    (λ c. search (same-order, needs))
-    (λ c. search (none-due, needs))
-    (λ c. search (few, needs))
+    (λ c. search (begins, needs))  -- loop-holds
+    (λ c. search (top-in, needs))  -- slice-copy-out-top
+    (λ c. search (same-pyramid, needs))  -- same-length
+    (λ c. search (same-serials, needs))  -- same-length-2
+    (λ c. search (same-order, needs))  -- same-length-3
+    (λ c. search (none-due, needs))  -- returns
+    (λ c. search (few, needs))  -- add-place-dot
     due
     (λ c. search needs)
     (λ c. search needs)
-    (λ c. search (goes-on, needs))
-    (λ c. search (same-pyramid, needs))
-    (λ c. search (same-serials, needs))
-    (λ c. search (same-order, needs))
-    (λ c. search (spent, needs)))
+    (λ c. search (goes-on, needs))  -- loop-again
+    (λ c. search (same-pyramid, needs))  -- same-length-4
+    (λ c. search (same-serials, needs))  -- same-length-5
+    (λ c. search (same-order, needs))  -- same-length-6
+    (λ c. search (spent, needs)))  -- returns-2

@@ -11,10 +11,10 @@ dot-length-spec =
     (tie.spec
     (λ c κs. search needs)
     (λ c κs. search needs)
-    (λ c. search (some-side, needs))
+    (λ c. search (some-side, needs))  -- div-field-length
     (λ c κs. search needs)
     (λ c. search needs)
-    (λ c. search (some-side, needs))
+    (λ c. search (some-side, needs))  -- rem-field-length
     (λ c κs. search needs)
     (λ c. search needs)
-    (λ c. (search (dot-adds, needs), omega arith)))
+    (λ c. (search (dot-adds, needs), omega arith)))  -- returns

@@ -23,11 +23,11 @@ dots-length-spec =
     (tie.spec
     Inv-loop
     μ-loop
-    (λ c. (omega arith, omega arith, omega arith, no-dots-add _))
+    (λ c. (omega arith, omega arith, omega arith, no-dots-add _))  -- loop-holds
     (λ c. omega arith)
     (λ c. omega arith)
     (λ c. omega arith)
-    (λ c. omega (arith, c .shared-slice-known2 .given (c .before .before .loop .serial - 1)))
+    (λ c. omega (arith, c .shared-slice-known2 .given (c .before .before .loop .serial - 1)))  -- cast-dot-length
     (λ c κs. search needs)
     (λ c. omega arith)
     (λ c. omega arith)
@@ -35,7 +35,7 @@ dots-length-spec =
     (λ c.
     let t = c .before .before .before in
     let more = one-more-adds _ _ _ (omega arith) (omega arith) (t .loop .inv .3) (c .dot-length .ensures .0) in
-    (omega arith, omega arith, omega arith, more))
+    (omega arith, omega arith, omega arith, more))  -- loop-again
     (λ c.
     let e : c .before .loop .serial - 1 ≡ c .before .before .before .args .dots = omega arith in
-    (rw e at (c .before .loop .inv .3), omega arith)))
+    (rw e at (c .before .loop .inv .3), omega arith)))  -- returns

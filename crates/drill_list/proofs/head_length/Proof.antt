@@ -13,4 +13,4 @@ head-length-spec =
     (λ c κs. search needs)
     (λ c κs. search needs)
     (λ c. search needs)
-    (λ c. (search (head-adds, needs), omega arith)))
+    (λ c. (search (head-adds, needs), omega arith)))  -- returns

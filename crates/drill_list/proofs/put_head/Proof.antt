@@ -12,6 +12,7 @@ put-head-spec =
     (tie.spec
     (λ c κs. search needs)
     (λ c κs. search needs)
-    (λ c κs. omega (arith, field-end _ (omega arith) _ (c .before .before .before .put-field .ensures)))
+    (λ c κs. omega
+    (arith, field-end _ (omega arith) _ (c .before .before .before .put-field .ensures)))  -- put-field-requires-2
     (λ c. search needs)
-    (λ c. search (head-wrote, needs)))
+    (λ c. search (head-wrote, needs)))  -- returns

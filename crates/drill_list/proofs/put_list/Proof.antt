@@ -10,6 +10,10 @@ put-list-spec =
     tie.close
     (tie.spec
     (λ c κs. search needs)
-    (λ c κs. (omega (arith, head-end _ _ (omega arith) (omega arith) (c .before .before .before .put-head .ensures)), search needs))
+    (λ c κs. (
+      omega (arith, head-end _ _ (omega arith) (omega arith) (c .before .before .before .put-head .ensures)),
+      search
+          needs,
+    ))  -- put-dots-requires
     (λ c. search needs)
-    (λ c. search (list-wrote, needs)))
+    (λ c. search (list-wrote, needs)))  -- returns

@@ -13,7 +13,7 @@ write-list-spec =
     tie.close
     (tie.spec
     (λ c κs. search needs)
-    (λ c. search (list-short, needs))
+    (λ c. search (list-short, needs))  -- returns
     (λ c κs. search needs)
     (λ c. search needs)
     written)

@@ -55,21 +55,21 @@ check-load-spec =
     (tie.spec
     (λ c κs. search needs)
     (λ c κs. search needs)
-    (λ c. simp (eq-eqb _ 0 (c .if1 .taken)))
+    (λ c. simp (eq-eqb _ 0 (c .if1 .taken)))  -- returns
     no-knit
     (λ c.
     simp (
       ne-eqb _ 0 (c .before .before .if1 .left),
       le-ltb 1 _ (c .before .if2 .left),
       short (c .before .before .before .before .cell-count .ensures) (c .if3 .taken),
-    ))
+    ))  -- returns-3
     (λ c.
     simp (
       ne-eqb _ 0 (c .before .before .before .if1 .left),
       le-ltb 1 _ (c .before .before .if2 .left),
       enough (c .before .before .before .before .before .cell-count .ensures) (c .before .if3 .left),
       short (c .before .before .before .before .needed .ensures) (c .if4 .taken),
-    ))
+    ))  -- returns-4
     (λ c.
     simp (
       ne-eqb _ 0 (c .before .before .before .before .if1 .left),
@@ -77,7 +77,7 @@ check-load-spec =
       enough (c .before .before .before .before .before .before .cell-count .ensures) (c .before .before .if3 .left),
       enough (c .before .before .before .before .before .needed .ensures) (c .before .if4 .left),
       short (c .before .before .before .before .before .before .cell-count .ensures) (c .if5 .taken),
-    ))
+    ))  -- returns-5
     (λ c.
     simp (
       ne-eqb _ 0 (c .before .before .before .before .before .if1 .left),
@@ -87,6 +87,6 @@ check-load-spec =
       enough (c .before .before .before .before .before .before .needed .ensures) (c .before .before .if4 .left),
       enough (c .before .before .before .before .before .before .before .cell-count .ensures) (c .before .if5 .left),
       short (c .before .before .before .before .before .before .before .cell-count .ensures) (c .if6 .taken),
-    ))
+    ))  -- returns-6
     one-high
     all-enough)

@@ -30,8 +30,8 @@ clear-spec =
     let s = c .before in
     let h = s .loop .inv in
     let more = fill-more (s .loop .i) 0 (s .before .args .places .now) (omega arith) in
-    (omega arith, simp length-set (h .1), rw (h .2) more))
+    (omega arith, simp length-set (h .1), rw (h .2) more))  -- loop-again
     (λ c. c .before .loop .inv .1)
     (λ c.
     let e : c .before .loop .i ≡ c .before .before .args .count = omega arith in
-    c .before .loop .inv .2 ∙ rw e))
+    c .before .loop .inv .2 ∙ rw e))  -- returns

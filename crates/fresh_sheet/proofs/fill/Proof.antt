@@ -10,12 +10,12 @@ fill-spec =
     (tie.spec
     (λ c κs. search needs)
     (λ c. search needs)
-    (λ c. search (part-length, needs))
-    (λ c κs. (search (fill-asked, needs), search needs))
+    (λ c. search (part-length, needs))  -- slice-aggregate-fill-pyramid
+    (λ c κs. (search (fill-asked, needs), search needs))  -- fill-pyramid-requires
     (λ c κs. search needs)
     (λ c κs. search needs)
     (λ c κs. search needs)
     (λ c. search needs)
     (λ c. search needs)
     (λ c. search needs)
-    (λ c. search (all-filled, needs)))
+    (λ c. search (all-filled, needs)))  -- returns

@@ -10,7 +10,7 @@ low-map-spec =
     (tie.spec
     (λ c κs. search needs)
     (λ c κs. search needs)
-    (λ c. search (low-short, needs))
-    (λ c. search (front-length, needs))
+    (λ c. search (low-short, needs))  -- returns
+    (λ c. search (front-length, needs))  -- slice-aggregate-none-high
     (λ c κs. search needs)
-    (λ c. search (low-front, needs)))
+    (λ c. search (low-front, needs)))  -- returns-2

@@ -1,6 +1,6 @@
 -- `laser::check_side`: the rows in turn.
 use borrow.Author.Needs.{needs}
-use Rattle.laser.specs.Calls.{side-fails, small-fails, knit-fails, none-fails}
+use Rattle.laser.specs.WaysOut.{side-fails, small-fails, knit-fails, none-fails}
 use Rattle.laser.proofs.check_side.Statement.{statement}
 use Rattle.laser.proofs.check_side.Tie as tie
 
@@ -16,7 +16,7 @@ pub check-side-spec : {M : Type 1} → statement M
 check-side-spec =
     tie.close
     (tie.spec
-    (λ c. search (side-fails, needs))
+    (λ c. search (side-fails, needs))  -- returns
     too-small
     unknown-knit
-    (λ c. search (none-fails, needs)))
+    (λ c. search (none-fails, needs)))  -- returns-4

@@ -21,18 +21,18 @@ run-sheet-spec =
     (λ c κs. search needs)
     (λ c κs. search needs)
     (λ c. search needs)
-    (λ c. search (pyramid-part, needs))
+    (λ c. search (pyramid-part, needs))  -- slice-aggregate-run
     (λ c. search needs)
-    (λ c. search (serials-part, needs))
+    (λ c. search (serials-part, needs))  -- slice-aggregate-run-2
     (λ c. search needs)
-    (λ c. search (order-part, needs))
-    (λ c κs. (search (large, needs), (search (whole, needs), search needs)))
+    (λ c. search (order-part, needs))  -- slice-aggregate-run-3
+    (λ c κs. (search (large, needs), (search (whole, needs), search needs)))  -- run-requires
     (λ c.
     let ran = c .before .before .before .before .before in
     let cells = ran .before .before .before .before .before .before in
     let start = cells .before .before .before .before in
     top-there _ _ _ (start .pre) (cells .before .needed .ensures) (cells .cell-count .ensures) _
-    (ran .run .last .0) (search needs) (ran .run .ensures))
+    (ran .run .last .0) (search needs) (ran .run .ensures))  -- slice-copy-out-stopped
     (λ c κs. search needs)
     (λ c. search needs)
     (λ c. search needs)

@@ -1,7 +1,7 @@
 -- `laser::two_heads`: what the check says, then what Load says, told apart. That greys are bytes is known of the slice.
 use native.Mathlib.Omega.{arith}
 use borrow.Author.Needs.{needs}
-use Rattle.laser.specs.Calls.{refused-early, refused-late, sheet-lent, ran-all}
+use Rattle.laser.specs.WaysOut.{refused-early, refused-late, sheet-lent, ran-all}
 use Rattle.laser.proofs.two_heads.Statement.{statement}
 use Rattle.laser.proofs.two_heads.Tie as tie
 

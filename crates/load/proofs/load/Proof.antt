@@ -14,16 +14,16 @@ load-spec =
     tie.close
     (tie.spec
     (λ c κs. search needs)
-    (λ c κs. search (power-small, needs))
-    (λ c κs. search (power-small, needs))
+    (λ c κs. search (power-small, needs))  -- low-map-requires
+    (λ c κs. search (power-small, needs))  -- check-load-requires
     (λ c. search needs)
     (λ c κs. search needs)
     (λ c. search needs)
     (λ c κs. search needs)
-    (λ c κs. (search (room, needs), search needs))
+    (λ c κs. (search (room, needs), search needs))  -- fill-requires
     (λ c κs. search needs)
     left-alone
     (λ c. search needs)
     (λ c. search needs)
     (λ c. search needs)
-    (λ c. search (loaded-is, needs)))
+    (λ c. search (loaded-is, needs)))  -- returns-2

@@ -20,12 +20,12 @@ lower-spec =
     (tie.spec
     Inv-loop
     μ-loop
-    (λ c. search (none-lowered, needs))
-    (λ c. omega (arith, still-as-long _ _ (c .before .before .loop .inv)))
+    (λ c. search (none-lowered, needs))  -- loop-holds
+    (λ c. omega (arith, still-as-long _ _ (c .before .before .loop .inv)))  -- slice-read-low
     (λ c κs. search needs)
-    (λ c. omega (arith, still-as-long _ _ (c .before .before .before .loop .inv)))
+    (λ c. omega (arith, still-as-long _ _ (c .before .before .before .loop .inv)))  -- slice-write-greys
     (λ c. omega arith)
     (λ c. search needs)
-    (λ c. search (one-lowered, needs))
-    (λ c. search (still-as-long, needs))
-    (λ c. search (all-lowered, needs)))
+    (λ c. search (one-lowered, needs))  -- loop-again
+    (λ c. search (still-as-long, needs))  -- same-length
+    (λ c. search (all-lowered, needs)))  -- returns

@@ -23,8 +23,8 @@ none-high-spec =
     μ-loop
     (λ c. refl)
     (λ c. search needs)
-    (λ c. search (one-high, needs))
+    (λ c. search (one-high, needs))  -- returns
     (λ c. search needs)
     (λ c. search needs)
-    (λ c. search (one-low, needs))
-    (λ c. search (all-low, needs)))
+    (λ c. search (one-low, needs))  -- loop-again
+    (λ c. search (all-low, needs)))  -- returns-2

@@ -10,7 +10,7 @@ better-spec =
     (tie.spec
     (λ c.
     let g = c .before .before .before .args in
-    better-is (g .best) (g .next) (search needs) (search needs) (c .if1 .taken))
+    better-is (g .best) (g .next) (search needs) (search needs) (c .if1 .taken))  -- returns
     (λ c.
     let g = c .before .before .before .args in
-    better-is (g .best) (g .next) (search needs) (search needs) (c .if1 .left)))
+    better-is (g .best) (g .next) (search needs) (search needs) (c .if1 .left)))  -- returns-2

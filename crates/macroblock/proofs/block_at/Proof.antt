@@ -18,8 +18,9 @@ block-at-spec =
     (tie.spec
     (λ c. search needs)
     (λ c κs. search needs)
-    (λ c κs. (search needs, search (row-few, column-few, needs), search (row-few, column-few, needs)))
+    (λ c κs.
+    (search needs, search (row-few, column-few, needs), search (row-few, column-few, needs)))  -- place-requires
     (λ c. search (at-fits, needs))
-    (λ c. search (at-bytes, needs))
-    (λ c. search (block-in, needs))
+    (λ c. search (at-bytes, needs))  -- mul-sum
+    (λ c. search (block-in, needs))  -- shared-slice-copy-out-sum
     own)

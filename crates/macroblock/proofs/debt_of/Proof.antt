@@ -15,11 +15,11 @@ debt-of-spec =
     (λ c κs. search needs)
     (λ c. search (column-next, needs))
     (λ c κs. search needs)
-    (λ c. search (row-next, needs))
+    (λ c. search (row-next, needs))  -- add-block-at-2
     (λ c κs. search needs)
-    (λ c. search (row-next, needs))
-    (λ c. search (column-next, needs))
+    (λ c. search (row-next, needs))  -- add-block-at-3
+    (λ c. search (column-next, needs))  -- add-block-at-4
     (λ c κs. search needs)
-    (λ c κs. search (sums-asked, needs))
+    (λ c κs. search (sums-asked, needs))  -- is-due-requires
     (λ c κs. search needs)
     owes)

@@ -21,4 +21,4 @@ is-clear-spec =
     (λ c κs. search needs)
     (λ c. search needs)
     last
-    (λ c. search (clear-inside, needs)))
+    (λ c. search (clear-inside, needs)))  -- returns-3

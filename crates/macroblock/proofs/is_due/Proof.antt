@@ -24,10 +24,10 @@ is-due-spec =
     (tie.spec
     (λ c.
     let k = sums-fit _ _ _ _ (c .pre) in
-    simp (toZ-ofZ (k .first), toZ-ofZ (k .second)) (k .two))
+    simp (toZ-ofZ (k .first), toZ-ofZ (k .second)) (k .two))  -- add-result
     (λ c.
     let k = sums-fit _ _ _ _ (c .pre) in
-    simp (toZ-ofZ (k .first), toZ-ofZ (k .second), toZ-ofZ (k .two), toZ-ofZ (k .third)) (k .three))
+    simp (toZ-ofZ (k .first), toZ-ofZ (k .second), toZ-ofZ (k .two), toZ-ofZ (k .third)) (k .three))  -- add-result-2
     (λ c.
     let k = sums-fit _ _ _ _ (c .pre) in
     simp (
@@ -37,5 +37,5 @@ is-due-spec =
       toZ-ofZ (k .third),
       toZ-ofZ (k .three),
       toZ-ofZ (k .fourth),
-    ) (k .all))
+    ) (k .all))  -- add-result-3
     half-a-dot)

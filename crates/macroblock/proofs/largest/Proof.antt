@@ -1,6 +1,6 @@
 -- `macroblock::largest`.
 use borrow.Author.Needs.{needs}
-use Rattle.macroblock.specs.Asked.{largestOf}
+use Rattle.macroblock.specs.FourBlocks.{largestOf}
 use Rattle.macroblock.proofs.largest.Statement.{statement}
 use Rattle.macroblock.proofs.largest.Tie as tie
 
@@ -12,4 +12,4 @@ largest-spec =
     (λ c κs. search needs)
     (λ c κs. search needs)
     (λ c κs. search needs)
-    (λ c. cc))
+    (λ c. cc))  -- returns

@@ -10,5 +10,5 @@ lies-clear-spec =
     (tie.spec
     (λ c κs. search needs)
     (λ c κs. search needs)
-    (λ c. search (both-clear, needs))
-    (λ c. search (not-clear, needs)))
+    (λ c. search (both-clear, needs))  -- returns
+    (λ c. search (not-clear, needs)))  -- returns-2

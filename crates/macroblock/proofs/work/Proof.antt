@@ -64,14 +64,15 @@ pub work-spec : {M : Type 1} → statement M
 work-spec =
     tie.close
     (tie.spec
-    (λ c κs. (search (asked, needs), search needs))
+    (λ c κs. (search (asked, needs), search needs))  -- debt-of-requires
     (λ c. search needs)
     owes-little
     (λ c. search needs)
-    (λ c κs. search (descent-asked, needs))
+    (λ c κs. search (descent-asked, needs))  -- descend-requires
     (λ c κs.
     let start = c .before .before .before .before .before .before .before .before in
-    rim-asked (start .args .knit) _ _ _ _ _ _ _ (start .pre .0) (start .pre .1 .0) (start .pre .1 .1 .0))
+    rim-asked (start .args .knit) _ _ _ _ _ _ _ (start .pre .0) (start .pre .1 .0)
+    (start .pre .1 .1 .0))  -- lies-clear-requires
     (λ c. search needs)
     on-rim
     burning

@@ -2,7 +2,7 @@
 use mathlib.Core.Path.{sym}
 use lib.Seq.{length-take-le}
 use borrow.Author.Needs.{needs}
-use Rattle.map_text.specs.Calls.{lower-broken, lower-short, lower-written}
+use Rattle.map_text.specs.WaysOut.{lower-broken, lower-short, lower-written}
 use Rattle.map_text.proofs.lower_map.Statement.{statement}
 use Rattle.map_text.proofs.lower_map.Tie as tie
 
@@ -23,8 +23,12 @@ lower-map-spec =
     short-left-alone
     (λ c κs. search needs)
     (λ c. search needs)
-    (λ c. sym (length-take-le _ _ (search needs)))
-    (λ c κs. record { some-side = search needs; most = search needs; whole = length-take-le _ _ (search needs) })
+    (λ c. sym (length-take-le _ _ (search needs)))  -- slice-aggregate-put-lowered
+    (λ c κs. record {
+      some-side = search needs;
+      most = search needs;
+      whole = length-take-le _ _ (search needs);
+    })  -- put-lowered-requires
     (λ c. search needs)
     (λ c. search needs)
-    (λ c. search (lower-written, needs)))
+    (λ c. search (lower-written, needs)))  -- returns-3

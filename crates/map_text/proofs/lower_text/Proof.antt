@@ -1,7 +1,7 @@
 -- `map_text::lower_text`: what the first line says, told apart.
 use borrow.Author.Needs.{needs}
 use Rattle.text_cells.specs.FirstLine.{line-good}
-use Rattle.map_text.specs.Calls.{lower-line-refused}
+use Rattle.map_text.specs.WaysOut.{lower-line-refused}
 use Rattle.map_text.proofs.lower_text.Statement.{statement}
 use Rattle.map_text.proofs.lower_text.Tie as tie
 
@@ -17,7 +17,7 @@ lower-text-spec =
     (λ c. search needs)
     (λ c. search needs)
     (λ c. search needs)
-    (λ c κs. search (line-good, needs))
+    (λ c κs. search (line-good, needs))  -- lower-map-requires
     left-alone
     (λ c. search needs)
     (λ c. search needs)

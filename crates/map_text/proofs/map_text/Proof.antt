@@ -1,7 +1,7 @@
 -- `map_text::map_text`: what the first line says, told apart.
 use borrow.Author.Needs.{needs}
 use Rattle.text_cells.specs.FirstLine.{line-good}
-use Rattle.map_text.specs.Calls.{map-line-refused}
+use Rattle.map_text.specs.WaysOut.{map-line-refused}
 use Rattle.map_text.proofs.map_text.Statement.{statement}
 use Rattle.map_text.proofs.map_text.Tie as tie
 
@@ -16,7 +16,7 @@ map-text-spec =
     (λ c κs. search needs)
     (λ c. search needs)
     (λ c. search needs)
-    (λ c κs. search (line-good, needs))
+    (λ c κs. search (line-good, needs))  -- read-map-requires
     left-alone
     (λ c. search needs)
     (λ c. search needs))

@@ -12,4 +12,4 @@ put-lowered-spec =
     (λ c κs. search needs)
     (λ c. search needs)
     (λ c. search needs)
-    (λ c. search (lowered-put, needs)))
+    (λ c. search (lowered-put, needs)))  -- returns

@@ -11,6 +11,9 @@ put-map-spec =
     tie.close
     (tie.spec
     (λ c κs. search needs)
-    (λ c κs. (omega (arith, field-end _ (omega arith) _ (c .before .before .before .put-field .ensures)), search needs))
+    (λ c κs. (
+      omega (arith, field-end _ (omega arith) _ (c .before .before .before .put-field .ensures)),
+      search needs,
+    ))  -- put-greys-requires
     (λ c. search needs)
-    (λ c. search (map-wrote, needs)))
+    (λ c. search (map-wrote, needs)))  -- returns

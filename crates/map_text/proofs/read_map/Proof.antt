@@ -1,6 +1,6 @@
 -- `map_text::read_map`: a run that stores nothing, then the one that does.
 use borrow.Author.Needs.{needs}
-use Rattle.map_text.specs.Calls.{map-refused, map-read}
+use Rattle.map_text.specs.WaysOut.{map-refused, map-read}
 use Rattle.map_text.proofs.read_map.Statement.{statement}
 use Rattle.map_text.proofs.read_map.Tie as tie
 
@@ -17,4 +17,4 @@ read-map-spec =
     left-alone
     (λ c κs. search needs)
     (λ c. search needs)
-    (λ c. search (map-read, needs)))
+    (λ c. search (map-read, needs)))  -- returns-2

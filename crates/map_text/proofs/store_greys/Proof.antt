@@ -1,6 +1,6 @@
 -- `map_text::store_greys`: the reader of cells, with no places for the highs.
 use borrow.Author.Needs.{needs}
-use Rattle.map_text.specs.Calls.{greys-stored}
+use Rattle.map_text.specs.WaysOut.{greys-stored}
 use Rattle.map_text.proofs.store_greys.Statement.{statement}
 use Rattle.map_text.proofs.store_greys.Tie as tie
 
@@ -11,4 +11,4 @@ store-greys-spec =
     (λ c. search needs)
     (λ c κs. search needs)
     (λ c. search needs)
-    (λ c. search (greys-stored, needs)))
+    (λ c. search (greys-stored, needs)))  -- returns

@@ -9,8 +9,8 @@ can-restore-spec =
     tie.close
     (tie.spec
     (λ c κs. search needs)
-    (λ c κs. search (name-is, needs))
-    (λ c. search (name-is, name-empty, needs))
+    (λ c κs. search (name-is, needs))  -- kept-at-requires
+    (λ c. search (name-is, name-empty, needs))  -- returns
     (λ c. search needs)
-    (λ c. search (name-is, name-kept, needs))
-    (λ c. search (name-not, no-name, needs)))
+    (λ c. search (name-is, name-kept, needs))  -- returns-2
+    (λ c. search (name-not, no-name, needs)))  -- returns-3

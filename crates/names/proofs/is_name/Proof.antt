@@ -9,5 +9,5 @@ pub is-name-spec : {M : Type 1} → statement M
 is-name-spec =
     tie.close
     (tie.spec
-    (λ c. below-one _ (omega arith))
-    (λ c. search (from-one, needs)))
+    (λ c. below-one _ (omega arith))  -- returns
+    (λ c. search (from-one, needs)))  -- returns-2

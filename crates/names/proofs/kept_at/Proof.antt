@@ -11,7 +11,7 @@ unfolding keptAt
 kept-at-spec =
     tie.close
     (tie.spec
-    (λ c. search (at-least-one, needs))
+    (λ c. search (at-least-one, needs))  -- sub-place
     (λ c. search needs)
-    (λ c. search (place-in, needs))
+    (λ c. search (place-in, needs))  -- array-read-result
     (λ c. search needs))

@@ -11,7 +11,7 @@ with-dots-spec =
     tie.close
     (tie.spec
     (λ c. search needs)
-    (λ c. search (at-least-one, needs))
+    (λ c. search (at-least-one, needs))  -- sub-kept
     (λ c. search needs)
-    (λ c. search (place-in, needs))
-    (λ c. search (add-one, needs)))
+    (λ c. search (place-in, needs))  -- array-write-kept
+    (λ c. search (add-one, needs)))  -- returns

@@ -17,13 +17,13 @@ parts-around-spec =
     tie.close
     (tie.spec
     (λ c κs. search needs)
-    (λ c κs. (search needs, search (above-few, needs)))
-    (λ c κs. (search needs, search (row-few, needs)))
+    (λ c κs. (search needs, search (above-few, needs)))  -- row-part-requires
+    (λ c κs. (search needs, search (row-few, needs)))  -- row-part-requires-2
     (λ c κs. search needs)
-    (λ c κs. (search needs, search (below-few, needs)))
+    (λ c κs. (search needs, search (below-few, needs)))  -- row-part-requires-3
     (λ c κs. search needs)
-    (λ c κs. (search needs, search (left-few, needs)))
-    (λ c κs. (search needs, search (column-few, needs)))
+    (λ c κs. (search needs, search (left-few, needs)))  -- column-part-requires
+    (λ c κs. (search needs, search (column-few, needs)))  -- column-part-requires-2
     (λ c κs. search needs)
-    (λ c κs. (search needs, search (right-few, needs)))
-    (λ c. search (parts-are, needs)))
+    (λ c κs. (search needs, search (right-few, needs)))  -- column-part-requires-3
+    (λ c. search (parts-are, needs)))  -- returns

@@ -11,9 +11,9 @@ place-spec =
     (tie.spec
     (λ c κs. search needs)
     (λ c κs. search needs)
-    (λ c. record { fits = omega (arith, small-lt _ _ (c .before .small-place .ensures)) })
+    (λ c. record { fits = omega (arith, small-lt _ _ (c .before .small-place .ensures)) })  -- mul-result
     (λ c.
     record {
       fits = omega (arith, small-lt _ _ (c .before .small-place .ensures), small-lt _ _ (c .small-place2 .ensures));
-    })
-    (λ c. search (place-is, needs)))
+    })  -- add-result
+    (λ c. search (place-is, needs)))  -- returns

@@ -15,5 +15,5 @@ small-place-spec =
     (λ c. search needs)
     (λ c. let g = c .before .args in
     let small = lent-small {t = g .table .now} (search needs) (g .a) (g .b) (search needs) (search needs) in
-    record { fits = omega (arith, small) })
-    (λ c. search (lent-place, needs)))
+    record { fits = omega (arith, small) })  -- cast-result
+    (λ c. search (lent-place, needs)))  -- returns

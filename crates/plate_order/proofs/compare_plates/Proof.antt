@@ -8,9 +8,9 @@ pub compare-plates-spec : {M : Type 1} → statement M
 compare-plates-spec =
     tie.close
     (tie.spec
-    (λ c κs. search (left-asked, needs))
-    (λ c κs. search (right-asked, needs))
-    (λ c. search (by-fewer, needs))
-    (λ c. search (by-more, needs))
+    (λ c κs. search (left-asked, needs))  -- block-dots-requires
+    (λ c κs. search (right-asked, needs))  -- block-dots-requires-2
+    (λ c. search (by-fewer, needs))  -- returns
+    (λ c. search (by-more, needs))  -- returns-2
     (λ c κs. search needs)
-    (λ c. search (by-cell, needs)))
+    (λ c. search (by-cell, needs)))  -- returns-3

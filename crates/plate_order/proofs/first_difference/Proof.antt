@@ -47,26 +47,26 @@ first-difference-spec =
     Inv-rows
     μ-rows
     (λ c κs. search needs)
-    (λ c. (omega arith, refl, rest-none _ _ _ _))
-    (λ c. let h = c .before .rows .inv in (omega arith, h .1, rest-start _ _ _ _ _ (h .2)))
+    (λ c. (omega arith, refl, rest-none _ _ _ _))  -- rows-holds
+    (λ c. let h = c .before .rows .inv in (omega arith, h .1, rest-start _ _ _ _ _ (h .2)))  -- loop-holds
     (λ c. search (rows-fit, needs))
     (λ c. search (cell-fits, needs))
-    (λ c. search (bytes-fit, needs))
-    (λ c. search (in-left, needs))
+    (λ c. search (bytes-fit, needs))  -- mul-mark
+    (λ c. search (in-left, needs))  -- shared-slice-read-mark
     (λ c κs. search needs)
-    (λ c. search (bytes-fit, needs))
-    (λ c. search (in-right, needs))
+    (λ c. search (bytes-fit, needs))  -- mul-mark-2
+    (λ c. search (in-right, needs))  -- shared-slice-read-mark-2
     (λ c κs. search needs)
     (λ c. search (row-narrow, needs))
-    (λ c. search (column-narrow, needs))
+    (λ c. search (column-narrow, needs))  -- cast-differ-at-2
     (λ c κs. search needs)
-    (λ c. search (row-fits, needs))
+    (λ c. search (row-fits, needs))  -- add-column
     (λ c. omega arith)
-    (λ c. (omega arith, search needs, search (rest-next, needs)))
-    (λ c. search (row-fits, needs))
+    (λ c. (omega arith, search needs, search (rest-next, needs)))  -- loop-again
+    (λ c. search (row-fits, needs))  -- add-row
     (λ c. omega arith)
     (λ c.
     let h = c .before .loop .inv in
-    (omega arith, h .1, rest-row _ _ _ _ _ _ (omega (arith, c .loop-test .left, h .0)) (h .2)))
-    (λ c. search (rest-end, needs))
-    (λ c. search (rest-found, needs)))
+    (omega arith, h .1, rest-row _ _ _ _ _ _ (omega (arith, c .loop-test .left, h .0)) (h .2)))  -- rows-again
+    (λ c. search (rest-end, needs))  -- returns
+    (λ c. search (rest-found, needs)))  -- returns-2

@@ -10,4 +10,8 @@ convert-text-spec =
     (tie.spec
     (λ c. search needs)
     (λ c κs. search needs)
-    (λ c. (printed-text (c .before .put-converted .ensures), printed-in (c .before .put-converted .ensures))))
+    (λ c. (
+      printed-text (c .before .put-converted .ensures),
+      printed-in
+          (c .before .put-converted .ensures),
+    )))  -- returns

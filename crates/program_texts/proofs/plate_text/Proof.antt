@@ -10,4 +10,4 @@ plate-text-spec =
     (tie.spec
     (λ c. search needs)
     (λ c κs. search needs)
-    (λ c. (printed-text (c .before .put-plate .ensures), printed-in (c .before .put-plate .ensures))))
+    (λ c. (printed-text (c .before .put-plate .ensures), printed-in (c .before .put-plate .ensures))))  -- returns

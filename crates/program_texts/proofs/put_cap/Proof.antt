@@ -15,4 +15,4 @@ put-cap-spec =
     (λ c κs. search needs)
     (λ c κs. search needs)
     (λ c. search needs)
-    (λ c. (search (cap-wrote, needs), omega arith)))
+    (λ c. (search (cap-wrote, needs), omega arith)))  -- returns

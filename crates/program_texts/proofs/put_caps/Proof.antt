@@ -23,22 +23,28 @@ put-caps-spec =
     Inv-loop
     μ-loop
     (λ c κs. search needs)
-    (λ c. (omega arith, search (caps-none, needs)))
+    (λ c. (omega arith, search (caps-none, needs)))  -- loop-holds
     (λ c. omega (arith, c .before .before .before .before .before .before .pre .1 .few))
     (λ c. search needs)
     (λ c. omega (arith, c .shared-slice-known2 .given (c .before .before .before .loop .i)))
     (λ c κs.
     let t = c .before .before .before in
     let start = t .before .before .before .before in
-    let some = pow-pos (start .args .k) in
-    (omega (arith, t .loop .inv .1 .end, start .pre .1 .few), omega (arith, t .before .pow2 .ensures)))
+    let some = pow-pos (start .args .k) in (
+      omega (arith, t .loop .inv .1 .end, start .pre .1 .few),
+      omega
+          (arith, t .before .pow2 .ensures),
+    ))  -- put-cap-requires
     (λ c. omega arith)
     (λ c. omega arith)
     (λ c.
     let t = c .before .before .before .before .before .before in
-    let put = c .before .before .put-cap .ensures in
-    (omega arith, caps-more _ (t .loop .i) (t .loop .inv .1) (t .before .pow2 .ensures) (put .0) (put .1)))
-    (λ c. wrote-length (c .before .loop .inv .1 .wrote))
+    let put = c .before .before .put-cap .ensures in (
+      omega arith,
+      caps-more _ (t .loop .i) (t .loop .inv .1) (t .before .pow2 .ensures) (put .0)
+          (put .1),
+    ))  -- loop-again
+    (λ c. wrote-length (c .before .loop .inv .1 .wrote))  -- same-length
     (λ c.
     let e : c .before .loop .i ≡ length (c .before .before .before .before .before .args .caps .now) = omega arith in
-    rw e at (c .before .loop .inv .1)))
+    rw e at (c .before .loop .inv .1)))  -- returns

@@ -18,10 +18,11 @@ put-converted-spec =
     (λ c. search needs)
     (λ c.
     let lowered = c .before .before .before .before .before .before in
-    convert-printed _ _ _ (search needs) (omega arith) _ (lowered .lower-text .ensures) (c .before .n .given .1))
+    convert-printed _ _ _ (search needs) (omega arith) _ (lowered .lower-text .ensures)
+    (c .before .n .given .1))  -- returns
     (λ c. search needs)
     (λ c.
     let told = c .before .before .before .before .before .before in
     let lowered = told .before .before .before .before .before in
     convert-refused _ _ _ (search needs) (omega arith) _ (lowered .lower-text .ensures) (told .why .given .1)
-    (c .before .before .before .number-of .ensures) (c .before .before .put-refused .ensures)))
+    (c .before .before .before .number-of .ensures) (c .before .before .put-refused .ensures)))  -- returns-2

@@ -19,6 +19,6 @@ put-drill-list-spec =
     (λ c. search needs)
     (λ c. search needs)
     (λ c. search needs)
-    (λ c. search (finished-printed, needs))
+    (λ c. search (finished-printed, needs))  -- returns
     (λ c. search needs)
-    (λ c. search (finished-not-refused, needs)))
+    (λ c. search (finished-not-refused, needs)))  -- returns-2

@@ -12,13 +12,15 @@ refused-by-length c = long-printed _ (omega arith) (c .before .before .put-refus
 
 refused-by-text : tie.Need-returns-2
 refused-by-text c =
-    let start = c .before .before .before .before .before .before .before .before .before .before .before .before .before .before in
+    let half = c .before .before .before .before .before .before .before in
+    let start = half .before .before .before .before .before .before .before in
     let short : length (start .args .input .now) ≤ 4099 = omega arith in
     search (refused-printed, short, needs)
 
 listed : tie.Need-returns-3
 listed c =
-    let start = c .before .before .before .before .before .before .before .before .before .before .before .before .before .before in
+    let half = c .before .before .before .before .before .before .before in
+    let start = half .before .before .before .before .before .before .before in
     let short : length (start .args .input .now) ≤ 4099 = omega arith in
     search (side-printed, short, needs)
 
@@ -36,7 +38,7 @@ put-plate-spec =
     (λ c κs. search needs)
     (λ c. search needs)
     (λ c. search needs)
-    (λ c κs. (search (side-asked, needs), search needs))
+    (λ c κs. (search (side-asked, needs), search needs))  -- put-drill-list-requires
     (λ c. search needs)
     refused-by-text
     (λ c. search needs)

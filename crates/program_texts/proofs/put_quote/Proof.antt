@@ -18,6 +18,6 @@ put-quote-spec =
     (λ c. search needs)
     (λ c κs. search needs)
     (λ c. search needs)
-    (λ c. search (no-level, level-read, needs))
+    (λ c. search (no-level, level-read, needs))  -- returns
     (λ c. search needs)
-    (λ c. search (no-level, level-read, needs)))
+    (λ c. search (no-level, level-read, needs)))  -- returns-2

@@ -15,8 +15,8 @@ put-quote-of-text-spec =
     (λ c κs. search needs)
     (λ c. search needs)
     (λ c. search needs)
-    (λ c κs. (search (side-asked, needs), search needs))
+    (λ c κs. (search (side-asked, needs), search needs))  -- put-quote-page-requires
     (λ c. search needs)
-    (λ c. search (quote-refused-printed, needs))
+    (λ c. search (quote-refused-printed, needs))  -- returns
     (λ c. search needs)
-    (λ c. search (quote-side-printed, needs)))
+    (λ c. search (quote-side-printed, needs)))  -- returns-2

@@ -19,6 +19,6 @@ put-quote-page-spec =
     (λ c κs. search needs)
     (λ c κs. search needs)
     (λ c. search needs)
-    (λ c. search (quote-printed, needs))
+    (λ c. search (quote-printed, needs))  -- returns
     (λ c. search needs)
-    (λ c. search (quote-refused, needs)))
+    (λ c. search (quote-refused, needs)))  -- returns-2

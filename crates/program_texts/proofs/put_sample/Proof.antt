@@ -22,6 +22,6 @@ put-sample-spec =
     (λ c. search needs)
     (λ c κs. search needs)
     (λ c. search needs)
-    (λ c κs. search (whole-lent, needs))
+    (λ c κs. search (whole-lent, needs))  -- put-map-requires
     (λ c. search needs)
     printed)

@@ -13,11 +13,11 @@ put-sketch-spec =
     (λ c. search needs)
     (λ c κs. search needs)
     (λ c. search needs)
-    (λ c. search (no-level, needs))
+    (λ c. search (no-level, needs))  -- returns
     (λ c κs. search needs)
     (λ c. search needs)
     (λ c. search needs)
     (λ c. search needs)
     (λ c κs. search needs)
     (λ c. search needs)
-    (λ c. search (level-read, needs)))
+    (λ c. search (level-read, needs)))  -- returns-2

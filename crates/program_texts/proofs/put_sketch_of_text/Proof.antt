@@ -27,33 +27,36 @@ put-sketch-of-text-spec =
     (λ c. search needs)
     (λ c κs.
     let call = c .before .before .before .before .before .before .sketch-quote in
-    level-small _ _ _ _ _ (search needs) (search needs) (search needs) _ (call .ensures) (c .before .least .given .1))
+    level-small _ _ _ _ _ (search needs) (search needs) (search needs) _ (call .ensures)
+    (c .before .least .given .1))  -- cell-count-requires
     (λ c.
     let told = c .before .before .before in
     let call = told .before .before .before .before .before .sketch-quote in
     squares-in _ _ _ _ _ (search needs) (search needs) (search needs) _ (call .ensures) (told .least .given .1)
-    (c .before .cell-count .ensures) (search needs))
+    (c .before .cell-count .ensures) (search needs))  -- array-share-prefix-caps
     (λ c.
     let told = c .before .before .before .before in
     let call = told .before .before .before .before .before .sketch-quote in
     sym (length-take-le _ _ (squares-in _ _ _ _ _ (search needs) (search needs) (search needs) _ (call .ensures)
-    (told .least .given .1) (c .before .before .cell-count .ensures) (search needs))))
+    (told .least .given .1) (c .before .before .cell-count .ensures)
+    (search needs))))  -- slice-aggregate-put-sketch-page
     (λ c κs.
     let told = c .before .before .before .before in
     let call = told .before .before .before .before .before .sketch-quote in (
       omega arith,
       squares-lent _ _ _ _ _ (search needs) (search needs) (search needs) _ (call .ensures)
           (told .least .given .1) (c .before .before .cell-count .ensures) (search needs),
-    ))
+    ))  -- put-sketch-page-requires
     (λ c. search needs)
     (λ c.
     let told = c .before .before .before .before .before .before in
     let call = told .before .before .before .before .before .sketch-quote in
     sketch-refused _ _ _ _ _ (search needs) (search needs) (search needs) _ (call .ensures) (told .why .given .1)
-    (c .before .before .before .number-of .ensures) (c .before .before .put-refused .ensures))
+    (c .before .before .before .number-of .ensures) (c .before .before .put-refused .ensures))  -- returns
     (λ c. search needs)
     (λ c.
     let told = c .before .before .before .before .before .before .before in
     let call = told .before .before .before .before .before .sketch-quote in
     sketch-printed _ _ _ _ _ (search needs) (search needs) (search needs) _ (call .ensures) (told .least .given .1)
-    (c .before .before .before .before .before .cell-count .ensures) (c .before .before .put-sketch-page .ensures)))
+    (c .before .before .before .before .before .cell-count .ensures)
+    (c .before .before .put-sketch-page .ensures)))  -- returns-2

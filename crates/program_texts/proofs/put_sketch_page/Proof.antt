@@ -11,4 +11,4 @@ put-sketch-page-spec =
     (λ c κs. search needs)
     (λ c κs. search needs)
     (λ c. search needs)
-    (λ c. search (page-printed, needs)))
+    (λ c. search (page-printed, needs)))  -- returns

@@ -12,4 +12,4 @@ put-totals-spec =
     (λ c κs. search needs)
     (λ c κs. search needs)
     (λ c. search needs)
-    (λ c. (search (totals-wrote, needs), omega arith)))
+    (λ c. (search (totals-wrote, needs), omega arith)))  -- returns

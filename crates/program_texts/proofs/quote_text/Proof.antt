@@ -10,4 +10,4 @@ quote-text-spec =
     (tie.spec
     (λ c. search needs)
     (λ c κs. search needs)
-    (λ c. (printed-text (c .before .put-quote .ensures), printed-in (c .before .put-quote .ensures))))
+    (λ c. (printed-text (c .before .put-quote .ensures), printed-in (c .before .put-quote .ensures))))  -- returns

@@ -17,4 +17,5 @@ run-map-spec =
     (λ c.
     let last = c .before .before .before .before .before .before in
     let first = last .before .before .before .before .before .before .before .before .before in
-    map-finished _ _ _ _ _ (first .before .before .before .before .before .before .before .pre) _ (first .load .ensures) _ (omega arith) (last .advance .ensures)))
+    map-finished _ _ _ _ _ (first .before .before .before .before .before .before .before .pre) _ (first .load .ensures)
+    _ (omega arith) (last .advance .ensures)))  -- returns

@@ -10,4 +10,4 @@ sketch-text-spec =
     (tie.spec
     (λ c. search needs)
     (λ c κs. search needs)
-    (λ c. (printed-text (c .before .put-sketch .ensures), printed-in (c .before .put-sketch .ensures))))
+    (λ c. (printed-text (c .before .put-sketch .ensures), printed-in (c .before .put-sketch .ensures))))  -- returns

@@ -51,17 +51,17 @@ pub +sum-up-spec : {M : Type 1} → statement M
       arith,
       up-in _ _ _ (s .pre .1 .0) (s .pre .1 .1) (c .before .if1 .taken) (c .level-start .ensures),
       s .good .0 .1,
-    ))
-    (λ c. search (up-in, needs))
-    (λ c. search (up-in, needs))
+    ))  -- mul-fill-level
+    (λ c. search (up-in, needs))  -- sub-fill-level
+    (λ c. search (up-in, needs))  -- part-fill-level-start
     (λ c. search needs)
     (λ c. search needs)
-    (λ c κs. (search needs, search (level-asked, needs)))
+    (λ c κs. (search needs, search (level-asked, needs)))  -- fill-level-requires
     (λ c κs. search needs)
-    (λ c. search (off-in, needs))
-    (λ c. search (length-off, needs))
+    (λ c. search (off-in, needs))  -- slice-relend-prefix-sum-up
+    (λ c. search (length-off, needs))  -- slice-aggregate-sum-up
     (λ c. search needs)
-    (λ c κs. (search needs, (search (next-whole, needs), search (next-small, needs))))
+    (λ c κs. (search needs, (search (next-whole, needs), search (next-small, needs))))  -- sum-up-requires
     (λ c. search needs)
-    (λ c. search (back-done, needs))
-    (λ c. search (nothing-above, needs))
+    (λ c. search (back-done, needs))  -- returns
+    (λ c. search (nothing-above, needs))  -- returns-2

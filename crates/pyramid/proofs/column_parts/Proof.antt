@@ -21,11 +21,11 @@ column-parts-spec =
     (tie.spec
     Inv-loop
     μ-loop
-    (λ c. filled-none _ _)
+    (λ c. filled-none _ _)  -- loop-holds
     (λ c κs. (search needs, omega arith))
     (λ c. omega arith)
     (λ c. omega arith)
     (λ c. omega arith)
     (λ c. omega arith)
-    (λ c. filled-store _ _ _ (omega arith) (c .before .before .loop .inv) (c .column-part .ensures))
-    (λ c. search (columns-found, needs)))
+    (λ c. filled-store _ _ _ (omega arith) (c .before .before .loop .inv) (c .column-part .ensures))  -- loop-again
+    (λ c. search (columns-found, needs)))  -- returns

@@ -2,7 +2,7 @@
 use Prim.Native.Nat.{_*_, _-_}
 use borrow.Author.Needs.{needs}
 use Rattle.layouts.specs.Filling.{Filling}
-use Rattle.pyramid.specs.Asked.{residualOf}
+use Rattle.pyramid.specs.PyramidPart.{residualOf}
 use Rattle.pyramid.specs.Cells.{side-few, line-few, rows-none, row-asked, one-row, all-rows}
 use Rattle.pyramid.proofs.fill_cells.Statement.{statement}
 use Rattle.pyramid.proofs.fill_cells.Tie as tie
@@ -20,12 +20,12 @@ fill-cells-spec =
     Inv-loop
     μ-loop
     (λ c κs. search needs)
-    (λ c κs. (search (side-few, needs), search needs))
-    (λ c. search (rows-none, needs))
-    (λ c κs. (search needs, search (line-few, needs)))
-    (λ c κs. search (row-asked, needs))
+    (λ c κs. (search (side-few, needs), search needs))  -- column-parts-requires
+    (λ c. search (rows-none, needs))  -- loop-holds
+    (λ c κs. (search needs, search (line-few, needs)))  -- row-part-requires
+    (λ c κs. search (row-asked, needs))  -- fill-row-requires
     (λ c. search needs)
     (λ c. search needs)
-    (λ c. search (one-row, needs))
+    (λ c. search (one-row, needs))  -- loop-again
     (λ c. search needs)
-    (λ c. search (all-rows, needs)))
+    (λ c. search (all-rows, needs)))  -- returns

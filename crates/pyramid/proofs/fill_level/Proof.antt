@@ -25,26 +25,26 @@ fill-level-spec =
     Inv-loop
     μ-loop
     (λ c κs. omega arith)
-    (λ c. (omega arith, filled-none _ _))
+    (λ c. (omega arith, filled-none _ _))  -- loop-holds
     (λ c κs.
     let s = c .before .before .before in
     let h = asked-size (s .cell-count .ensures) (s .before .pre .1) in
     let inv = c .before .before .loop .inv in
-    (rw (inv .1) (asked-filled _ _ h _ _ (inv .0)), omega (arith, h .some)))
+    (rw (inv .1) (asked-filled _ _ h _ _ (inv .0)), omega (arith, h .some)))  -- sum-below-requires
     (λ c.
     let s = c .before .before .before .before in
-    omega (arith, asked-size (s .cell-count .ensures) (s .before .pre .1) .most))
+    omega (arith, asked-size (s .cell-count .ensures) (s .before .pre .1) .most))  -- mul-sum
     (λ c.
     let s = c .before .before .before .before in
     let h = asked-size (s .cell-count .ensures) (s .before .pre .1) in
     let inv = c .before .before .before .loop .inv in
-    rw (inv .1) (in-filled _ _ h _ _ (omega (arith, h .some))))
+    rw (inv .1) (in-filled _ _ h _ _ (omega (arith, h .some))))  -- slice-set-from-sum
     (λ c.
     let s = c .before .before .before .before in
-    omega (arith, asked-size (s .cell-count .ensures) (s .before .pre .1) .most))
+    omega (arith, asked-size (s .cell-count .ensures) (s .before .pre .1) .most))  -- add-i
     (λ c.
     let s = c .before .before .before .before in
-    omega (arith, asked-size (s .cell-count .ensures) (s .before .pre .1) .some))
+    omega (arith, asked-size (s .cell-count .ensures) (s .before .pre .1) .some))  -- loop-less
     (λ c.
     let s = c .before .before .before .before in
     let h = asked-size (s .cell-count .ensures) (s .before .pre .1) in
@@ -56,13 +56,13 @@ fill-level-spec =
           ∙ c .sum-below .ensures
           ∙ ap (λ (l : List ℤ). fourFrom (drop (s .cell-count .result) l) i) (inv .1)
           ∙ ap (λ (l : List ℤ). fourFrom l i) (below-filled _ _ h _ _ (inv .0))),
-    ))
+    ))  -- loop-again
     (λ c.
     let s = c .before .before in
     let h = asked-size (s .cell-count .ensures) (s .before .pre .1) in
     let inv = c .before .loop .inv in
-    rw (inv .1) (length-filled _ _ _ (omega (arith, h .whole))))
+    rw (inv .1) (length-filled _ _ _ (omega (arith, h .whole))))  -- same-length
     (λ c.
     let size = c .before .before .cell-count .result in
     let e : c .before .loop .i ≡ size = omega arith in
-    c .before .loop .inv .1 ∙ rw (e, c .before .before .cell-count .ensures) (filled-level _ _)))
+    c .before .loop .inv .1 ∙ rw (e, c .before .before .cell-count .ensures) (filled-level _ _)))  -- returns

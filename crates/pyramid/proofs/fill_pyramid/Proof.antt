@@ -12,11 +12,15 @@ fill-pyramid-spec =
     (λ c κs. search needs)
     (λ c.
     let s = c .before .before in
-    omega (arith, cells-in _ (s .args .greys .now) _ (s .pre .0) _ (c .level-start .ensures), s .good .0 .1))
-    (λ c. search (cells-in, needs))
-    (λ c. search (cells-in, needs))
+    omega (
+      arith,
+      cells-in _ (s .args .greys .now) _ (s .pre .0) _ (c .level-start .ensures),
+      s .good .0 .1,
+    ))  -- mul-fill-cells
+    (λ c. search (cells-in, needs))  -- sub-fill-cells
+    (λ c. search (cells-in, needs))  -- part-fill-cells-start
     (λ c. search needs)
-    (λ c κs. (search (cells-asked, needs), search needs))
-    (λ c κs. (search (back-whole, needs), search (back-small, needs)))
+    (λ c κs. (search (cells-asked, needs), search needs))  -- fill-cells-requires
+    (λ c κs. (search (back-whole, needs), search (back-small, needs)))  -- sum-up-requires
     (λ c. search needs)
-    (λ c. search (fresh, needs)))
+    (λ c. search (fresh, needs)))  -- returns

@@ -1,7 +1,7 @@
 -- `pyramid::fill_row`: the loop fills cell after cell.
 use Prim.Native.Nat.{_+_, _*_, _-_, _≤_}
 use borrow.Author.Needs.{needs}
-use Rattle.pyramid.specs.Asked.{MoreFilled}
+use Rattle.pyramid.specs.PyramidPart.{MoreFilled}
 use Rattle.pyramid.specs.Cells.{below-side, line-fits, number-fits, number-in, column-scaled, column-few}
 use Rattle.pyramid.specs.Cells.{place-fits, place-scaled, place-there, one-more, row-none, row-done}
 use Rattle.pyramid.proofs.fill_row.Statement.{statement}
@@ -21,18 +21,18 @@ fill-row-spec =
     Inv-loop
     μ-loop
     (λ c κs. search needs)
-    (λ c. search (row-none, needs))
-    (λ c. search (line-fits, below-side, needs))
-    (λ c. search (number-fits, below-side, needs))
-    (λ c. search (number-in, below-side, needs))
+    (λ c. search (row-none, needs))  -- loop-holds
+    (λ c. search (line-fits, below-side, needs))  -- mul-residual
+    (λ c. search (number-fits, below-side, needs))  -- add-residual
+    (λ c. search (number-in, below-side, needs))  -- shared-slice-read-residual
     (λ c κs. search needs)
     (λ c. search (column-scaled, needs))
     (λ c. search (column-few, needs))
     (λ c. search (place-fits, needs))
-    (λ c. search (place-scaled, needs))
-    (λ c. search (place-there, needs))
+    (λ c. search (place-scaled, needs))  -- mul-z
+    (λ c. search (place-there, needs))  -- slice-set-from-z
     (λ c. search needs)
     (λ c. search needs)
-    (λ c. search (one-more, needs))
+    (λ c. search (one-more, needs))  -- loop-again
     (λ c. search needs)
-    (λ c. search (row-done, needs)))
+    (λ c. search (row-done, needs)))  -- returns

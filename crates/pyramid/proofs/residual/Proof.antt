@@ -10,5 +10,5 @@ residual-spec =
     tie.close
     (tie.spec
     (λ c. search needs)
-    (λ c. rw (of-bits (c .args .grey) (omega arith)) (ok64 _ (omega arith)))
-    (λ c. rw (of-bits (c .args .grey) (omega arith)) (back64 _ (omega arith))))
+    (λ c. rw (of-bits (c .args .grey) (omega arith)) (ok64 _ (omega arith)))  -- mul-result
+    (λ c. rw (of-bits (c .args .grey) (omega arith)) (back64 _ (omega arith))))  -- returns

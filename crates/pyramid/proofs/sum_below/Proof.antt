@@ -13,5 +13,5 @@ sum-below-spec =
     (tie.spec
     (λ c. omega (arith, c .pre .0 .most, c .pre .1))
     (λ c. omega (arith, c .pre .0 .most, c .pre .1))
-    (λ c κs. search (four-asked, needs))
-    (λ c. back64 (c .sum-of-four .result) (c .sum-of-four .ok) ∙ c .sum-of-four .ensures ∙ four-are _ _ _))
+    (λ c κs. search (four-asked, needs))  -- sum-of-four-requires
+    (λ c. back64 (c .sum-of-four .result) (c .sum-of-four .ok) ∙ c .sum-of-four .ensures ∙ four-are _ _ _))  -- returns

@@ -19,10 +19,10 @@ block-cap-spec =
     (λ c κs. search needs)
     (λ c. search needs)
     (λ c κs. search needs)
-    (λ c. search (some-columns, needs))
-    (λ c. search (some-columns, needs))
-    (λ c κs. search (square-asked, row-in, column-in, needs))
+    (λ c. search (some-columns, needs))  -- div-block-greys
+    (λ c. search (some-columns, needs))  -- rem-block-greys
+    (λ c κs. search (square-asked, row-in, column-in, needs))  -- block-greys-requires
     (λ c. search needs)
-    (λ c κs. (search (small-side, needs), search needs))
-    (λ c. search (cap-fits, small-side, needs))
-    (λ c. search (cap-is, needs)))
+    (λ c κs. (search (small-side, needs), search needs))  -- quote-cap-requires
+    (λ c. search (cap-fits, small-side, needs))  -- cast-result
+    (λ c. search (cap-is, needs)))  -- returns

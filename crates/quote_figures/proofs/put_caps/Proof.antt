@@ -27,12 +27,12 @@ put-caps-spec =
     Inv-loop
     μ-loop
     (λ c κs. search needs)
-    (λ c. search (none-capped, needs))
-    (λ c κs. (search needs, search (in-level, needs)))
-    (λ c. search (bytes-fit, needs))
-    (λ c. search (in-caps, needs))
+    (λ c. search (none-capped, needs))  -- loop-holds
+    (λ c κs. (search needs, search (in-level, needs)))  -- block-cap-requires
+    (λ c. search (bytes-fit, needs))  -- mul-caps
+    (λ c. search (in-caps, needs))  -- slice-write-caps
     (λ c. search needs)
     (λ c. search needs)
-    (λ c. search (one-capped, needs))
-    (λ c. search (as-long, needs))
-    (λ c. search (all-capped, needs)))
+    (λ c. search (one-capped, needs))  -- loop-again
+    (λ c. search (as-long, needs))  -- same-length
+    (λ c. search (all-capped, needs)))  -- returns

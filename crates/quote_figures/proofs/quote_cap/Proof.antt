@@ -16,7 +16,7 @@ unfolding quoteCap
 quote-cap-spec =
     tie.close
     (tie.spec
-    (λ c. omega (arith, mul-le-mul (c .pre .0) (c .pre .0)))
+    (λ c. omega (arith, mul-le-mul (c .pre .0) (c .pre .0)))  -- mul-square
     (λ c. search needs)
     (λ c. search needs)
     (λ c. search needs)

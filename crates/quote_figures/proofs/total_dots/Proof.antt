@@ -9,11 +9,11 @@ pub total-dots-spec : {M : Type 1} → statement M
 total-dots-spec =
     tie.close
     (tie.spec
-    (λ c κs. search (whole-map, needs))
+    (λ c κs. search (whole-map, needs))  -- block-greys-requires
     (λ c. search needs)
     (λ c. search needs)
     (λ c. search needs)
     (λ c.
     let bytes = c .before .shared-slice-known .given in
     let few = sum-few _ _ (c .before .before .pre) bytes (c .block-greys .ensures) in
-    (search (total-is, needs), omega (arith, few))))
+    (search (total-is, needs), omega (arith, few))))  -- returns

@@ -19,7 +19,7 @@ put-block-spec =
     (λ c. search needs)
     (λ c κs. search needs)
     (λ c. search needs)
-    (λ c κs. (search (small-side, needs), search needs))
+    (λ c κs. (search (small-side, needs), search needs))  -- quote-cap-requires
     (λ c κs. search needs)
     (λ c. search needs)
     block)

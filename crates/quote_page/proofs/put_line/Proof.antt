@@ -13,7 +13,8 @@ columns c =
     let y3 = y4 .before .before .before .before in
     let y2 = y3 .before .before .before .before in
     let y1 = y2 .before .before .before .before in
-    line-wrote _ _ _ _ _ (y1 .put-column .ensures .0) (y2 .put-column2 .ensures .0) (y3 .put-column3 .ensures .0) (y4 .put-column4 .ensures .0) (y5 .put-column5 .ensures .0)
+    line-wrote _ _ _ _ _ (y1 .put-column .ensures .0) (y2 .put-column2 .ensures .0) (y3 .put-column3 .ensures .0)
+    (y4 .put-column4 .ensures .0) (y5 .put-column5 .ensures .0)
 
 pub put-line-spec : {M : Type 1} → statement M
 put-line-spec =

@@ -23,15 +23,26 @@ put-page-spec =
     (tie.spec
     Inv-loop
     μ-loop
-    (λ c κs. let h = c .before .before .before .pre in omega (arith, h .level, h .powers))
-    (λ c. (omega arith, wrote-joined-none _))
+    (λ c κs. let h = c .before .before .before .pre in omega (arith, h .level, h .powers))  -- pow2-requires
+    (λ c. (omega arith, wrote-joined-none _))  -- loop-holds
     (λ c κs.
     let t = c .before .before in
     let z = t .before in
-    let asked = z .before .before .before .before .pre in
-    (omega (arith, rows-end asked (t .loop .row) (omega (arith, z .pow2 .ensures)) (t .loop .inv .1)), omega (arith, z .pow2 .ensures), asked))
+    let asked = z .before .before .before .before .pre in (
+      omega (arith, rows-end asked (t .loop .row) (omega (arith, z .pow2 .ensures)) (t .loop .inv .1)),
+      omega
+          (arith, z .pow2 .ensures),
+      asked,
+    ))  -- put-row-requires
     (λ c. omega arith)
     (λ c. omega arith)
-    (λ c. let t = c .before .before .before .before .before in (omega arith, wrote-joined-more _ (t .loop .row) (t .loop .inv .1) (c .before .before .put-row .ensures)))
-    (λ c. wrote-length (c .before .loop .inv .1))
-    (λ c. let t = c .before in let e : t .loop .row ≡ 2 ^ t .before .before .before .before .before .args .k = omega (arith, t .before .pow2 .ensures) in rw e at (t .loop .inv .1)))
+    (λ c. let t = c .before .before .before .before .before
+    in (
+      omega arith,
+      wrote-joined-more _ (t .loop .row) (t .loop .inv .1)
+          (c .before .before .put-row .ensures),
+    ))  -- loop-again
+    (λ c. wrote-length (c .before .loop .inv .1))  -- same-length
+    (λ c. let t = c .before in let e : t .loop .row
+    ≡ 2 ^ t .before .before .before .before .before .args .k =
+    omega (arith, t .before .pow2 .ensures) in rw e at (t .loop .inv .1)))  -- returns

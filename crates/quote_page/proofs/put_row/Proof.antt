@@ -22,15 +22,30 @@ put-row-spec =
     (tie.spec
     Inv-loop
     μ-loop
-    (λ c κs. let h = c .before .before .before .pre .2 in omega (arith, h .level, h .powers))
-    (λ c. (omega arith, wrote-joined-none _))
+    (λ c κs. let h = c .before .before .before .pre .2 in omega (arith, h .level, h .powers))  -- pow2-requires
+    (λ c. (omega arith, wrote-joined-none _))  -- loop-holds
     (λ c κs.
     let t = c .before .before in
     let z = t .before in
-    let asked = z .before .before .before .before .pre in
-    (omega (arith, row-end (asked .2) _ (t .loop .column) (asked .1) (omega (arith, z .pow2 .ensures)) (t .loop .inv .1)), asked .1, omega (arith, z .pow2 .ensures), asked .2))
+    let asked = z .before .before .before .before .pre in (
+      omega (
+        arith,
+        row-end (asked .2) _ (t .loop .column) (asked .1) (omega (arith, z .pow2 .ensures))
+            (t .loop .inv .1),
+      ),
+      asked .1,
+      omega (arith, z .pow2 .ensures),
+      asked .2,
+    ))  -- put-block-requires
     (λ c. omega arith)
     (λ c. omega arith)
-    (λ c. let t = c .before .before .before .before .before in (omega arith, wrote-joined-more _ (t .loop .column) (t .loop .inv .1) (c .before .before .put-block .ensures)))
-    (λ c. wrote-length (c .before .loop .inv .1))
-    (λ c. let t = c .before in let e : t .loop .column ≡ 2 ^ t .before .before .before .before .before .args .k = omega (arith, t .before .pow2 .ensures) in rw e at (t .loop .inv .1)))
+    (λ c. let t = c .before .before .before .before .before
+    in (
+      omega arith,
+      wrote-joined-more _ (t .loop .column) (t .loop .inv .1)
+          (c .before .before .put-block .ensures),
+    ))  -- loop-again
+    (λ c. wrote-length (c .before .loop .inv .1))  -- same-length
+    (λ c. let t = c .before in let e : t .loop .column
+    ≡ 2 ^ t .before .before .before .before .before .args .k =
+    omega (arith, t .before .pow2 .ensures) in rw e at (t .loop .inv .1)))  -- returns

@@ -1,7 +1,7 @@
 -- `quote_page::quote_page`: what the check says, told apart. That greys are bytes is known of the slice.
 use borrow.Author.Needs.{needs}
 use Rattle.refusals.specs.Powers.{power-small}
-use Rattle.quote_page.specs.Calls.{page-refused, page-asked, page-written}
+use Rattle.quote_page.specs.WaysOut.{page-refused, page-asked, page-written}
 use Rattle.quote_page.proofs.quote_page.Statement.{statement}
 use Rattle.quote_page.proofs.quote_page.Tie as tie
 
@@ -18,10 +18,10 @@ quote-page-spec =
     tie.close
     (tie.spec
     (λ c κs. search needs)
-    (λ c κs. search (power-small, needs))
+    (λ c κs. search (power-small, needs))  -- check-quote-requires
     (λ c. search needs)
     (λ c. search needs)
-    (λ c κs. search (page-asked, needs))
+    (λ c κs. search (page-asked, needs))  -- put-page-requires
     left-alone
     (λ c. search needs)
     written)

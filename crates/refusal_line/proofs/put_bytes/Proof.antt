@@ -19,13 +19,16 @@ put-bytes-spec =
     (tie.spec
     Inv-loop
     μ-loop
-    (λ c. (omega arith, wrote-none))
+    (λ c. (omega arith, wrote-none))  -- loop-holds
     (λ c. omega arith)
     (λ c κs. omega arith)
     (λ c. omega arith)
     (λ c. omega arith)
     (λ c.
-    let turn = c .before .before .before .before .before in
-    (omega arith, one-more-byte _ _ (turn .before .loop .inv .1) (turn .loop-test .taken) (c .before .before .put-byte .ensures)))
-    (λ c. wrote-length (c .before .loop .inv .1))
-    (λ c. all-bytes _ _ (c .before .loop .inv .1) (c .loop-test .left)))
+    let turn = c .before .before .before .before .before in (
+      omega arith,
+      one-more-byte _ _ (turn .before .loop .inv .1) (turn .loop-test .taken)
+          (c .before .before .put-byte .ensures),
+    ))  -- loop-again
+    (λ c. wrote-length (c .before .loop .inv .1))  -- same-length
+    (λ c. all-bytes _ _ (c .before .loop .inv .1) (c .loop-test .left)))  -- returns

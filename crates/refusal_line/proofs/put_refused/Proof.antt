@@ -15,4 +15,5 @@ put-refused-spec =
     (λ c. search needs)
     (λ c.
     let word = c .before .before .before .before .before .before in
-    line-printed _ (omega arith) _ (word .before .before .before .before .pre) (c .before .before .put-field .ensures) (word .put-bytes .ensures)))
+    line-printed _ (omega arith) _ (word .before .before .before .before .pre) (c .before .before .put-field .ensures)
+    (word .put-bytes .ensures)))  -- returns

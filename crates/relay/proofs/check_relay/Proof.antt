@@ -1,6 +1,6 @@
 -- `relay::check_relay`: what the check of the lengths says, told apart, then the test of the sheet row after row.
 use borrow.Author.Needs.{needs}
-use Rattle.relay.specs.Calls.{relay-failed, relay-lent, relay-sound, relay-unsound}
+use Rattle.relay.specs.WaysOut.{relay-failed, relay-lent, relay-sound, relay-unsound}
 use Rattle.relay.proofs.check_relay.Statement.{statement}
 use Rattle.relay.proofs.check_relay.Tie as tie
 
@@ -12,7 +12,7 @@ check-relay-spec =
     (λ c κs. search needs)
     (λ c. search needs)
     (λ c. search needs)
-    (λ c κs. ((search needs, search (relay-lent, needs)), search needs))
-    (λ c. search (relay-sound, needs))
-    (λ c. search (relay-failed, needs))
-    (λ c. search (relay-unsound, needs)))
+    (λ c κs. ((search needs, search (relay-lent, needs)), search needs))  -- sound-lent-requires
+    (λ c. search (relay-sound, needs))  -- returns
+    (λ c. search (relay-failed, needs))  -- returns-2
+    (λ c. search (relay-unsound, needs)))  -- returns-3

@@ -19,25 +19,25 @@ lay-levels-spec =
     (tie.spec
     Inv-loop
     μ-loop
-    (λ c. search (none-laid, needs))
+    (λ c. search (none-laid, needs))  -- loop-holds
     (λ c κs. search needs)
     (λ c. search needs)
     (λ c κs. search needs)
     (λ c.
     let most = c .before .before .before .before .pre .0 .small in
-    omega (arith, start-few _ (c .before .level-start .ensures) (omega (arith, most))))
-    (λ c. search (in-order, needs))
-    (λ c. search (in-order, needs))
-    (λ c. search (in-second, needs))
+    omega (arith, start-few _ (c .before .level-start .ensures) (omega (arith, most))))  -- mul-lay-level
+    (λ c. search (in-order, needs))  -- sub-lay-level
+    (λ c. search (in-order, needs))  -- part-lay-level-start
+    (λ c. search (in-second, needs))  -- part-lay-level-end
     (λ c.
     let most = c .before .before .before .before .before .pre .0 .small in
-    omega (arith, start-few _ (c .before .before .level-start .ensures) (omega (arith, most))))
-    (λ c. search (in-pyramid, needs))
-    (λ c. search (in-pyramid, needs))
+    omega (arith, start-few _ (c .before .before .level-start .ensures) (omega (arith, most))))  -- mul-lay-level-2
+    (λ c. search (in-pyramid, needs))  -- sub-lay-level-2
+    (λ c. search (in-pyramid, needs))  -- part-lay-level-start-2
     (λ c. search needs)
-    (λ c κs. (search (level-asked, needs), search needs))
+    (λ c κs. (search (level-asked, needs), search needs))  -- lay-level-requires
     (λ c. search needs)
     (λ c. search needs)
-    (λ c. search (level-more, needs))
+    (λ c. search (level-more, needs))  -- loop-again
     (λ c. search needs)
-    (λ c. search (all-laid, needs)))
+    (λ c. search (all-laid, needs)))  -- returns

@@ -15,7 +15,7 @@ carry-spec =
     (λ c. search needs)
     (λ c. omega (arith, c .before .before .before .pre .few))
     (λ c. search needs)
-    (λ c. search (less-fits, needs))
-    (λ c. search (total-fits, needs))
+    (λ c. search (less-fits, needs))  -- sub-result
+    (λ c. search (total-fits, needs))  -- add-result
     (λ c. search needs)
-    (λ c. (search (sum-kept, needs), search (carried, needs))))
+    (λ c. (search (sum-kept, needs), search (carried, needs))))  -- returns

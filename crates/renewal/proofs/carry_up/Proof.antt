@@ -30,15 +30,15 @@ carry-up-spec =
     (tie.spec
     Inv-loop
     μ-loop
-    (λ c κs. search (place-asked, needs))
-    (λ c. search (carry-begins, needs))
-    (λ c κs. carry-asked (c .before .before .loop .inv) (omega arith))
-    (λ c. place-some (c .before .before .before .before .loop .inv) (omega arith))
+    (λ c κs. search (place-asked, needs))  -- four-below-requires
+    (λ c. search (carry-begins, needs))  -- loop-holds
+    (λ c κs. carry-asked (c .before .before .loop .inv) (omega arith))  -- carry-requires
+    (λ c. place-some (c .before .before .before .before .loop .inv) (omega arith))  -- sub-i
     (λ c. omega arith)
     (λ c. omega arith)
     (λ c.
     let some : 0 < c .before .before .before .before .loop .k = omega arith in
-    search (carry-on, some, needs))
-    (λ c. search (top-in, needs))
-    (λ c. search (carry-long, needs))
-    (λ c. search (carried-up, needs)))
+    search (carry-on, some, needs))  -- loop-again
+    (λ c. search (top-in, needs))  -- slice-set-from-sum
+    (λ c. search (carry-long, needs))  -- same-length
+    (λ c. search (carried-up, needs)))  -- returns

@@ -22,12 +22,12 @@ entries-small-spec =
     (tie.spec
     Inv-loop
     μ-loop
-    (λ c. none)
+    (λ c. none)  -- loop-holds
     (λ c. search needs)
     (λ c. omega arith)
     (λ c κs. search needs)
-    (λ c. search (fails, small-every, small-read, needs))
+    (λ c. search (fails, small-every, small-read, needs))  -- returns
     (λ c. omega arith)
     (λ c. omega arith)
-    (λ c. search (turn, small-read, needs))
-    (λ c. search (passes, small-every, needs)))
+    (λ c. search (turn, small-read, needs))  -- loop-again
+    (λ c. search (passes, small-every, needs)))  -- returns-2

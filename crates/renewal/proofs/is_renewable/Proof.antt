@@ -9,10 +9,10 @@ pub is-renewable-spec : {M : Type 1} → statement M
 is-renewable-spec =
     tie.close
     (tie.spec
-    (λ c. search (no-side, needs))
-    (λ c κs. search (power-small, needs))
-    (λ c. search (too-short, needs))
-    (λ c. search (off-row, needs))
-    (λ c. search (off-column, needs))
+    (λ c. search (no-side, needs))  -- returns
+    (λ c κs. search (power-small, needs))  -- needed-requires
+    (λ c. search (too-short, needs))  -- returns-2
+    (λ c. search (off-row, needs))  -- returns-3
+    (λ c. search (off-column, needs))  -- returns-4
     (λ c κs. search needs)
-    (λ c. search (then-small, needs)))
+    (λ c. search (then-small, needs)))  -- returns-5

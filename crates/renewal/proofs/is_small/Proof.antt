@@ -8,5 +8,5 @@ pub is-small-spec : {M : Type 1} → statement M
 is-small-spec =
     tie.close
     (tie.spec
-    (λ c. search (too-low, needs))
-    (λ c. search (not-low, needs)))
+    (λ c. search (too-low, needs))  -- returns
+    (λ c. search (not-low, needs)))  -- returns-2

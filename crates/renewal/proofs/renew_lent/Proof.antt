@@ -12,13 +12,13 @@ renew-lent-spec =
     (λ c κs. search needs)
     (λ c κs. search needs)
     (λ c. search needs)
-    (λ c. search (left-alone, needs))
-    (λ c κs. search (power-small, needs))
+    (λ c. search (left-alone, needs))  -- returns
+    (λ c κs. search (power-small, needs))  -- needed-requires
     (λ c κs. search needs)
-    (λ c κs. search (power-small, needs))
-    (λ c κs. (search needs, search (around-asked, needs)))
-    (λ c. search (part-in, needs))
-    (λ c. search (length-part, needs))
-    (λ c κs. search (renew-asked, needs))
+    (λ c κs. search (power-small, needs))  -- pow2-requires
+    (λ c κs. (search needs, search (around-asked, needs)))  -- parts-around-requires
+    (λ c. search (part-in, needs))  -- slice-relend-prefix-renew
+    (λ c. search (length-part, needs))  -- slice-aggregate-renew
+    (λ c κs. search (renew-asked, needs))  -- renew-requires
     (λ c. search needs)
-    (λ c. search (made, c .before .renew .kept .0, needs)))
+    (λ c. search (made, c .before .renew .kept .0, needs)))  -- returns-2

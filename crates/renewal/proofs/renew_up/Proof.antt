@@ -29,20 +29,20 @@ renew-up-spec =
     (tie.spec
     Inv-loop
     μ-loop
-    (λ c. search (climb-begins, needs))
-    (λ c κs. search (four-asked, needs))
+    (λ c. search (climb-begins, needs))  -- loop-holds
+    (λ c κs. search (four-asked, needs))  -- renew-four-requires
     (λ c. let s = c .before .before .before in
-    omega (arith, places-some (s .before .loop .inv) (s .loop-test .taken)))
+    omega (arith, places-some (s .before .loop .inv) (s .loop-test .taken)))  -- sub-nw
     (λ c. let s = c .before .before .before in
-    omega (arith, places-some (s .before .loop .inv) (s .loop-test .taken)))
+    omega (arith, places-some (s .before .loop .inv) (s .loop-test .taken)))  -- sub-ne
     (λ c. let s = c .before .before .before in
-    omega (arith, places-some (s .before .loop .inv) (s .loop-test .taken)))
+    omega (arith, places-some (s .before .loop .inv) (s .loop-test .taken)))  -- sub-sw
     (λ c. let s = c .before .before .before in
-    omega (arith, places-some (s .before .loop .inv) (s .loop-test .taken)))
-    (λ c. search (climb-some, needs))
+    omega (arith, places-some (s .before .loop .inv) (s .loop-test .taken)))  -- sub-se
+    (λ c. search (climb-some, needs))  -- sub-k
     (λ c. let s = c .before .before .before in
-    omega (arith, climb-some (s .before .loop .inv) (s .loop-test .taken)))
-    (λ c. search (climb-on, needs))
-    (λ c κs. (search (climb-rising, needs), search (climb-inside, needs)))
-    (λ c. search (climb-long, needs))
-    (λ c. search (climbed, needs)))
+    omega (arith, climb-some (s .before .loop .inv) (s .loop-test .taken)))  -- loop-less
+    (λ c. search (climb-on, needs))  -- loop-again
+    (λ c κs. (search (climb-rising, needs), search (climb-inside, needs)))  -- carry-up-requires
+    (λ c. search (climb-long, needs))  -- same-length
+    (λ c. search (climbed, needs)))  -- returns

@@ -10,5 +10,5 @@ across-spec =
     (tie.spec
     (λ c. search needs)
     (λ c κs. search needs)
-    (λ c. search (offset-in, needs))
+    (λ c. search (offset-in, needs))  -- sub-result
     (λ c. search needs))

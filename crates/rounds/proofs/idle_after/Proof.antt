@@ -9,5 +9,5 @@ idle-after-spec =
     tie.close
     (tie.spec
     (λ c. search needs)
-    (λ c. search (one-more-idle, needs))
-    (λ c. search (none-idle, needs)))
+    (λ c. search (one-more-idle, needs))  -- returns
+    (λ c. search (none-idle, needs)))  -- returns-2

@@ -45,16 +45,16 @@ round-spec =
     (tie.spec
     Inv-loop
     μ-loop
-    (λ c κs. search (row-asked, needs))
-    (λ c κs. search (column-asked, needs))
-    (λ c. search (count-fits, needs))
-    (λ c. search (begins, needs))
-    (λ c. search (columns-some, needs))
-    (λ c. search (down-fits, right-fits, needs))
-    (λ c. search (a-fits, needs))
-    (λ c. search (columns-some, needs))
-    (λ c. search (down-fits, right-fits, needs))
-    (λ c. search (b-fits, needs))
+    (λ c κs. search (row-asked, needs))  -- across-requires
+    (λ c κs. search (column-asked, needs))  -- across-requires-2
+    (λ c. search (count-fits, needs))  -- mul-count
+    (λ c. search (begins, needs))  -- loop-holds
+    (λ c. search (columns-some, needs))  -- div-a
+    (λ c. search (down-fits, right-fits, needs))  -- mul-a
+    (λ c. search (a-fits, needs))  -- add-a
+    (λ c. search (columns-some, needs))  -- rem-b
+    (λ c. search (down-fits, right-fits, needs))  -- mul-b
+    (λ c. search (b-fits, needs))  -- add-b
     (λ c κs.
     let going = c .before .before .before .before in
     let figures = going .before in
@@ -65,11 +65,11 @@ round-spec =
             _ _ _ _ _ (going .loop .inv) (search needs),
         (search (still-long, going .loop .inv, needs), search needs),
       ),
-    ))
-    (λ c. search (next-fits, needs))
+    ))  -- work-requires
+    (λ c. search (next-fits, needs))  -- add-i
     (λ c. search needs)
     one-worked
-    (λ c. search (same-pyramid, needs))
-    (λ c. search (same-serials, needs))
-    (λ c. search (same-order, needs))
-    (λ c. search (worked, needs)))
+    (λ c. search (same-pyramid, needs))  -- same-length
+    (λ c. search (same-serials, needs))  -- same-length-2
+    (λ c. search (same-order, needs))  -- same-length-3
+    (λ c. search (worked, needs)))  -- returns

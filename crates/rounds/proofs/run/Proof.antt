@@ -35,13 +35,13 @@ run-spec =
     (tie.spec
     Inv-loop
     μ-loop
-    (λ c. search (begins, needs))
-    (λ c κs. (search (large-now, needs), (search (still-long, needs), search needs)))
+    (λ c. search (begins, needs))  -- loop-holds
+    (λ c κs. (search (large-now, needs), (search (still-long, needs), search needs)))  -- round-requires
     (λ c κs. search needs)
-    (λ c. search (next-fits, needs))
-    (λ c. search (fewer, needs))
-    (λ c. search (goes-on, needs))
-    (λ c. search (same-pyramid, needs))
-    (λ c. search (same-serials, needs))
-    (λ c. search (same-order, needs))
+    (λ c. search (next-fits, needs))  -- add-t
+    (λ c. search (fewer, needs))  -- loop-less
+    (λ c. search (goes-on, needs))  -- loop-again
+    (λ c. search (same-pyramid, needs))  -- same-length
+    (λ c. search (same-serials, needs))  -- same-length-2
+    (λ c. search (same-order, needs))  -- same-length-3
     ended)

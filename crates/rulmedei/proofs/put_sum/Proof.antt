@@ -13,4 +13,4 @@ put-sum-spec =
     (λ c. search needs)
     (λ c. search needs)
     (λ c. search needs)
-    (λ c. sym (set-out _ _ _ (c .if1 .left))))
+    (λ c. sym (set-out _ _ _ (c .if1 .left))))  -- returns-2

@@ -18,12 +18,12 @@ put-sums-spec =
     (tie.spec
     Inv-loop
     μ-loop
-    (λ c. search (sums-whole, needs))
+    (λ c. search (sums-whole, needs))  -- loop-holds
     (λ c. omega arith)
     (λ c. omega arith)
     (λ c κs. search needs)
     (λ c. omega arith)
     (λ c. omega arith)
-    (λ c. search (sums-less, needs))
+    (λ c. search (sums-less, needs))  -- loop-again
     (λ c. search needs)
-    (λ c. search (sums-none, needs)))
+    (λ c. search (sums-none, needs)))  -- returns

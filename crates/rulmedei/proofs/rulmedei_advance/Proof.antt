@@ -2,7 +2,7 @@
 use borrow.Author.Needs.{needs}
 use Rattle.definition.specs.Answers.{advanceSays}
 use Rattle.rulmedei.specs.Codes.{codeOf}
-use Rattle.rulmedei.specs.Calls.{advance-coded}
+use Rattle.rulmedei.specs.FromCalls.{advance-coded}
 use Rattle.rulmedei.proofs.rulmedei_advance.Statement.{statement}
 use Rattle.rulmedei.proofs.rulmedei_advance.Tie as tie
 
@@ -19,12 +19,12 @@ rulmedei-advance-spec =
     (λ c. search needs)
     (λ c. search needs)
     (λ c. search needs)
-    (λ c. search (advance-coded, needs))
+    (λ c. search (advance-coded, needs))  -- returns
     (λ c. search needs)
     (λ c. search needs)
     (λ c. search needs)
-    (λ c. search (advance-coded, needs))
+    (λ c. search (advance-coded, needs))  -- returns-2
     (λ c. search needs)
     (λ c. search needs)
     (λ c. search needs)
-    (λ c. search (advance-coded, needs)))
+    (λ c. search (advance-coded, needs)))  -- returns-3

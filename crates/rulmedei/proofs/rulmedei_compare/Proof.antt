@@ -2,7 +2,7 @@
 use borrow.Author.Needs.{needs}
 use Rattle.definition.specs.Answers.{compareSays}
 use Rattle.rulmedei.specs.Codes.{comparedCode, codeOf, cellOf}
-use Rattle.rulmedei.specs.Calls.{compare-coded}
+use Rattle.rulmedei.specs.FromCalls.{compare-coded}
 use Rattle.rulmedei.proofs.rulmedei_compare.Statement.{statement}
 use Rattle.rulmedei.proofs.rulmedei_compare.Tie as tie
 
@@ -19,9 +19,9 @@ rulmedei-compare-spec =
     (λ c. search needs)
     (λ c. search needs)
     (λ c κs. search needs)
-    (λ c. search (compare-coded, needs))
-    (λ c. search (compare-coded, needs))
-    (λ c. search (compare-coded, needs))
-    (λ c. search (compare-coded, needs))
-    (λ c. search (compare-coded, needs))
-    (λ c. search (compare-coded, needs)))
+    (λ c. search (compare-coded, needs))  -- returns
+    (λ c. search (compare-coded, needs))  -- returns-2
+    (λ c. search (compare-coded, needs))  -- returns-3
+    (λ c. search (compare-coded, needs))  -- returns-4
+    (λ c. search (compare-coded, needs))  -- returns-5
+    (λ c. search (compare-coded, needs)))  -- returns-6

@@ -1,6 +1,6 @@
 -- `rulmedei::rulmedei_drill_list`: the call's promise.
 use borrow.Author.Needs.{needs}
-use Rattle.rulmedei.specs.Calls.{text-coded}
+use Rattle.rulmedei.specs.FromCalls.{text-coded}
 use Rattle.rulmedei.proofs.rulmedei_drill_list.Statement.{statement}
 use Rattle.rulmedei.proofs.rulmedei_drill_list.Tie as tie
 
@@ -11,4 +11,4 @@ rulmedei-drill-list-spec =
     (λ c κs. search needs)
     (λ c κs. search needs)
     (λ c. search needs)
-    (λ c. search (text-coded, needs)))
+    (λ c. search (text-coded, needs)))  -- returns

@@ -1,6 +1,6 @@
 -- `rulmedei::rulmedei_keep`: the call's promise.
 use borrow.Author.Needs.{needs}
-use Rattle.rulmedei.specs.Calls.{keep-coded}
+use Rattle.rulmedei.specs.FromCalls.{keep-coded}
 use Rattle.rulmedei.proofs.rulmedei_keep.Statement.{statement}
 use Rattle.rulmedei.proofs.rulmedei_keep.Tie as tie
 
@@ -10,4 +10,4 @@ rulmedei-keep-spec =
     (tie.spec
     (λ c κs. search needs)
     (λ c κs. search needs)
-    (λ c. search (keep-coded, needs)))
+    (λ c. search (keep-coded, needs)))  -- returns

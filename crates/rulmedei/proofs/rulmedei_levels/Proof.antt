@@ -2,7 +2,7 @@
 use borrow.Author.Needs.{needs}
 use Rattle.definition.specs.Answers.{levelsSays}
 use Rattle.rulmedei.specs.Codes.{codeOf}
-use Rattle.rulmedei.specs.Calls.{levels-coded}
+use Rattle.rulmedei.specs.FromCalls.{levels-coded}
 use Rattle.rulmedei.proofs.rulmedei_levels.Statement.{statement}
 use Rattle.rulmedei.proofs.rulmedei_levels.Tie as tie
 
@@ -17,6 +17,6 @@ rulmedei-levels-spec =
     (λ c. search needs)
     (λ c κs. search needs)
     (λ c. search needs)
-    (λ c. search (levels-coded, needs))
+    (λ c. search (levels-coded, needs))  -- returns
     (λ c. search needs)
-    (λ c. search (levels-coded, needs)))
+    (λ c. search (levels-coded, needs)))  -- returns-2

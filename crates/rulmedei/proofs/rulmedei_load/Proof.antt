@@ -2,7 +2,7 @@
 use borrow.Author.Needs.{needs}
 use Rattle.definition.specs.Answers.{loadSays}
 use Rattle.rulmedei.specs.Codes.{codeOf}
-use Rattle.rulmedei.specs.Calls.{load-coded}
+use Rattle.rulmedei.specs.FromCalls.{load-coded}
 use Rattle.rulmedei.proofs.rulmedei_load.Statement.{statement}
 use Rattle.rulmedei.proofs.rulmedei_load.Tie as tie
 
@@ -18,8 +18,8 @@ rulmedei-load-spec =
     (λ c. search needs)
     (λ c. search needs)
     (λ c. search needs)
-    (λ c. search (load-coded, needs))
+    (λ c. search (load-coded, needs))  -- returns
     (λ c. search needs)
     (λ c. search needs)
     (λ c. search needs)
-    (λ c. search (load-coded, needs)))
+    (λ c. search (load-coded, needs)))  -- returns-2

@@ -1,6 +1,6 @@
 -- `rulmedei::rulmedei_lower_text`: the call's promise.
 use borrow.Author.Needs.{needs}
-use Rattle.rulmedei.specs.Calls.{lower-text-coded}
+use Rattle.rulmedei.specs.FromCalls.{lower-text-coded}
 use Rattle.rulmedei.proofs.rulmedei_lower_text.Statement.{statement}
 use Rattle.rulmedei.proofs.rulmedei_lower_text.Tie as tie
 
@@ -12,4 +12,4 @@ rulmedei-lower-text-spec =
     (λ c κs. search needs)
     (λ c. search needs)
     (λ c. search needs)
-    (λ c. search (lower-text-coded, needs)))
+    (λ c. search (lower-text-coded, needs)))  -- returns

@@ -2,7 +2,7 @@
 use borrow.Author.Needs.{needs}
 use Rattle.definition.specs.Answers.{mapTextSays}
 use Rattle.rulmedei.specs.Codes.{codeOf, valueOf}
-use Rattle.rulmedei.specs.Calls.{greys-coded}
+use Rattle.rulmedei.specs.FromCalls.{greys-coded}
 use Rattle.rulmedei.proofs.rulmedei_map_text.Statement.{statement}
 use Rattle.rulmedei.proofs.rulmedei_map_text.Tie as tie
 
@@ -16,6 +16,6 @@ rulmedei-map-text-spec =
     (λ c. search needs)
     (λ c κs. search needs)
     (λ c. search needs)
-    (λ c. search (greys-coded mapTextSays, needs))
+    (λ c. search (greys-coded mapTextSays, needs))  -- returns
     (λ c. search needs)
-    (λ c. search (greys-coded mapTextSays, needs)))
+    (λ c. search (greys-coded mapTextSays, needs)))  -- returns-2

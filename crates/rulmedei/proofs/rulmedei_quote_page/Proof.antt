@@ -1,6 +1,6 @@
 -- `rulmedei::rulmedei_quote_page`: the call's promise.
 use borrow.Author.Needs.{needs}
-use Rattle.rulmedei.specs.Calls.{text-coded}
+use Rattle.rulmedei.specs.FromCalls.{text-coded}
 use Rattle.rulmedei.proofs.rulmedei_quote_page.Statement.{statement}
 use Rattle.rulmedei.proofs.rulmedei_quote_page.Tie as tie
 
@@ -11,4 +11,4 @@ rulmedei-quote-page-spec =
     (λ c κs. search needs)
     (λ c κs. search needs)
     (λ c. search needs)
-    (λ c. search (text-coded, needs)))
+    (λ c. search (text-coded, needs)))  -- returns

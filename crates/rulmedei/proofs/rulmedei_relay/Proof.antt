@@ -2,7 +2,7 @@
 use borrow.Author.Needs.{needs}
 use Rattle.definition.specs.Answers.{relaySays}
 use Rattle.rulmedei.specs.Codes.{codeOf}
-use Rattle.rulmedei.specs.Calls.{relay-coded}
+use Rattle.rulmedei.specs.FromCalls.{relay-coded}
 use Rattle.rulmedei.proofs.rulmedei_relay.Statement.{statement}
 use Rattle.rulmedei.proofs.rulmedei_relay.Tie as tie
 
@@ -16,6 +16,6 @@ rulmedei-relay-spec =
     (λ c. search needs)
     (λ c κs. search needs)
     (λ c. search needs)
-    (λ c. search (relay-coded, needs))
+    (λ c. search (relay-coded, needs))  -- returns
     (λ c. search needs)
-    (λ c. search (relay-coded, needs)))
+    (λ c. search (relay-coded, needs)))  -- returns-2

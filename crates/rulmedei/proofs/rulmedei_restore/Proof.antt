@@ -1,6 +1,6 @@
 -- `rulmedei::rulmedei_restore`: the call's promise.
 use borrow.Author.Needs.{needs}
-use Rattle.rulmedei.specs.Calls.{restore-coded}
+use Rattle.rulmedei.specs.FromCalls.{restore-coded}
 use Rattle.rulmedei.proofs.rulmedei_restore.Statement.{statement}
 use Rattle.rulmedei.proofs.rulmedei_restore.Tie as tie
 
@@ -13,4 +13,4 @@ rulmedei-restore-spec =
     (λ c. search needs)
     (λ c. search needs)
     (λ c. search needs)
-    (λ c. search (restore-coded, needs)))
+    (λ c. search (restore-coded, needs)))  -- returns

@@ -2,7 +2,7 @@
 use borrow.Author.Needs.{needs}
 use Rattle.definition.specs.Answers.{sampleSays}
 use Rattle.rulmedei.specs.Codes.{codeOf, valueOf}
-use Rattle.rulmedei.specs.Calls.{greys-coded}
+use Rattle.rulmedei.specs.FromCalls.{greys-coded}
 use Rattle.rulmedei.proofs.rulmedei_sample.Statement.{statement}
 use Rattle.rulmedei.proofs.rulmedei_sample.Tie as tie
 
@@ -16,6 +16,6 @@ rulmedei-sample-spec =
     (λ c. search needs)
     (λ c κs. search needs)
     (λ c. search needs)
-    (λ c. search (greys-coded sampleSays, needs))
+    (λ c. search (greys-coded sampleSays, needs))  -- returns
     (λ c. search needs)
-    (λ c. search (greys-coded sampleSays, needs)))
+    (λ c. search (greys-coded sampleSays, needs)))  -- returns-2

@@ -2,7 +2,7 @@
 use borrow.Author.Needs.{needs}
 use Rattle.definition.specs.Answers.{shelfSays}
 use Rattle.rulmedei.specs.Codes.{codeOf}
-use Rattle.rulmedei.specs.Calls.{shelf-coded}
+use Rattle.rulmedei.specs.FromCalls.{shelf-coded}
 use Rattle.rulmedei.proofs.rulmedei_shelf.Statement.{statement}
 use Rattle.rulmedei.proofs.rulmedei_shelf.Tie as tie
 
@@ -16,6 +16,6 @@ rulmedei-shelf-spec =
     (λ c. search needs)
     (λ c κs. search needs)
     (λ c. search needs)
-    (λ c. search (shelf-coded, needs))
+    (λ c. search (shelf-coded, needs))  -- returns
     (λ c. search needs)
-    (λ c. search (shelf-coded, needs)))
+    (λ c. search (shelf-coded, needs)))  -- returns-2

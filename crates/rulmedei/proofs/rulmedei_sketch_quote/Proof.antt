@@ -2,7 +2,7 @@
 use borrow.Author.Needs.{needs}
 use Rattle.definition.specs.Answers.{sketchSays}
 use Rattle.rulmedei.specs.Codes.{codeOf, valuesIn}
-use Rattle.rulmedei.specs.Calls.{sketch-coded}
+use Rattle.rulmedei.specs.FromCalls.{sketch-coded}
 use Rattle.rulmedei.proofs.rulmedei_sketch_quote.Statement.{statement}
 use Rattle.rulmedei.proofs.rulmedei_sketch_quote.Tie as tie
 
@@ -18,8 +18,8 @@ rulmedei-sketch-quote-spec =
     (λ c. search needs)
     (λ c. search needs)
     (λ c. search needs)
-    (λ c. search (sketch-coded, needs))
+    (λ c. search (sketch-coded, needs))  -- returns
     (λ c. search needs)
     (λ c. search needs)
     (λ c. search needs)
-    (λ c. search (sketch-coded, needs)))
+    (λ c. search (sketch-coded, needs)))  -- returns-2

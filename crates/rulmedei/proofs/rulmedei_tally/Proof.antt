@@ -2,7 +2,7 @@
 use borrow.Author.Needs.{needs}
 use Rattle.definition.specs.Answers.{tallySays}
 use Rattle.rulmedei.specs.Codes.{codeOf, valueOf}
-use Rattle.rulmedei.specs.Calls.{tally-coded}
+use Rattle.rulmedei.specs.FromCalls.{tally-coded}
 use Rattle.rulmedei.proofs.rulmedei_tally.Statement.{statement}
 use Rattle.rulmedei.proofs.rulmedei_tally.Tie as tie
 
@@ -15,5 +15,5 @@ rulmedei-tally-spec =
     (λ c. search needs)
     (λ c. search needs)
     (λ c κs. search needs)
-    (λ c. search (tally-coded, needs))
-    (λ c. search (tally-coded, needs)))
+    (λ c. search (tally-coded, needs))  -- returns
+    (λ c. search (tally-coded, needs)))  -- returns-2

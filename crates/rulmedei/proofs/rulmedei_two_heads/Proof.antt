@@ -2,7 +2,7 @@
 use borrow.Author.Needs.{needs}
 use Rattle.definition.specs.Answers.{twoHeadsSays}
 use Rattle.rulmedei.specs.Codes.{codeOf}
-use Rattle.rulmedei.specs.Calls.{two-heads-coded}
+use Rattle.rulmedei.specs.FromCalls.{two-heads-coded}
 use Rattle.rulmedei.proofs.rulmedei_two_heads.Statement.{statement}
 use Rattle.rulmedei.proofs.rulmedei_two_heads.Tie as tie
 
@@ -18,8 +18,8 @@ rulmedei-two-heads-spec =
     (λ c. search needs)
     (λ c. search needs)
     (λ c. search needs)
-    (λ c. search (two-heads-coded, needs))
+    (λ c. search (two-heads-coded, needs))  -- returns
     (λ c. search needs)
     (λ c. search needs)
     (λ c. search needs)
-    (λ c. search (two-heads-coded, needs)))
+    (λ c. search (two-heads-coded, needs)))  -- returns-2

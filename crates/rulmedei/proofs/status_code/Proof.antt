@@ -2,7 +2,7 @@
 use borrow.Author.Needs.{needs}
 use Rattle.definition.specs.Answers.{checkpointSays}
 use Rattle.rulmedei.specs.Codes.{codeOf}
-use Rattle.rulmedei.specs.Calls.{status-coded}
+use Rattle.rulmedei.specs.FromCalls.{status-coded}
 use Rattle.rulmedei.proofs.status_code.Statement.{statement}
 use Rattle.rulmedei.proofs.status_code.Tie as tie
 
@@ -14,5 +14,5 @@ status-code-spec =
     (λ c. search needs)
     (λ c. search needs)
     (λ c κs. search needs)
-    (λ c. search (status-coded, needs))
-    (λ c. search (status-coded, needs)))
+    (λ c. search (status-coded, needs))  -- returns
+    (λ c. search (status-coded, needs)))  -- returns-2

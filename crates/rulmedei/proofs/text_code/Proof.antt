@@ -3,7 +3,7 @@ use mathlib.Core.Path.{refl}
 use borrow.Author.Needs.{needs}
 use Rattle.definition.specs.Answers.{textSays}
 use Rattle.rulmedei.specs.Codes.{codeOf, valueOf}
-use Rattle.rulmedei.specs.Calls.{case-coded}
+use Rattle.rulmedei.specs.FromCalls.{case-coded}
 use Rattle.rulmedei.proofs.text_code.Statement.{statement}
 use Rattle.rulmedei.proofs.text_code.Tie as tie
 
@@ -21,4 +21,4 @@ text-code-spec =
     (λ c. search needs)
     (λ c κs. search needs)
     written
-    (λ c. case-coded _ (c .before .before .answer2 .given .1) (c .number-of .ensures) refl))
+    (λ c. case-coded _ (c .before .before .answer2 .given .1) (c .number-of .ensures) refl))  -- returns-2

@@ -8,7 +8,8 @@ use Rattle.run_cases.proofs.run_calls.Statement.{statement}
 use Rattle.run_cases.proofs.run_calls.Tie as tie
 
 abbrev Inv-loop : tie.InvT-loop
-Inv-loop text from pyramid₀ serials₀ order₀ calls last₀ j₀ pyramid serials order last j = (length pyramid ≡ length pyramid₀) × (length serials ≡ length serials₀) × (length order ≡ length order₀)
+Inv-loop text from pyramid₀ serials₀ order₀ calls last₀ j₀ pyramid serials order last j =
+    (length pyramid ≡ length pyramid₀) × (length serials ≡ length serials₀) × (length order ≡ length order₀)
 
 abbrev μ-loop : tie.MeasureT-loop
 μ-loop text from pyramid₀ serials₀ order₀ calls last₀ j₀ pyramid serials order last j = calls - j

@@ -18,12 +18,16 @@ fill-greys-spec =
     (tie.spec
     Inv-loop
     μ-loop
-    (λ c. (omega arith, sampled-none _ _))
+    (λ c. (omega arith, sampled-none _ _))  -- loop-holds
     (λ c κs. search needs)
     (λ c κs. search needs)
-    (λ c. omega (arith, length-sampled (omega arith) (c .before .before .before .loop .inv .1)))
+    (λ c. omega (arith, length-sampled (omega arith) (c .before .before .before .loop .inv .1)))  -- slice-write-greys
     (λ c. omega arith)
     (λ c. omega arith)
-    (λ c. (omega arith, sampled-more (c .before .before .before .loop .inv .1) (omega arith) (c .before .next-state .ensures) (c .grey-of .ensures)))
-    (λ c. length-sampled (omega arith) (c .before .loop .inv .1))
-    (λ c. sampled-all (c .before .loop .inv .0) (omega arith) (c .before .loop .inv .1)))
+    (λ c. (
+      omega arith,
+      sampled-more (c .before .before .before .loop .inv .1) (omega arith)
+          (c .before .next-state .ensures) (c .grey-of .ensures),
+    ))  -- loop-again
+    (λ c. length-sampled (omega arith) (c .before .loop .inv .1))  -- same-length
+    (λ c. sampled-all (c .before .loop .inv .0) (omega arith) (c .before .loop .inv .1)))  -- returns

@@ -35,21 +35,21 @@ check-lengths-spec =
     (tie.spec
     (λ c κs. search needs)
     (λ c κs. search needs)
-    (λ c. simp (eq-eqb _ 0 (c .if1 .taken)))
+    (λ c. simp (eq-eqb _ 0 (c .if1 .taken)))  -- returns
     no-knit
     (λ c.
     simp (
       ne-eqb _ 0 (c .before .before .if1 .left),
       le-ltb 1 _ (c .before .if2 .left),
       short (c .before .before .before .needed .ensures) (c .if3 .taken),
-    ))
+    ))  -- returns-3
     (λ c.
     simp (
       ne-eqb _ 0 (c .before .before .before .if1 .left),
       le-ltb 1 _ (c .before .before .if2 .left),
       enough (c .before .before .before .before .needed .ensures) (c .before .if3 .left),
       short (c .before .before .before .before .before .cell-count .ensures) (c .if4 .taken),
-    ))
+    ))  -- returns-4
     (λ c.
     simp (
       ne-eqb _ 0 (c .before .before .before .before .if1 .left),
@@ -57,5 +57,5 @@ check-lengths-spec =
       enough (c .before .before .before .before .before .needed .ensures) (c .before .before .if3 .left),
       enough (c .before .before .before .before .before .before .cell-count .ensures) (c .before .if4 .left),
       short (c .before .before .before .before .before .before .cell-count .ensures) (c .if5 .taken),
-    ))
+    ))  -- returns-5
     all-enough)

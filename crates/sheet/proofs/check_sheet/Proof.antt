@@ -11,7 +11,7 @@ check-sheet-spec =
     (λ c κs. search needs)
     (λ c. search needs)
     (λ c. search needs)
-    (λ c κs. ((search needs, search (lengths-passed, needs)), search needs))
-    (λ c. search (quarters-sound, needs))
-    (λ c. search (lengths-failed, needs))
-    (λ c. search (quarters-unsound, needs)))
+    (λ c κs. ((search needs, search (lengths-passed, needs)), search needs))  -- sound-lent-requires
+    (λ c. search (quarters-sound, needs))  -- returns
+    (λ c. search (lengths-failed, needs))  -- returns-2
+    (λ c. search (quarters-unsound, needs)))  -- returns-3

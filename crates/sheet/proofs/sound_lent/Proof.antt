@@ -10,8 +10,8 @@ sound-lent-spec =
     (tie.spec
     (λ c κs. search needs)
     (λ c κs. search needs)
-    (λ c. search (pyramid-part, needs))
-    (λ c. search (serials-part, needs))
-    (λ c. search (order-part, needs))
-    (λ c κs. search (sound-asked, needs))
-    (λ c. search (sound-is, needs)))
+    (λ c. search (pyramid-part, needs))  -- slice-aggregate-is-sound
+    (λ c. search (serials-part, needs))  -- slice-aggregate-is-sound-2
+    (λ c. search (order-part, needs))  -- slice-aggregate-is-sound-3
+    (λ c κs. search (sound-asked, needs))  -- is-sound-requires
+    (λ c. search (sound-is, needs)))  -- returns

@@ -5,7 +5,7 @@ use Rattle.definition.specs.Answers.{numberOf}
 use Rattle.definition.specs.Refusals.{lowest}
 use Rattle.definition.specs.Shelf.{shelfRefusal}
 use Rattle.checks.specs.Checks.{checked, short, enough}
-use Rattle.shelf.specs.Calls.{shelf-length, shelf-fits}
+use Rattle.shelf.specs.WaysOut.{shelf-length, shelf-fits}
 use Rattle.shelf.proofs.check_shelf.Statement.{statement}
 use Rattle.shelf.proofs.check_shelf.Tie as tie
 
@@ -25,20 +25,20 @@ unfolding checked numberOf lowest shelfRefusal
 check-shelf-spec =
     tie.close
     (tie.spec
-    (λ c. simp (eq-eqb _ 0 (c .if1 .taken)))
+    (λ c. simp (eq-eqb _ 0 (c .if1 .taken)))  -- returns
     (λ c κs. search needs)
-    (λ c. search (shelf-fits, needs))
+    (λ c. search (shelf-fits, needs))  -- mul-places
     (λ c.
     let w = c .before in
     simp (
       ne-eqb _ 0 (w .before .if1 .left),
       short (shelf-length (w .before .before .args .n) (w .cell-count .ensures)) (c .if2 .taken),
-    ))
+    ))  -- returns-2
     (λ c.
     let w = c .before .before in
     simp (
       ne-eqb _ 0 (w .before .if1 .left),
       enough (shelf-length (w .before .before .args .n) (w .cell-count .ensures)) (c .before .if2 .left),
       lt-ltb _ _ (c .if3 .taken),
-    ))
+    ))  -- returns-3
     none-short)

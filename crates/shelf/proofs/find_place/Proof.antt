@@ -19,16 +19,16 @@ find-place-spec =
     (tie.spec
     Inv-loop
     μ-loop
-    (λ c. search (search-start, needs))
+    (λ c. search (search-start, needs))  -- loop-holds
     (λ c. omega arith)
     (λ c. omega arith)
     (λ c. omega arith)
     (λ c. omega arith)
-    (λ c. search (middle-fits, needs))
-    (λ c κs. search (middle-asked, needs))
+    (λ c. search (middle-fits, needs))  -- cast-plate-before
+    (λ c κs. search (middle-asked, needs))  -- plate-before-requires
     (λ c. omega arith)
-    (λ c. search (left-half, needs))
+    (λ c. search (left-half, needs))  -- loop-again
     (λ c. omega arith)
     (λ c. omega arith)
-    (λ c. search (right-half, needs))
-    (λ c. search (search-end, needs)))
+    (λ c. search (right-half, needs))  -- loop-again-2
+    (λ c. search (search-end, needs)))  -- returns

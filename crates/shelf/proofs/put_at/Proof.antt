@@ -20,15 +20,15 @@ put-at-spec =
     (tie.spec
     Inv-loop
     μ-loop
-    (λ c. search (carry-start, needs))
+    (λ c. search (carry-start, needs))  -- loop-holds
     (λ c. omega arith)
     (λ c. omega arith)
     (λ c. omega arith)
     (λ c. omega arith)
     (λ c. search needs)
     (λ c. omega arith)
-    (λ c. search (carry-next, needs))
+    (λ c. search (carry-next, needs))  -- loop-again
     (λ c. omega arith)
     (λ c. omega arith)
-    (λ c. simp length-set (c .before .loop .inv .long))
-    (λ c. search (carry-last, needs)))
+    (λ c. simp length-set (c .before .loop .inv .long))  -- same-length
+    (λ c. search (carry-last, needs)))  -- returns

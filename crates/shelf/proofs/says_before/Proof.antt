@@ -18,8 +18,8 @@ says-before-spec =
     (λ c. search needs)
     (λ c. search needs)
     (λ c. rw (c .enum-told .given .1))
-    (λ c. search (case-says, needs))
+    (λ c. search (case-says, needs))  -- returns-2
     (λ c. rw (c .enum-told2 .given .1))
-    (λ c. search (case-says, needs))
+    (λ c. search (case-says, needs))  -- returns-4
     (λ c. rw (c .enum-told3 .given .1))
-    (λ c. search (case-says, needs)))
+    (λ c. search (case-says, needs)))  -- returns-6

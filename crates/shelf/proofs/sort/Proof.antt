@@ -18,13 +18,13 @@ sort-spec =
     (tie.spec
     Inv-loop
     μ-loop
-    (λ c. search (sort-start, needs))
+    (λ c. search (sort-start, needs))  -- loop-holds
     (λ c. omega arith)
-    (λ c κs. search (place-asked, needs))
+    (λ c κs. search (place-asked, needs))  -- find-place-requires
     (λ c. omega arith)
-    (λ c κs. search (put-asked, needs))
+    (λ c κs. search (put-asked, needs))  -- put-at-requires
     (λ c. omega arith)
     (λ c. omega arith)
-    (λ c. search (sort-next, needs))
+    (λ c. search (sort-next, needs))  -- loop-again
     (λ c. c .before .loop .inv .long)
-    (λ c. search (sort-end, needs)))
+    (λ c. search (sort-end, needs)))  -- returns

@@ -13,5 +13,9 @@ cell-count-spec =
     tie.close
     (tie.spec
     (λ c κs. search needs)
-    (λ c. let le : c .pow2 .result ≤ 256 = rw (c .pow2 .ensures) (pow-mono {i = c .before .args .r} {j = 8} (c .before .pre)) in record { fits = omega (arith, mul-le-mul le le) })
-    (λ c. ap₂ _*_ (c .pow2 .ensures) (c .pow2 .ensures)))
+    (λ c. let le : c .pow2 .result
+    ≤ 256 =
+    rw (c .pow2 .ensures) (pow-mono {i = c .before .args .r} {j = 8} (c .before .pre)) in record {
+      fits = omega (arith, mul-le-mul le le);
+    })  -- mul-result
+    (λ c. ap₂ _*_ (c .pow2 .ensures) (c .pow2 .ensures)))  -- returns

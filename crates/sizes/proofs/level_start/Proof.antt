@@ -10,5 +10,5 @@ level-start-spec =
     (tie.spec
     (λ c. search needs)
     (λ c. search needs)
-    (λ c. search (shifted-some, needs))
-    (λ c. search (shifted-start, needs)))
+    (λ c. search (shifted-some, needs))  -- sub-result
+    (λ c. search (shifted-start, needs)))  -- returns

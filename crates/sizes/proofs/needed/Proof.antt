@@ -12,4 +12,4 @@ needed-spec =
     (tie.spec
     (λ c. search needs)
     (λ c κs. search needs)
-    (λ c. c .level-start .ensures ∙ ap start (add-one _)))
+    (λ c. c .level-start .ensures ∙ ap start (add-one _)))  -- returns

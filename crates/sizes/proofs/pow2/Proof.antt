@@ -10,4 +10,4 @@ pow2-spec =
     tie.close
     (tie.spec
     (λ c. search needs)
-    (λ c. shifted _ (omega arith)))
+    (λ c. shifted _ (omega arith)))  -- returns

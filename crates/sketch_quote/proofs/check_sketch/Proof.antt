@@ -13,9 +13,9 @@ check-sketch-spec =
     (tie.spec
     (λ c κs. search needs)
     (λ c κs. search needs)
-    (λ c. search (not-there, needs))
-    (λ c. search (pair-falls, needs))
-    (λ c. search (level-unknown, needs))
+    (λ c. search (not-there, needs))  -- returns
+    (λ c. search (pair-falls, needs))  -- returns-2
+    (λ c. search (level-unknown, needs))  -- returns-3
     (λ c κs. search needs)
-    (λ c. search (caps-short, needs))
-    (λ c. search (nothing-short, needs)))
+    (λ c. search (caps-short, needs))  -- returns-4
+    (λ c. search (nothing-short, needs)))  -- returns-5

@@ -3,7 +3,7 @@ use mathlib.Core.Path.{sym}
 use lib.Seq.{length-take-le}
 use borrow.Author.Needs.{needs}
 use Rattle.refusals.specs.Powers.{power-small}
-use Rattle.sketch_quote.specs.Calls.{sketch-refused, figures-asked, sketch-quoted}
+use Rattle.sketch_quote.specs.WaysOut.{sketch-refused, figures-asked, sketch-quoted}
 use Rattle.sketch_quote.proofs.quote_cells.Statement.{statement}
 use Rattle.sketch_quote.proofs.quote_cells.Tie as tie
 
@@ -21,15 +21,15 @@ quote-cells-spec =
     (tie.spec
     (λ c. search needs)
     (λ c κs. search needs)
-    (λ c κs. search (power-small, needs))
+    (λ c κs. search (power-small, needs))  -- check-sketch-requires
     (λ c. search needs)
     (λ c. search needs)
     (λ c κs. search needs)
     (λ c. search needs)
-    (λ c. sym (length-take-le _ _ (search needs)))
+    (λ c. sym (length-take-le _ _ (search needs)))  -- slice-aggregate-put-figures
     (λ c. search needs)
-    (λ c. sym (length-take-le _ _ (search needs)))
-    (λ c κs. search (figures-asked, needs))
+    (λ c. sym (length-take-le _ _ (search needs)))  -- slice-aggregate-put-figures-2
+    (λ c κs. search (figures-asked, needs))  -- put-figures-requires
     left-alone
     (λ c. search needs)
     (λ c. search needs)

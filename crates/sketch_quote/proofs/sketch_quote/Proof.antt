@@ -1,6 +1,6 @@
 -- `sketch_quote::sketch_quote`: what the first line says, told apart.
 use borrow.Author.Needs.{needs}
-use Rattle.sketch_quote.specs.Calls.{first-refused, first-good}
+use Rattle.sketch_quote.specs.WaysOut.{first-refused, first-good}
 use Rattle.sketch_quote.proofs.sketch_quote.Statement.{statement}
 use Rattle.sketch_quote.proofs.sketch_quote.Tie as tie
 
@@ -16,7 +16,7 @@ sketch-quote-spec =
     (λ c κs. search needs)
     (λ c. search needs)
     (λ c. search needs)
-    (λ c κs. search (first-good, needs))
+    (λ c κs. search (first-good, needs))  -- quote-cells-requires
     left-alone
     (λ c. search needs)
     (λ c. search needs)

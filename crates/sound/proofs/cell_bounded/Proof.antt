@@ -12,5 +12,5 @@ cell-bounded-spec =
     (λ c. search needs)
     (λ c. search needs)
     (λ c. search needs)
-    (λ c. search (bounded-free, needs))
-    (λ c. search (bounded-burnt, needs)))
+    (λ c. search (bounded-free, needs))  -- returns
+    (λ c. search (bounded-burnt, needs)))  -- returns-2

@@ -9,9 +9,9 @@ pub cell-held-spec : {M : Type 1} → statement M
 cell-held-spec =
     tie.close
     (tie.spec
-    (λ c. omega (arith, cell-few (c .before .pre)))
-    (λ c. omega (arith, cell-few (c .before .pre)))
-    (λ c κs. search (cell-asked, needs))
-    (λ c. search (over, needs))
+    (λ c. omega (arith, cell-few (c .before .pre)))  -- mul-cell-bounded
+    (λ c. omega (arith, cell-few (c .before .pre)))  -- add-cell-bounded
+    (λ c κs. search (cell-asked, needs))  -- cell-bounded-requires
+    (λ c. search (over, needs))  -- returns
     (λ c κs. search needs)
-    (λ c. search (not-over, needs)))
+    (λ c. search (not-over, needs)))  -- returns-2

@@ -10,7 +10,7 @@ cell-owing-spec =
     (tie.spec
     (λ c. search needs)
     (λ c. search needs)
-    (λ c. search (owing-positive, needs))
-    (λ c κs. search (near-asked, needs))
+    (λ c. search (owing-positive, needs))  -- returns
+    (λ c κs. search (near-asked, needs))  -- burnt-near-requires
     (λ c κs. search needs)
-    (λ c. search (owing-near, needs)))
+    (λ c. search (owing-near, needs)))  -- returns-2

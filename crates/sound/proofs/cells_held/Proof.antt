@@ -2,7 +2,7 @@
 use Prim.Native.Nat.{_+_, _-_, _^_, _<_}
 use native.Mathlib.Omega.{arith}
 use borrow.Author.Needs.{needs}
-use Rattle.sound.specs.Asked.{heldRow}
+use Rattle.sound.specs.OnePlace.{heldRow}
 use Rattle.integers.specs.Loops.{Held, none, turn, fails, passes}
 use Rattle.sound.specs.Cells.{side-small, line-asked, first-few, row-asked, row-there, held-every}
 use Rattle.sound.proofs.cells_held.Statement.{statement}
@@ -23,16 +23,16 @@ cells-held-spec =
     μ-loop
     (λ c κs. omega arith)
     (λ c κs. omega arith)
-    (λ c κs. (search (side-small, needs), search needs))
-    (λ c. none)
-    (λ c κs. (search (line-asked, needs), search needs))
+    (λ c κs. (search (side-small, needs), search needs))  -- column-places-requires
+    (λ c. none)  -- loop-holds
+    (λ c κs. (search (line-asked, needs), search needs))  -- row-place-requires
     (λ c.
     let u : c .before .before .before .before .level-start .result + c .row-place .result < 2 ^ 20 =
     search (first-few, needs) in
-    omega arith)
-    (λ c κs. search (row-asked, needs))
-    (λ c. search (fails, held-every, row-there, needs))
+    omega arith)  -- add-first
+    (λ c κs. search (row-asked, needs))  -- row-held-requires
+    (λ c. search (fails, held-every, row-there, needs))  -- returns
     (λ c. omega arith)
     (λ c. omega arith)
-    (λ c. search (turn, row-there, needs))
-    (λ c. search (passes, held-every, needs)))
+    (λ c. search (turn, row-there, needs))  -- loop-again
+    (λ c. search (passes, held-every, needs)))  -- returns-2

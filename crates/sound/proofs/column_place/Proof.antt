@@ -8,6 +8,6 @@ pub column-place-spec : {M : Type 1} → statement M
 column-place-spec =
     tie.close
     (tie.spec
-    (λ c. search (column-by-rows, needs))
+    (λ c. search (column-by-rows, needs))  -- returns
     (λ c κs. search needs)
-    (λ c. search (column-by-quarters, needs)))
+    (λ c. search (column-by-quarters, needs)))  -- returns-2

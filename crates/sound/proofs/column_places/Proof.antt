@@ -3,7 +3,7 @@ use mathlib.Core.Path.{refl}
 use Prim.Native.Nat.{_-_, _≤_}
 use native.Mathlib.Omega.{arith}
 use borrow.Author.Needs.{needs}
-use Rattle.sound.specs.Asked.{ColumnPlaces}
+use Rattle.sound.specs.OnePlace.{ColumnPlaces}
 use Rattle.sound.specs.Cells.{columns-none, columns-turn, columns-all}
 use Rattle.sound.proofs.column_places.Statement.{statement}
 use Rattle.sound.proofs.column_places.Tie as tie
@@ -20,11 +20,15 @@ column-places-spec =
     (tie.spec
     Inv-loop
     μ-loop
-    (λ c. (omega arith, columns-none refl))
+    (λ c. (omega arith, columns-none refl))  -- loop-holds
     (λ c κs. (omega arith, search needs))
     (λ c. omega arith)
     (λ c. omega arith)
     (λ c. omega arith)
     (λ c. omega arith)
-    (λ c. (omega arith, columns-turn (c .before .before .loop .inv .1) (omega arith) (c .column-place .ensures)))
-    (λ c. search (columns-all, needs)))
+    (λ c. (
+      omega arith,
+      columns-turn (c .before .before .loop .inv .1) (omega arith)
+          (c .column-place .ensures),
+    ))  -- loop-again
+    (λ c. search (columns-all, needs)))  -- returns

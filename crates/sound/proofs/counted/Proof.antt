@@ -12,7 +12,8 @@ use Rattle.sound.proofs.counted.Tie as tie
 use Rattle.quadtree.specs.Levels.{cells-few}
 
 abbrev Inv-loop : tie.InvT-loop
-Inv-loop r serials dots cells sum₀ cell₀ sum cell = (cell ≤ cells) × Total (sumTo cell (λ m. burnt (getD serials m 0))) (cell * 1) sum
+Inv-loop r serials dots cells sum₀ cell₀ sum cell =
+    (cell ≤ cells) × Total (sumTo cell (λ m. burnt (getD serials m 0))) (cell * 1) sum
 
 abbrev μ-loop : tie.MeasureT-loop
 μ-loop r serials dots cells sum₀ cell₀ sum cell = cells - cell
@@ -24,12 +25,12 @@ counted-spec =
     Inv-loop
     μ-loop
     (λ c κs. omega arith)
-    (λ c. (omega arith, none _ 1))
+    (λ c. (omega arith, none _ 1))  -- loop-holds
     (λ c. omega arith)
     (λ c. omega arith)
     (λ c κs. tt)
-    (λ c. omega (arith, cells-few _ (c .before .before .before .before .before .before .pre .most)))
+    (λ c. omega (arith, cells-few _ (c .before .before .before .before .before .before .pre .most)))  -- add-sum
     (λ c. omega arith)
     (λ c. omega arith)
-    (λ c. (omega arith, turn _ _ 1 (c .before .before .before .loop .inv .1) (c .mark .ensures)))
-    (λ c. search (counted-is, needs)))
+    (λ c. (omega arith, turn _ _ 1 (c .before .before .before .loop .inv .1) (c .mark .ensures)))  -- loop-again
+    (λ c. search (counted-is, needs)))  -- returns

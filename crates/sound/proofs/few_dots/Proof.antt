@@ -9,4 +9,4 @@ few-dots-spec =
     tie.close
     (tie.spec
     (λ c κs. search needs)
-    (λ c. search (few-dots-is, needs)))
+    (λ c. search (few-dots-is, needs)))  -- returns

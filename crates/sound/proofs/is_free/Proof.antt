@@ -8,7 +8,7 @@ pub is-free-spec : {M : Type 1} → statement M
 is-free-spec =
     tie.close
     (tie.spec
-    (λ c. search (free-used, needs))
+    (λ c. search (free-used, needs))  -- returns
     (λ c. search needs)
     (λ c. search needs)
-    (λ c. search (free-zero, needs)))
+    (λ c. search (free-zero, needs)))  -- returns-2

@@ -13,9 +13,13 @@ is-next-spec =
     (λ c. search needs)
     (λ c. search needs)
     (λ c. omega (arith, c .shared-slice-known .given (c .before .args .i)))
-    (λ c. search (next-off, needs))
+    (λ c. search (next-off, needs))  -- returns
     (λ c. search needs)
     (λ c. search needs)
-    (λ c. omega (arith, c .shared-slice-known2 .given (getD (c .before .before .before .args .order .now) (c .before .before .before .args .i) 0)))
+    (λ c. omega (
+      arith,
+      c .shared-slice-known2 .given
+          (getD (c .before .before .before .args .order .now) (c .before .before .before .args .i) 0),
+    ))  -- cast-result
     (λ c. search needs)
-    (λ c. search (next-on, needs)))
+    (λ c. search (next-on, needs)))  -- returns-2

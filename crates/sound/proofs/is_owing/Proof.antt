@@ -9,6 +9,6 @@ is-owing-spec =
     tie.close
     (tie.spec
     (λ c. search needs)
-    (λ c. search (owed-fits, needs))
-    (λ c. search (least-fits, needs))
-    (λ c. search (owing-is, needs)))
+    (λ c. search (owed-fits, needs))  -- mul-result
+    (λ c. search (least-fits, needs))  -- sub-result
+    (λ c. search (owing-is, needs)))  -- returns

@@ -11,17 +11,18 @@ is-sound-spec =
     tie.close
     (tie.spec
     (λ c κs. search needs)
-    (λ c. search (few-no, failed, needs))
-    (λ c κs. search (numbered-asked, needs))
-    (λ c. search (numbered-no, failed, needs))
+    (λ c. search (few-no, failed, needs))  -- returns
+    (λ c κs. search (numbered-asked, needs))  -- numbered-requires
+    (λ c. search (numbered-no, failed, needs))  -- returns-2
     (λ c κs. search needs)
-    (λ c. search (counted-no, failed, needs))
+    (λ c. search (counted-no, failed, needs))  -- returns-3
     (λ c κs. search needs)
-    (λ c. search (unused-no, failed, needs))
+    (λ c. search (unused-no, failed, needs))  -- returns-4
     (λ c κs. search needs)
-    (λ c. search (cells-no, failed, needs))
+    (λ c. search (cells-no, failed, needs))  -- returns-5
     (λ c κs.
     let m = c .before .before .before .before .before in
     let s = m .before .before .before .before .before .before .before in
-    summed-asked _ _ _ (s .args .serials .now) (s .pre .0) (c .before .cells-held .ensures) (c .if5 .left))
-    (λ c. search (all-but-sums, held, needs)))
+    summed-asked _ _ _ (s .args .serials .now) (s .pre .0) (c .before .cells-held .ensures)
+    (c .if5 .left))  -- summed-requires
+    (λ c. search (all-but-sums, held, needs)))  -- returns-6

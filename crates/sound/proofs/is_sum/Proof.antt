@@ -11,4 +11,4 @@ is-sum-spec =
     (λ c κs. search needs)
     (λ c. search needs)
     (λ c. search needs)
-    (λ c. search (sum-told, needs)))
+    (λ c. search (sum-told, needs)))  -- returns

@@ -2,7 +2,7 @@
 use Prim.Native.Nat.{_-_}
 use native.Mathlib.Omega.{arith}
 use borrow.Author.Needs.{needs}
-use Rattle.sound.specs.Asked.{sumAt}
+use Rattle.sound.specs.OnePlace.{sumAt}
 use Rattle.integers.specs.Loops.{Held, none, turn, fails, passes}
 use Rattle.sound.specs.Sums.{sides-asked, in-square, level-every}
 use Rattle.sound.proofs.level_summed.Statement.{statement}
@@ -25,10 +25,10 @@ level-summed-spec =
     (λ c. search needs)
     (λ c κs. search needs)
     (λ c κs. search needs)
-    (λ c. none)
-    (λ c κs. (search (sides-asked, needs), search (in-square, needs)))
-    (λ c. search (fails, level-every, needs))
+    (λ c. none)  -- loop-holds
+    (λ c κs. (search (sides-asked, needs), search (in-square, needs)))  -- place-summed-requires
+    (λ c. search (fails, level-every, needs))  -- returns
     (λ c. omega arith)
     (λ c. omega arith)
-    (λ c. search (turn, needs))
-    (λ c. search (passes, level-every, needs)))
+    (λ c. search (turn, needs))  -- loop-again
+    (λ c. search (passes, level-every, needs)))  -- returns-2

@@ -2,7 +2,7 @@
 use Prim.Native.Nat.{_-_}
 use native.Mathlib.Omega.{arith}
 use borrow.Author.Needs.{needs}
-use Rattle.sound.specs.Asked.{nextAt}
+use Rattle.sound.specs.OnePlace.{nextAt}
 use Rattle.integers.specs.Loops.{Held, none, turn, fails, passes}
 use Rattle.sound.specs.Places.{numbered-every}
 use Rattle.sound.proofs.numbered.Statement.{statement}
@@ -21,10 +21,10 @@ numbered-spec =
     Inv-loop
     μ-loop
     (λ c κs. omega arith)
-    (λ c. none)
+    (λ c. none)  -- loop-holds
     (λ c κs. search needs)
-    (λ c. search (fails, numbered-every, needs))
+    (λ c. search (fails, numbered-every, needs))  -- returns
     (λ c. omega arith)
     (λ c. omega arith)
-    (λ c. search (turn, needs))
-    (λ c. search (passes, numbered-every, needs)))
+    (λ c. search (turn, needs))  -- loop-again
+    (λ c. search (passes, numbered-every, needs)))  -- returns-2

@@ -8,5 +8,5 @@ pub on-side-spec : {M : Type 1} → statement M
 on-side-spec =
     tie.close
     (tie.spec
-    (λ c. search (off-side, needs))
-    (λ c. search (on-side-is, needs)))
+    (λ c. search (off-side, needs))  -- returns
+    (λ c. search (on-side-is, needs)))  -- returns-2

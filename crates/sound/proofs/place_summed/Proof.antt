@@ -10,9 +10,9 @@ place-summed-spec =
     tie.close
     (tie.spec
     (λ c κs. search needs)
-    (λ c. search (sum-by-rows, needs))
-    (λ c. omega (arith, below-quarter (c .before .pre .0) (c .before .pre .1)))
-    (λ c. omega (arith, below-quarter (c .before .pre .0) (c .before .pre .1)))
-    (λ c. omega (arith, below-quarter (c .before .pre .0) (c .before .pre .1)))
-    (λ c κs. search (quarter-asked, needs))
-    (λ c. search (sum-by-quarters, needs)))
+    (λ c. search (sum-by-rows, needs))  -- returns
+    (λ c. omega (arith, below-quarter (c .before .pre .0) (c .before .pre .1)))  -- add-is-sum
+    (λ c. omega (arith, below-quarter (c .before .pre .0) (c .before .pre .1)))  -- mul-is-sum
+    (λ c. omega (arith, below-quarter (c .before .pre .0) (c .before .pre .1)))  -- add-is-sum-2
+    (λ c κs. search (quarter-asked, needs))  -- is-sum-requires
+    (λ c. search (sum-by-quarters, needs)))  -- returns-2

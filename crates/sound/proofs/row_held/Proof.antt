@@ -2,7 +2,7 @@
 use Prim.Native.Nat.{_-_}
 use native.Mathlib.Omega.{arith}
 use borrow.Author.Needs.{needs}
-use Rattle.sound.specs.Asked.{heldIn}
+use Rattle.sound.specs.OnePlace.{heldIn}
 use Rattle.integers.specs.Loops.{Held, none, turn, fails, passes}
 use Rattle.sound.specs.Cells.{place-few, held-asked, row-every}
 use Rattle.sound.proofs.row_held.Statement.{statement}
@@ -21,13 +21,13 @@ row-held-spec =
     (tie.spec
     Inv-loop
     μ-loop
-    (λ c. none)
+    (λ c. none)  -- loop-holds
     (λ c. omega arith)
     (λ c. omega arith)
     (λ c. omega (arith, place-few (c .before .before .before .before .pre) (c .before .loop-test .taken)))
-    (λ c κs. search (held-asked, needs))
-    (λ c. search (fails, row-every, needs))
+    (λ c κs. search (held-asked, needs))  -- cell-held-requires
+    (λ c. search (fails, row-every, needs))  -- returns
     (λ c. omega arith)
     (λ c. omega arith)
-    (λ c. search (turn, needs))
-    (λ c. search (passes, row-every, needs)))
+    (λ c. search (turn, needs))  -- loop-again
+    (λ c. search (passes, row-every, needs)))  -- returns-2

@@ -9,7 +9,7 @@ pub row-place-spec : {M : Type 1} → statement M
 row-place-spec =
     tie.close
     (tie.spec
-    (λ c. omega (arith, row-fits (c .before .pre .0)))
-    (λ c. search (row-by-rows, needs))
+    (λ c. omega (arith, row-fits (c .before .pre .0)))  -- mul-result
+    (λ c. search (row-by-rows, needs))  -- returns
     (λ c κs. search needs)
-    (λ c. search (row-by-quarters, needs)))
+    (λ c. search (row-by-quarters, needs)))  -- returns-2

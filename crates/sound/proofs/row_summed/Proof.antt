@@ -13,10 +13,10 @@ row-summed-spec =
     (λ c. search needs)
     (λ c. search needs)
     (λ c. search needs)
-    (λ c. omega (arith, below (c .pre .0) (c .pre .1)))
-    (λ c. omega (arith, below (c .pre .0) (c .pre .1)))
-    (λ c. omega (arith, below (c .pre .0) (c .pre .1)))
-    (λ c. omega (arith, below (c .pre .0) (c .pre .1)))
-    (λ c. omega (arith, below (c .pre .0) (c .pre .1)))
-    (λ c κs. search (sum-asked, needs))
+    (λ c. omega (arith, below (c .pre .0) (c .pre .1)))  -- mul-is-sum
+    (λ c. omega (arith, below (c .pre .0) (c .pre .1)))  -- mul-is-sum-2
+    (λ c. omega (arith, below (c .pre .0) (c .pre .1)))  -- mul-is-sum-3
+    (λ c. omega (arith, below (c .pre .0) (c .pre .1)))  -- add-is-sum-2
+    (λ c. omega (arith, below (c .pre .0) (c .pre .1)))  -- add-is-sum-3
+    (λ c κs. search (sum-asked, needs))  -- is-sum-requires
     (λ c. search needs))

@@ -17,11 +17,13 @@ summed-spec =
     (tie.spec
     Inv-loop
     μ-loop
-    (λ c. search (last-level, needs))
+    (λ c. search (last-level, needs))  -- loop-holds
     (λ c. omega arith)
-    (λ c κs. next-asked (c .before .before .pre) (c .before .loop .inv) (omega arith))
-    (λ c. fails (c .before .before .before .loop .inv) (omega arith) (c .before .level-summed .ensures) (c .if1 .taken))
+    (λ c κs. next-asked (c .before .before .pre) (c .before .loop .inv) (omega arith))  -- level-summed-requires
+    (λ c. fails (c .before .before .before .loop .inv) (omega arith) (c .before .level-summed .ensures)
+    (c .if1 .taken))  -- returns
     (λ c. omega arith)
     (λ c. omega arith)
-    (λ c. turn (c .before .before .before .loop .inv) (omega arith) (c .before .level-summed .ensures) (c .if1 .left))
-    (λ c. passes (c .before .loop .inv) (omega arith)))
+    (λ c. turn (c .before .before .before .loop .inv) (omega arith) (c .before .level-summed .ensures)
+    (c .if1 .left))  -- loop-again
+    (λ c. passes (c .before .loop .inv) (omega arith)))  -- returns-2

@@ -2,7 +2,7 @@
 use Prim.Native.Nat.{_-_}
 use native.Mathlib.Omega.{arith}
 use borrow.Author.Needs.{needs}
-use Rattle.sound.specs.Asked.{freeAt}
+use Rattle.sound.specs.OnePlace.{freeAt}
 use Rattle.integers.specs.Loops.{Held, none, turn, fails, passes}
 use Rattle.sound.specs.Places.{unused-every}
 use Rattle.sound.proofs.unused.Statement.{statement}
@@ -21,10 +21,10 @@ unused-spec =
     Inv-loop
     μ-loop
     (λ c κs. omega arith)
-    (λ c. none)
+    (λ c. none)  -- loop-holds
     (λ c κs. search needs)
-    (λ c. search (fails, unused-every, needs))
+    (λ c. search (fails, unused-every, needs))  -- returns
     (λ c. omega arith)
     (λ c. omega arith)
-    (λ c. search (turn, needs))
-    (λ c. search (passes, unused-every, needs)))
+    (λ c. search (turn, needs))  -- loop-again
+    (λ c. search (passes, unused-every, needs)))  -- returns-2

@@ -15,4 +15,4 @@ item-at-spec =
     (λ c κs. search needs)
     (λ c κs. search needs)
     (λ c κs. search needs)
-    (λ c. search (item-read, needs)))
+    (λ c. search (item-read, needs)))  -- returns

@@ -35,7 +35,7 @@ make-actions-spec =
     (tie.spec
     Inv-loop
     μ-loop
-    (λ c. search (begins, needs))
+    (λ c. search (begins, needs))  -- loop-holds
     (λ c κs. search needs)
     (λ c κs. search needs)
     in-range
@@ -44,4 +44,4 @@ make-actions-spec =
     (λ c. search needs)
     (λ c. search needs)
     (λ c. search needs)
-    (λ c. search (all-acted, needs)))
+    (λ c. search (all-acted, needs)))  -- returns

@@ -14,12 +14,13 @@ one-action-spec =
     (λ c. search needs)
     (λ c. search needs)
     (λ c. search needs)
-    (λ c. search (went-back, needs))
+    (λ c. search (went-back, needs))  -- returns
     (λ c κs. search needs)
     (λ c κs. search needs)
-    (λ c. search (wrote-down, needs))
+    (λ c. search (wrote-down, needs))  -- returns-2
     (λ c κs. search needs)
     (λ c. search needs)
     (λ c. search needs)
     (λ c. search needs)
-    (λ c. went-on _ _ _ _ _ _ (omega arith) (c .before .before .before .before .before .one-call .ensures)))
+    (λ c. went-on _ _ _ _ _ _ (omega arith)
+    (c .before .before .before .before .before .one-call .ensures)))  -- returns-3

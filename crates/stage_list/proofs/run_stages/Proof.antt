@@ -1,4 +1,4 @@
--- `stage_list::run_stages`: what the calls leave after Load, and request 7 of it.
+-- `stage_list::run_stages`: what the calls leave after Load, and the promise of names of it.
 use borrow.Author.Needs.{needs}
 use Rattle.stage_list.specs.ManyItems.{acted-on}
 use Rattle.stage_list.proofs.run_stages.Statement.{statement}

@@ -45,18 +45,18 @@ pub +walk-spec : {M : Type 1} → statement M
       join-reads.Learnt,
     )
     (walk-at t) walk.Post
-    (λ c. let z = c .before .before in omega (arith, z .pre .1 .level, z .pre .1 .block .powers))
-    (λ c κs. at-cells (c .before .before .before .before .pre .1) (c .before .if1 .taken))
-    (λ c. returned (c .before .before .before .before .before .pre .1 .block) (c .walk-cells .ensures))
-    (λ c. omega (arith, block-few (c .before .before .before .pre .1)))
-    (λ c. omega (arith, block-few (c .before .before .before .pre .1)))
+    (λ c. let z = c .before .before in omega (arith, z .pre .1 .level, z .pre .1 .block .powers))  -- add-below
+    (λ c κs. at-cells (c .before .before .before .before .pre .1) (c .before .if1 .taken))  -- walk-cells-requires
+    (λ c. returned (c .before .before .before .before .before .pre .1 .block) (c .walk-cells .ensures))  -- returns
+    (λ c. omega (arith, block-few (c .before .before .before .pre .1)))  -- mul-row
+    (λ c. omega (arith, block-few (c .before .before .before .pre .1)))  -- mul-column
     (λ c κs.
     let e = c .before in
     let z = e .before .before .before in (
       omega (arith, z .pre .0, z .pre .1 .level),
       deeper (quarter-asked (z .pre .1) _ _ (omega arith) (omega arith)) (room-first (z .pre .1)) (e .if1 .left),
-    ))
-    (λ c. omega (arith, block-few (c .before .before .before .before .before .pre .1)))
+    ))  -- walk-requires
+    (λ c. omega (arith, block-few (c .before .before .before .before .before .pre .1)))  -- add-walk
     (λ c κs.
     let w₁ = c .before in
     let e = w₁ .before .before in
@@ -64,8 +64,8 @@ pub +walk-spec : {M : Type 1} → statement M
       omega (arith, z .pre .0, z .pre .1 .level),
       deeper (quarter-asked (z .pre .1) _ _ (omega arith) (omega arith))
           (room-second (z .pre .1) (w₁ .walk .ensures)) (e .if1 .left),
-    ))
-    (λ c. omega (arith, block-few (c .before .before .before .before .before .before .before .pre .1)))
+    ))  -- walk-requires-2
+    (λ c. omega (arith, block-few (c .before .before .before .before .before .before .before .pre .1)))  -- add-walk-2
     (λ c κs.
     let w₂ = c .before in
     let w₁ = w₂ .before .before in
@@ -74,9 +74,17 @@ pub +walk-spec : {M : Type 1} → statement M
       omega (arith, z .pre .0, z .pre .1 .level),
       deeper (quarter-asked (z .pre .1) _ _ (omega arith) (omega arith))
           (room-third (z .pre .1) (w₁ .walk .ensures) (w₂ .walk2 .ensures)) (e .if1 .left),
-    ))
-    (λ c. omega (arith, block-few (c .before .before .before .before .before .before .before .before .before .pre .1)))
-    (λ c. omega (arith, block-few (c .before .before .before .before .before .before .before .before .before .pre .1)))
+    ))  -- walk-requires-3
+    (λ c. omega (
+      arith,
+      block-few
+          (c .before .before .before .before .before .before .before .before .before .pre .1),
+    ))  -- add-walk-3
+    (λ c. omega (
+      arith,
+      block-few
+          (c .before .before .before .before .before .before .before .before .before .pre .1),
+    ))  -- add-walk-4
     (λ c κs.
     let w₃ = c .before in
     let w₂ = w₃ .before .before in
@@ -86,14 +94,15 @@ pub +walk-spec : {M : Type 1} → statement M
       omega (arith, z .pre .0, z .pre .1 .level),
       deeper (quarter-asked (z .pre .1) _ _ (omega arith) (omega arith))
           (room-fourth (z .pre .1) (w₁ .walk .ensures) (w₂ .walk2 .ensures) (w₃ .walk3 .ensures)) (e .if1 .left),
-    ))
+    ))  -- walk-requires-4
     (λ c κs.
     let w₄ = c .before in
     let w₃ = w₄ .before .before in
     let w₂ = w₃ .before .before in
     let w₁ = w₂ .before .before in
     let z = w₁ .before .before .before .before .before in
-    join-asked (z .pre .1) (w₁ .walk .ensures) (w₂ .walk2 .ensures) (w₃ .walk3 .ensures) (w₄ .walk4 .ensures))
+    join-asked (z .pre .1) (w₁ .walk .ensures) (w₂ .walk2 .ensures) (w₃ .walk3 .ensures)
+    (w₄ .walk4 .ensures))  -- join-requires
     (λ c.
     let w₄ = c .before .before in
     let w₃ = w₄ .before .before in
@@ -101,4 +110,4 @@ pub +walk-spec : {M : Type 1} → statement M
     let w₁ = w₂ .before .before in
     let z = w₁ .before .before .before .before .before in
     block-walked (z .pre .1) (w₁ .walk .ensures) (w₂ .walk2 .ensures) (w₃ .walk3 .ensures) (w₄ .walk4 .ensures)
-    (c .join .ensures))
+    (c .join .ensures))  -- returns-2

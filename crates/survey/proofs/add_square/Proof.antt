@@ -10,10 +10,10 @@ pub add-square-spec : {M : Type 1} → statement M
 add-square-spec =
     tie.close
     (tie.spec
-    (λ c. square-fits (to-add (c .pre)) tt)
-    (λ c. square-cast (to-add (c .pre)) tt)
+    (λ c. square-fits (to-add (c .pre)) tt)  -- mul-sums
+    (λ c. square-cast (to-add (c .pre)) tt)  -- cast-sums
     (λ c. search needs)
     (λ c. search needs)
-    (λ c. omega (arith, square-read (to-add (c .before .pre)) tt .is, c .before .pre .fits))
+    (λ c. omega (arith, square-read (to-add (c .before .pre)) tt .is, c .before .pre .fits))  -- add-sums
     (λ c. search needs)
-    (λ c. added-is _ _ (square-read (to-add (c .before .pre)) tt .is)))
+    (λ c. added-is _ _ (square-read (to-add (c .before .pre)) tt .is)))  -- returns

@@ -12,7 +12,7 @@ cell-error-spec =
     tie.close
     (tie.spec
     (λ c. search needs)
-    (λ c. error-none (omega arith) (c .if1 .taken))
+    (λ c. error-none (omega arith) (c .if1 .taken))  -- returns
     (λ c. search needs)
-    (λ c. rw (of-bits (c .before .args .grey) (omega arith)) (simp words (omega machine)))
-    (λ c. read (error-dot {grey = c .before .args .grey} (omega arith) (c .if1 .left)) (omega arith)))
+    (λ c. rw (of-bits (c .before .args .grey) (omega arith)) (simp words (omega machine)))  -- sub-result
+    (λ c. read (error-dot {grey = c .before .args .grey} (omega arith) (c .if1 .left)) (omega arith)))  -- returns-2

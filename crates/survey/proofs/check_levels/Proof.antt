@@ -13,8 +13,19 @@ unfolding checked numberOf lowest levelsRefusal
 check-levels-spec =
     tie.close
     (tie.spec
-    (λ c. simp (eq-eqb _ 0 (c .if1 .taken)))
+    (λ c. simp (eq-eqb _ 0 (c .if1 .taken)))  -- returns
     (λ c κs. search needs)
-    (λ c. simp (ne-eqb _ 0 (c .before .before .if1 .left), short (c .before .cell-count .ensures) (c .if2 .taken)))
-    (λ c. simp (ne-eqb _ 0 (c .before .before .before .if1 .left), enough (c .before .before .cell-count .ensures) (c .before .if2 .left), short (c .before .before .cell-count .ensures) (c .if3 .taken)))
-    (λ c. simp (ne-eqb _ 0 (c .before .before .before .if1 .left), enough (c .before .before .cell-count .ensures) (c .before .if2 .left), enough (c .before .before .cell-count .ensures) (c .if3 .left))))
+    (λ c. simp
+    (ne-eqb _ 0 (c .before .before .if1 .left), short (c .before .cell-count .ensures) (c .if2 .taken)))  -- returns-2
+    (λ c. simp (
+      ne-eqb _ 0 (c .before .before .before .if1 .left),
+      enough (c .before .before .cell-count .ensures)
+          (c .before .if2 .left),
+      short (c .before .before .cell-count .ensures) (c .if3 .taken),
+    ))  -- returns-3
+    (λ c. simp (
+      ne-eqb _ 0 (c .before .before .before .if1 .left),
+      enough (c .before .before .cell-count .ensures)
+          (c .before .if2 .left),
+      enough (c .before .before .cell-count .ensures) (c .if3 .left),
+    )))  -- returns-4

@@ -9,8 +9,8 @@ pub join-spec : {M : Type 1} → statement M
 join-spec =
     tie.close
     (tie.spec
-    (λ c. fit (two (c .pre)) (omega arith))
-    (λ c. fit (three (c .pre)) (omega arith))
-    (λ c. fit (four (c .pre)) (omega arith))
-    (λ c κs. join-add (c .before .pre))
-    (λ c. joined (c .before .before .pre) (c .add-square .ensures)))
+    (λ c. fit (two (c .pre)) (omega arith))  -- add-e
+    (λ c. fit (three (c .pre)) (omega arith))  -- add-e-2
+    (λ c. fit (four (c .pre)) (omega arith))  -- add-e-3
+    (λ c κs. join-add (c .before .pre))  -- add-square-requires
+    (λ c. joined (c .before .before .pre) (c .add-square .ensures)))  -- returns

@@ -9,5 +9,5 @@ pub level-sums-spec : {M : Type 1} → statement M
 level-sums-spec =
     tie.close
     (tie.spec
-    (λ c κs. whole-asked _ (c .before .before .before .pre) (omega arith))
-    (λ c. search (whole-walked, needs)))
+    (λ c κs. whole-asked _ (c .before .before .before .pre) (omega arith))  -- walk-requires
+    (λ c. search (whole-walked, needs)))  -- returns

@@ -1,7 +1,7 @@
 -- `survey::levels`: what the check says, told apart.
 use borrow.Author.Needs.{needs}
 use Rattle.refusals.specs.Powers.{power-small}
-use Rattle.survey.specs.Calls.{levels-asked, levels-refused, levels-summed}
+use Rattle.survey.specs.WaysOut.{levels-asked, levels-refused, levels-summed}
 use Rattle.survey.proofs.levels.Statement.{statement}
 use Rattle.survey.proofs.levels.Tie as tie
 
@@ -10,9 +10,9 @@ levels-spec =
     tie.close
     (tie.spec
     (λ c κs. search needs)
-    (λ c κs. search (power-small, needs))
+    (λ c κs. search (power-small, needs))  -- check-levels-requires
     (λ c. search needs)
     (λ c. search needs)
-    (λ c κs. search (levels-asked, needs))
-    (λ c. search (levels-refused, needs))
-    (λ c. search (levels-summed, needs)))
+    (λ c κs. search (levels-asked, needs))  -- level-sums-requires
+    (λ c. search (levels-refused, needs))  -- returns
+    (λ c. search (levels-summed, needs)))  -- returns-2

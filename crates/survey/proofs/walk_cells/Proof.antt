@@ -17,30 +17,32 @@ pub walk-cells-spec : {M : Type 1} → statement M
 walk-cells-spec =
     tie.close
     (tie.spec
-    (λ c. omega (arith, block-few (c .before .before .pre)))
-    (λ c. omega (arith, block-few (c .before .before .pre)))
+    (λ c. omega (arith, block-few (c .before .before .pre)))  -- mul-row
+    (λ c. omega (arith, block-few (c .before .before .pre)))  -- mul-column
     (λ c κs.
     let z = c .before .before .before in (
       quarter-asked (z .pre) _ _ (omega arith) (omega arith),
       room-first (z .pre),
-    ))
-    (λ c. omega (arith, block-few (c .before .before .before .before .pre)))
+    ))  -- walk-cell-requires
+    (λ c. omega (arith, block-few (c .before .before .before .before .pre)))  -- add-walk-cell
     (λ c κs.
     let w₁ = c .before in
     let z = w₁ .before .before .before .before in (
       quarter-asked (z .pre) _ _ (omega arith) (omega arith),
       room-second (z .pre) (w₁ .walk-cell .ensures),
-    ))
-    (λ c. omega (arith, block-few (c .before .before .before .before .before .before .pre)))
+    ))  -- walk-cell-requires-2
+    (λ c. omega (arith, block-few (c .before .before .before .before .before .before .pre)))  -- add-walk-cell-2
     (λ c κs.
     let w₂ = c .before in
     let w₁ = w₂ .before .before in
     let z = w₁ .before .before .before .before in (
       quarter-asked (z .pre) _ _ (omega arith) (omega arith),
       room-third (z .pre) (w₁ .walk-cell .ensures) (w₂ .walk-cell2 .ensures),
-    ))
-    (λ c. omega (arith, block-few (c .before .before .before .before .before .before .before .before .pre)))
-    (λ c. omega (arith, block-few (c .before .before .before .before .before .before .before .before .pre)))
+    ))  -- walk-cell-requires-3
+    (λ c. omega
+    (arith, block-few (c .before .before .before .before .before .before .before .before .pre)))  -- add-walk-cell-3
+    (λ c. omega
+    (arith, block-few (c .before .before .before .before .before .before .before .before .pre)))  -- add-walk-cell-4
     (λ c κs.
     let w₃ = c .before in
     let w₂ = w₃ .before .before in
@@ -49,7 +51,7 @@ walk-cells-spec =
       quarter-asked (z .pre) _ _ (omega arith) (omega arith),
       room-fourth (z .pre)
           (w₁ .walk-cell .ensures) (w₂ .walk-cell2 .ensures) (w₃ .walk-cell3 .ensures),
-    ))
+    ))  -- walk-cell-requires-4
     (λ c κs.
     let w₄ = c .before in
     let w₃ = w₄ .before .before in
@@ -57,7 +59,8 @@ walk-cells-spec =
     let w₁ = w₂ .before .before in
     let z = w₁ .before .before .before .before in
     join-asked (z .pre)
-    (w₁ .walk-cell .ensures) (w₂ .walk-cell2 .ensures) (w₃ .walk-cell3 .ensures) (w₄ .walk-cell4 .ensures))
+    (w₁ .walk-cell .ensures) (w₂ .walk-cell2 .ensures) (w₃ .walk-cell3 .ensures)
+    (w₄ .walk-cell4 .ensures))  -- join-requires
     (λ c.
     let w₄ = c .before .before in
     let w₃ = w₄ .before .before in
@@ -66,4 +69,4 @@ walk-cells-spec =
     let z = w₁ .before .before .before .before in
     block-walked (z .pre)
     (w₁ .walk-cell .ensures) (w₂ .walk-cell2 .ensures) (w₃ .walk-cell3 .ensures) (w₄ .walk-cell4 .ensures)
-    (c .join .ensures)))
+    (c .join .ensures)))  -- returns

@@ -25,6 +25,7 @@ read-marks-spec = tie.close (tie.spec Inv-loop μ-loop
     (λ c. omega arith)  -- slice-write-serials
     (λ c. omega arith)  -- add-j
     (λ c. omega arith)  -- loop-less
-    (λ c. let k = c .before .before .before .before .loop .inv in ⊎-elim (λ w. ap length (w .1) ∙ simp length-set k) (λ w. ap length (w .1) ∙ k) (c .if1 .came))  -- loop-again
+    (λ c. let k = c .before .before .before .before .loop .inv in ⊎-elim (λ w. ap length (w .1) ∙ simp length-set k)
+    (λ w. ap length (w .1) ∙ k) (c .if1 .came))  -- loop-again
     (λ c. search needs)  -- same-length
     (λ c. tt))  -- returns

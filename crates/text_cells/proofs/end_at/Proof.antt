@@ -10,5 +10,5 @@ end-at-spec =
     (tie.spec
     (λ c. search needs)
     (λ c. search needs)
-    (λ c. search (end-of-row, needs))
-    (λ c. search (end-in-row, needs)))
+    (λ c. search (end-of-row, needs))  -- returns
+    (λ c. search (end-in-row, needs)))  -- returns-2

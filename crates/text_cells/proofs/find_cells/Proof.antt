@@ -11,4 +11,4 @@ find-cells-spec =
     (λ c. search needs)
     (λ c. search needs)
     (λ c κs. search needs)
-    (λ c. search (cells-found, needs)))
+    (λ c. search (cells-found, needs)))  -- returns

@@ -13,9 +13,9 @@ first-line-spec =
     (λ c. search needs)
     (λ c. search needs)
     (λ c κs. search needs)
-    (λ c κs. search (power-small, needs))
+    (λ c κs. search (power-small, needs))  -- check-greys-requires
     (λ c. search needs)
     (λ c. search needs)
-    (λ c. search (no-line, needs))
-    (λ c. search (side-refused, needs))
-    (λ c. search (side-good, needs)))
+    (λ c. search (no-line, needs))  -- returns
+    (λ c. search (side-refused, needs))  -- returns-2
+    (λ c. search (side-good, needs)))  -- returns-3

@@ -9,9 +9,9 @@ read-cell-spec =
     tie.close
     (tie.spec
     (λ c κs. search needs)
-    (λ c. search (of-sketch, needs))
+    (λ c. search (of-sketch, needs))  -- returns
     (λ c κs. search needs)
     (λ c. search needs)
     (λ c. search needs)
-    (λ c. search (no-grey, needs))
-    (λ c. search (grey-read, needs)))
+    (λ c. search (no-grey, needs))  -- returns-2
+    (λ c. search (grey-read, needs)))  -- returns-3

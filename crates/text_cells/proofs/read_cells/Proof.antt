@@ -32,18 +32,18 @@ read-cells-spec =
     (tie.spec
     Inv-loop
     μ-loop
-    (λ c. omega (arith, size-small _ (c .before .before .before .pre .side-most)))
-    (λ c. search (left-whole, needs))
+    (λ c. omega (arith, size-small _ (c .before .before .before .pre .side-most)))  -- mul-size
+    (λ c. search (left-whole, needs))  -- loop-holds
     (λ c κs. omega arith)
     (λ c κs. search needs)
     (λ c. search needs)
     (λ c. search needs)
     (λ c. search needs)
     (λ c. search needs)
-    (λ c. search (left-broken, needs))
-    (λ c. search (low-fits, needs))
+    (λ c. search (left-broken, needs))  -- returns
+    (λ c. search (low-fits, needs))  -- cast-put-byte
     (λ c κs. search needs)
-    (λ c. search (high-fits, needs))
+    (λ c. search (high-fits, needs))  -- cast-put-byte-2
     (λ c κs. search needs)
     (λ c κs. search needs)
     (λ c. omega arith)
@@ -56,7 +56,7 @@ read-cells-spec =
     left-less (turn .before .before .before .before .before .pre .some-side) (turn .before .loop .inv)
     (turn .loop-test .taken) (read .before .before .before .end-at .ensures) _
     (read .before .before .read-cell .ensures) (read .low .given .1) (first .put-byte .ensures)
-    (second .put-byte2 .ensures) (c .still-rise .ensures))
+    (second .put-byte2 .ensures) (c .still-rise .ensures))  -- loop-again
     (λ c. search needs)
     (λ c. search needs)
     nothing-left)

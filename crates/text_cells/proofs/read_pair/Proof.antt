@@ -11,9 +11,9 @@ read-pair-spec =
     (λ c κs. search needs)
     (λ c. search needs)
     (λ c. search needs)
-    (λ c. search (no-low, needs))
+    (λ c. search (no-low, needs))  -- returns
     (λ c κs. search needs)
     (λ c. search needs)
     (λ c. search needs)
-    (λ c. search (no-high, needs))
-    (λ c. search (pair-read, needs)))
+    (λ c. search (no-high, needs))  -- returns-2
+    (λ c. search (pair-read, needs)))  -- returns-3

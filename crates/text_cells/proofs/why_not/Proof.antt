@@ -9,5 +9,5 @@ why-not-spec =
     tie.close
     (tie.spec
     (λ c κs. search needs)
-    (λ c. search (broken-text, needs))
-    (λ c. search (too-high, needs)))
+    (λ c. search (broken-text, needs))  -- returns
+    (λ c. search (too-high, needs)))  -- returns-2

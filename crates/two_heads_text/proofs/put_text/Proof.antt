@@ -36,7 +36,7 @@ put-text-spec =
     (λ c κs. search needs)
     (λ c. search needs)
     (λ c. search needs)
-    (λ c κs. (search (side-asked, needs), search needs))
+    (λ c κs. (search (side-asked, needs), search needs))  -- put-list-requires
     (λ c. search needs)
     refused-by-text
     (λ c. search needs)

@@ -10,4 +10,4 @@ two-heads-text-spec =
     (tie.spec
     (λ c. search needs)
     (λ c κs. search needs)
-    (λ c. (printed-text (c .before .put-text .ensures), printed-in (c .before .put-text .ensures))))
+    (λ c. (printed-text (c .before .put-text .ensures), printed-in (c .before .put-text .ensures))))  -- returns

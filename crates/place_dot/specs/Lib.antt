@@ -1,0 +1,3 @@
+pub mod DotDue
+pub mod Small
+pub mod Placed
