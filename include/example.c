@@ -21,19 +21,19 @@ enum { WRITTEN = 0, REFUSED = 1, FAILED = 3 };
 
 /* the refusals that the calls give, in the words of rulmedei.h */
 static const char *const words[] = {
-    [RULMEDEI_SIDE_UNKNOWN] = "the side is no power of two from 2 to 256",
-    [RULMEDEI_GREYS_SHORT] = "a greys buffer is shorter than N * N",
-    [RULMEDEI_PYRAMID_SHORT] = "the pyramid is shorter than needed",
-    [RULMEDEI_SHEET_SHORT] = "a serial sheet or order list is shorter than N * N, or a shelf than n * N * N",
-    [RULMEDEI_SHEET_UNSOUND] = "the sheet is not sound: Load and Advance leave no such buffers with this record",
-    [RULMEDEI_BLOCK_UNKNOWN] = "the level is past the map's last, or the row or column not below 2^level",
-    [RULMEDEI_TEXT_MALFORMED] = "the text does not fit the grammar of map texts, or of sketches",
-    [RULMEDEI_OUTPUT_SHORT] = "the output is shorter than its text, a shelf's list than n, or caps than 4^level",
-    [RULMEDEI_NAME_UNKNOWN] = "the name is none of 1 to 8; for a return also: empty, or past the map's total",
-    [RULMEDEI_KNIT_UNKNOWN] = "the knit is neither 0 nor 1",
-    [RULMEDEI_GREY_HIGH] = "a grey of the map or the sketch is above 240",
-    [RULMEDEI_PAIR_FALLS] = "a pair of the sketch has its low above its high",
-    [RULMEDEI_SIDE_SMALL] = "the side is below 16",
+    [RULMEDEI_SIDE_UNKNOWN] = "the side must be 2, 4, 8, 16, 32, 64, 128 or 256",
+    [RULMEDEI_GREYS_SHORT] = "the map has more cells than there is room for: a greys buffer is below N * N",
+    [RULMEDEI_PYRAMID_SHORT] = "too little room for the sums: the pyramid is shorter than needed",
+    [RULMEDEI_SHEET_SHORT] = "too little room for the holes: serials or order < N * N, shelf < n * N * N",
+    [RULMEDEI_SHEET_UNSOUND] = "the sheet is not sound, its parts do not fit: Load and Advance leave none such",
+    [RULMEDEI_BLOCK_UNKNOWN] = "the map has no such level, or no such panel: row or column not below 2^level",
+    [RULMEDEI_TEXT_MALFORMED] = "the text is not written as a map or sketch must be: it does not fit the grammar",
+    [RULMEDEI_OUTPUT_SHORT] = "too little room for the output: its text, a list of n, or 4^level caps",
+    [RULMEDEI_NAME_UNKNOWN] = "no such name, or no such stage: not 1 to 8; on return empty, or past the total",
+    [RULMEDEI_KNIT_UNKNOWN] = "the cloth must be plain or ribbed: the knit is neither 0 nor 1",
+    [RULMEDEI_GREY_HIGH] = "a grey is above 240, the darkest that a map or a sketch may have",
+    [RULMEDEI_PAIR_FALLS] = "a cell of the sketch has its low above its high",
+    [RULMEDEI_SIDE_SMALL] = "the side is below 16, too small for two heads",
 };
 
 /* one byte more than the longest text, so that a longer one is seen to be none */

@@ -48,20 +48,20 @@ extern "C" {
 #define RULMEDEI_SAME 104         /* rulmedei_compare: the same cells are burnt */
 #define RULMEDEI_AFTER_AT 105     /* rulmedei_compare: as many holes, right is unburnt at the cell (row, column) */
 #define RULMEDEI_AFTER 106        /* rulmedei_compare: right has fewer holes */
-#define RULMEDEI_SIDE_UNKNOWN 1   /* the side is no power of two from 2 to 256 */
-#define RULMEDEI_GREYS_SHORT 2    /* a greys buffer is shorter than N * N */
-#define RULMEDEI_PYRAMID_SHORT 3  /* the pyramid is shorter than needed */
-#define RULMEDEI_SHEET_SHORT 4    /* a serial sheet or order list is shorter than N * N, or a shelf than n * N * N */
-#define RULMEDEI_SHEET_UNSOUND 5  /* the sheet is not sound: Load and Advance leave no such buffers with this record */
-#define RULMEDEI_BLOCK_UNKNOWN 6  /* the level is past the map's last, or the row or column not below 2^level */
-#define RULMEDEI_TEXT_MALFORMED 7 /* the text does not fit the grammar of map texts, or of sketches */
-#define RULMEDEI_OUTPUT_SHORT 8   /* the output is shorter than its text, a shelf's list than n, or caps than 4^level */
+#define RULMEDEI_SIDE_UNKNOWN 1   /* the side must be 2, 4, 8, 16, 32, 64, 128 or 256 */
+#define RULMEDEI_GREYS_SHORT 2    /* the map has more cells than there is room for: a greys buffer is below N * N */
+#define RULMEDEI_PYRAMID_SHORT 3  /* too little room for the sums: the pyramid is shorter than needed */
+#define RULMEDEI_SHEET_SHORT 4    /* too little room for the holes: serials or order < N * N, shelf < n * N * N */
+#define RULMEDEI_SHEET_UNSOUND 5  /* the sheet is not sound, its parts do not fit: Load and Advance leave none such */
+#define RULMEDEI_BLOCK_UNKNOWN 6  /* the map has no such level, or no such panel: row or column not below 2^level */
+#define RULMEDEI_TEXT_MALFORMED 7 /* the text is not written as a map or sketch must be: it does not fit the grammar */
+#define RULMEDEI_OUTPUT_SHORT 8   /* too little room for the output: its text, a list of n, or 4^level caps */
 #define RULMEDEI_INPUT_LONG 9     /* the input is longer than 4,099 bytes: plate and two_heads, none of the calls */
-#define RULMEDEI_NAME_UNKNOWN 10  /* the name is none of 1 to 8; for a return also: empty, or past the map's total */
-#define RULMEDEI_KNIT_UNKNOWN 11  /* the knit is neither 0 nor 1 */
-#define RULMEDEI_GREY_HIGH 12     /* a grey of the map or the sketch is above 240 */
-#define RULMEDEI_PAIR_FALLS 13    /* a pair of the sketch has its low above its high */
-#define RULMEDEI_SIDE_SMALL 14    /* the side is below 16 */
+#define RULMEDEI_NAME_UNKNOWN 10  /* no such name, or no such stage: not 1 to 8; on return empty, or past the total */
+#define RULMEDEI_KNIT_UNKNOWN 11  /* the cloth must be plain or ribbed: the knit is neither 0 nor 1 */
+#define RULMEDEI_GREY_HIGH 12     /* a grey is above 240, the darkest that a map or a sketch may have */
+#define RULMEDEI_PAIR_FALLS 13    /* a cell of the sketch has its low above its high */
+#define RULMEDEI_SIDE_SMALL 14    /* the side is below 16, too small for two heads */
 
 /*
  * The highest grey that a map may have, or a sketch. rulmedei_map_text, rulmedei_load, rulmedei_two_heads,

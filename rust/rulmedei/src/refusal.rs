@@ -25,7 +25,8 @@ macro_rules! refusals {
         const ALL: &[Refusal] = &[$(Refusal::$name,)*];
 
         impl Refusal {
-            /// The words of `include/rulmedei.h`.
+            /// The words of `include/rulmedei.h`: a sentence for everybody, and for some behind a colon what it means
+            /// for a caller's buffers and numbers.
             pub fn words(self) -> &'static str {
                 match self {
                     $(Refusal::$name => $words,)*
@@ -36,26 +37,31 @@ macro_rules! refusals {
 }
 
 refusals! {
-    SideUnknown = 1: "the side is no power of two from 2 to 256",
-    GreysShort = 2: "a greys buffer is shorter than N * N",
-    PyramidShort = 3: "the pyramid is shorter than needed",
-    SheetShort = 4: "a serial sheet or order list is shorter than N * N, or a shelf than n * N * N",
-    SheetUnsound = 5: "the sheet is not sound: Load and Advance leave no such buffers with this record",
-    BlockUnknown = 6: "the level is past the map's last, or the row or column not below 2^level",
-    TextMalformed = 7: "the text does not fit the grammar of map texts, or of sketches",
-    OutputShort = 8: "the output is shorter than its text, a shelf's list than n, or caps than 4^level",
+    SideUnknown = 1: "the side must be 2, 4, 8, 16, 32, 64, 128 or 256",
+    GreysShort = 2: "the map has more cells than there is room for: a greys buffer is below N * N",
+    PyramidShort = 3: "too little room for the sums: the pyramid is shorter than needed",
+    SheetShort = 4: "too little room for the holes: serials or order < N * N, shelf < n * N * N",
+    SheetUnsound = 5: "the sheet is not sound, its parts do not fit: Load and Advance leave none such",
+    BlockUnknown = 6: "the map has no such level, or no such panel: row or column not below 2^level",
+    TextMalformed = 7: "the text is not written as a map or sketch must be: it does not fit the grammar",
+    OutputShort = 8: "too little room for the output: its text, a list of n, or 4^level caps",
     InputLong = 9: "the input is longer than 4,099 bytes: plate and two_heads, none of the calls",
-    NameUnknown = 10: "the name is none of 1 to 8; for a return also: empty, or past the map's total",
-    KnitUnknown = 11: "the knit is neither 0 nor 1",
-    GreyHigh = 12: "a grey of the map or the sketch is above 240",
-    PairFalls = 13: "a pair of the sketch has its low above its high",
-    SideSmall = 14: "the side is below 16",
+    NameUnknown = 10: "no such name, or no such stage: not 1 to 8; on return empty, or past the total",
+    KnitUnknown = 11: "the cloth must be plain or ribbed: the knit is neither 0 nor 1",
+    GreyHigh = 12: "a grey is above 240, the darkest that a map or a sketch may have",
+    PairFalls = 13: "a cell of the sketch has its low above its high",
+    SideSmall = 14: "the side is below 16, too small for two heads",
 }
 
 impl Refusal {
     /// Its number (S 5.1).
     pub fn number(self) -> u32 {
         self as u32
+    }
+
+    /// The sentence for everybody: the words up to a colon, as the scripts of the programs say them.
+    pub fn sentence(self) -> &'static str {
+        self.words().split(':').next().unwrap_or_default()
     }
 }
 

@@ -75,5 +75,7 @@ fn the_example_in_c_has_the_words_of_the_calls_refusals() {
 #[test]
 fn a_refusal_is_printed_with_its_number_and_words() {
     let printed = Refusal::TextMalformed.to_string();
-    assert_eq!(printed, "refused, 7: the text does not fit the grammar of map texts, or of sketches");
+    assert_eq!(printed, format!("refused, 7: {}", Refusal::TextMalformed.words()));
+    assert_eq!(Refusal::TextMalformed.sentence(), "the text is not written as a map or sketch must be");
+    assert_eq!(Refusal::SideSmall.sentence(), Refusal::SideSmall.words());
 }

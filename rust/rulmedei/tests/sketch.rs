@@ -73,7 +73,7 @@ fn refusals_in_order() {
     assert_eq!(number(b"2\n5,5,0,0\n0,0,0,0\n", 1, [4, 4, 3]), 8);
     assert_eq!(number(b"2\n5,5,0,0\n0,0,0,0\n", 0, [4, 4, 0]), 8);
     let falls = sketch_quote(b"2\n1,0,0,0\n0,0,0,0\n", 0, &mut [0; 4], &mut [0; 4], &mut [0]);
-    assert_eq!(falls.unwrap_err().to_string(), "refused, 13: a pair of the sketch has its low above its high");
+    assert_eq!(falls.unwrap_err().to_string(), "refused, 13: a cell of the sketch has its low above its high");
 }
 
 /// The same for every side, in the first pair and in the last.

@@ -159,7 +159,7 @@ fn refusals_in_order() {
         assert_eq!(number(side, RIBBED, 240, [n, p, n, n]), 0);
     }
     let small = two_heads(8, PLAIN, &[0; 64], &mut [0; 85], &mut [0; 64], &mut [0; 64]);
-    assert_eq!(small.unwrap_err().to_string(), "refused, 14: the side is below 16");
+    assert_eq!(small.unwrap_err().to_string(), "refused, 14: the side is below 16, too small for two heads");
 }
 
 /// A grey past the map may be above 240, and places past the needed lengths stay (S 2.9).
