@@ -1,4 +1,4 @@
--- Advance's two ways out: refused, with nothing changed (`refused-is`), and the sheet run and advanced (`advanced-is`,
+-- Advance's two ways out: refused, with nothing changed (`refused_is`), and the sheet run and advanced (`advanced_is`,
 -- `passed_is`).
 use Rattle.std.specs.Prelude.{◌≡◌, List, ◌++◌, length, get_or, drop, ℤ, pos}
 use Rattle.std.proofs.Math.Path.{sym, ap}
@@ -6,69 +6,69 @@ use Rattle.std.proofs.Common.{◌∙◌, arith, mul-le-mul, pow_mono, length-app
 use Prim.Native.Nat.{ℕ, suc, ◌+◌, ◌-◌, ◌^◌, ◌≤◌, ◌<◌, min}
 use Rattle.std.proofs.Math.ListN.{take, get_or-append}
 use Rattle.std.specs.Int.{w32}
-use Rattle.definition.specs.Answers.{advanceSays, number_of}
-use Rattle.definition.specs.Pyramid.{needed, cellCount}
-use Rattle.definition.specs.Diffusion.{kernelOf}
-use Rattle.definition.specs.Refusals.{powerOf}
+use Rattle.definition.specs.Answers.{advance_says, number_of}
+use Rattle.definition.specs.Pyramid.{needed, cell_count}
+use Rattle.definition.specs.Diffusion.{kernel_of}
+use Rattle.definition.specs.Refusals.{power_of}
 use Rattle.definition.specs.Model.{Halftone, top_of, steps}
-use Rattle.definition.specs.Sound.{isSound}
-use Rattle.definition.specs.Quarters.{rows_from, asRows}
-use Rattle.definition.specs.ByQuarters.{advanceByQuarters}
-use Rattle.definition.specs.Advance.{Reply, dotsDue, saidAt, sheetIn, advanceRefusal, advanced, advanceOf}
+use Rattle.definition.specs.Sound.{is_sound}
+use Rattle.definition.specs.Quarters.{rows_from, as_rows}
+use Rattle.definition.specs.ByQuarters.{advance_by_quarters}
+use Rattle.definition.specs.Advance.{Reply, dots_due, said_at, sheet_in, advance_refusal, advanced, advance_of}
 use Rattle.definition.specs.declared.Progress.{Progress}
 use Rattle.definition.specs.declared.Refusal.{Refusal}
 use Rattle.definition.specs.declared.AdvanceAnswer.{AdvanceAnswer}
 use Rattle.definition.specs.declared.AdvanceStatus.{AdvanceStatus}
 use Rattle.definition.specs.declared.AdvanceStatus.TheVariants.{Refused}
 use Rattle.integers.specs.Tests.{T_true}
-use Rattle.quadtree.specs.Levels.{start-suc, cells-few}
-use Rattle.layouts.specs.Relaid.{length-rows}
-use Rattle.layouts.specs.Lent.{rows-length, rows_taken, rows_take, rows_drop, rows-part, quarters-rows}
-use Rattle.shares.specs.Kernels.{knit-fit}
+use Rattle.quadtree.specs.Levels.{start_suc, cells_few}
+use Rattle.layouts.specs.Relaid.{length_rows}
+use Rattle.layouts.specs.Lent.{rows_length, rows_taken, rows_take, rows_drop, rows_part, quarters_rows}
+use Rattle.shares.specs.Kernels.{knit_fit}
 use Rattle.refusals.specs.Powers.{power_small}
-use Rattle.refusals.specs.Numbers.{number-positive}
-use Rattle.dots.specs.Steps.{Sheet, steps-sheet}
-use Rattle.dots.specs.SoundTest.{test-sound}
-use Rattle.checks.specs.Checks.{checked, passed_none, failed-number}
+use Rattle.refusals.specs.Numbers.{number_positive}
+use Rattle.dots.specs.Steps.{Sheet, steps_sheet}
+use Rattle.dots.specs.SoundTest.{test_sound}
+use Rattle.checks.specs.Checks.{checked, passed_none, failed_number}
 use Rattle.checks.specs.declared.Check.{Check}
 use Rattle.checks.specs.declared.Check.TheVariants.{Passed, Failed}
-use Rattle.sheet.specs.Sheets.{SheetAsked, sheet-asked}
-use Rattle.dot_run.specs.Running.{RunAsked, Ran, top-rows}
+use Rattle.sheet.specs.Sheets.{SheetAsked, sheet_asked}
+use Rattle.dot_run.specs.Running.{RunAsked, Ran, top_rows}
 
 -- ---- the sheet's parts lent, its pyramid p by quarters; n and c are what the code has worked out for the needed
 -- length and the number of cells
 module _ {r dots : ℕ} (p : List ℤ) (s o : List ℕ) (h : SheetAsked r dots p s o) {n c : ℕ} (en : n ≡ needed r)
-    (ec : c ≡ cellCount r) where
-  pyramid-in : n ≤ length p
-  pyramid-in = omega (arith, h.lent.pyramid-long)
+    (ec : c ≡ cell_count r) where
+  pyramid_in : n ≤ length p
+  pyramid_in = omega (arith, h.lent.pyramid_long)
 
-  pub pyramid-part : n ≡ length (take n p)
-  pyramid-part = sym (length-take-le n p pyramid-in)
+  pub pyramid_part : n ≡ length (take n p)
+  pyramid_part = sym (length-take-le n p pyramid_in)
 
-  pub serials-part : c ≡ length (take c s)
-  serials-part = sym (length-take-le c s (omega (arith, h.lent.serials-long)))
+  pub serials_part : c ≡ length (take c s)
+  serials_part = sym (length-take-le c s (omega (arith, h.lent.serials_long)))
 
-  pub order-part : c ≡ length (take c o)
-  order-part = sym (length-take-le c o (omega (arith, h.lent.order-long)))
+  pub order_part : c ≡ length (take c o)
+  order_part = sym (length-take-le c o (omega (arith, h.lent.order_long)))
 
   pub whole : length (take n p) ≡ needed r
-  whole = sym pyramid-part ∙ en
+  whole = sym pyramid_part ∙ en
 
   abbrev rows : List ℤ
-  rows = asRows r p
+  rows = as_rows r p
 
   abbrev lent : Halftone
   lent = record { pyramid = rows_from r (take n p); serials = take c s; order = take c o; dots = dots }
 
-  lent_is : lent ≡ sheetIn r dots rows s o
-  unfolding sheetIn
+  lent_is : lent ≡ sheet_in r dots rows s o
+  unfolding sheet_in
   lent_is =
       let front : rows_from r (take n p) ≡ take (needed r) rows =
-      ap (λ (m : ℕ). rows_from r (take m p)) en ∙ rows_taken r p ∙ sym (rows_take r p h.lent.pyramid-long) in
+      ap (λ (m : ℕ). rows_from r (take m p)) en ∙ rows_taken r p ∙ sym (rows_take r p h.lent.pyramid_long) in
       rw (front, ec)
 
-  pub run-asked : RunAsked r lent
-  run-asked =
+  pub run_asked : RunAsked r lent
+  run_asked =
       record {
         power = h.lent.power;
         small = h.small;
@@ -76,11 +76,11 @@ module _ {r dots : ℕ} (p : List ℤ) (s o : List ℕ) (h : SheetAsked r dots p
             record {
               sized =
                   record {
-                    pyramid = length-rows r (take n p);
-                    serials = sym serials-part ∙ ec;
-                    order = sym order-part ∙ ec;
+                    pyramid = length_rows r (take n p);
+                    serials = sym serials_part ∙ ec;
+                    order = sym order_part ∙ ec;
                   };
-              sound = rw lent_is (test-sound r (sheetIn r dots rows s o) (T_true _ h.sound));
+              sound = rw lent_is (test_sound r (sheet_in r dots rows s o) (T_true _ h.sound));
             };
       }
 
@@ -92,36 +92,36 @@ module _ {r dots : ℕ} (p : List ℤ) (s o : List ℕ) (h : SheetAsked r dots p
     big = pow_mono {i = 1} {j = r} h.lent.power
 
     sheet' : Sheet r (record { pyramid = rows_from r p'; serials = s'; order = o'; dots = dots + made })
-    sheet' = rw ran.after_is (steps-sheet (kernelOf knit) (knit-fit knit) r big made lent run-asked.sheet)
+    sheet' = rw ran.after_is (steps_sheet (kernel_of knit) (knit_fit knit) r big made lent run_asked.sheet)
 
     top_in : 0 < length p'
-    top_in = omega (arith, long, whole, start-suc r, mul-le-mul big big)
+    top_in = omega (arith, long, whole, start_suc r, mul-le-mul big big)
 
-    pub top-there : 0 < length (p' ++ drop n p)
-    top-there = omega (arith, top_in, length-append p' (drop n p))
+    pub top_there : 0 < length (p' ++ drop n p)
+    top_there = omega (arith, top_in, length-append p' (drop n p))
 
-    pub dots-fit : Fits w32 (dots + made)
-    dots-fit = record { fits = omega (arith, sheet'.sound.few-dots, cells-few r h.small) }
+    pub dots_fit : Fits w32 (dots + made)
+    dots_fit = record { fits = omega (arith, sheet'.sound.few_dots_lem, cells_few r h.small) }
 
-    made_in : min budget (dotsDue (top_of (sheetIn r dots rows s o).pyramid)) ≡ made
-    made_in = rw (← lent_is) (sym ran.made-is)
+    made_in : min budget (dots_due (top_of (sheet_in r dots rows s o).pyramid)) ≡ made
+    made_in = rw (← lent_is) (sym ran.made_is)
 
-    after-in : steps (kernelOf knit) r made (sheetIn r dots rows s o)
+    after_in : steps (kernel_of knit) r made (sheet_in r dots rows s o)
         ≡ record { pyramid = rows_from r p'; serials = s'; order = o'; dots = dots + made }
-    after-in = rw (← lent_is) (sym ran.after_is)
+    after_in = rw (← lent_is) (sym ran.after_is)
 
     -- the whole pyramid afterwards, row after row
-    rows-after : asRows r (p' ++ drop n p) ≡ rows_from r p' ++ drop (needed r) rows
-    rows-after =
-        rows-part r p' (drop n p) (long ∙ whole)
+    rows_after : as_rows r (p' ++ drop n p) ≡ rows_from r p' ++ drop (needed r) rows
+    rows_after =
+        rows_part r p' (drop n p) (long ∙ whole)
         ∙ ap (λ (l : List ℤ). rows_from r p' ++ l) (ap (λ (m : ℕ). drop m p) en ∙ sym (rows_drop r p))
 
-    top-is : top_of (rows_from r p') ≡ get_or (p' ++ drop n p) 0 (pos 0)
-    top-is = top-rows r p' ∙ sym (get_or-append p' (drop n p) (pos 0) 0 top_in)
+    top_is : top_of (rows_from r p') ≡ get_or (p' ++ drop n p) 0 (pos 0)
+    top_is = top_rows r p' ∙ sym (get_or-append p' (drop n p) (pos 0) 0 top_in)
 
-    pub advanced-is : (progress : Progress) {a : AdvanceAnswer} {status : AdvanceStatus} (top : ℤ)
+    pub advanced_is : (progress : Progress) {a : AdvanceAnswer} {status : AdvanceStatus} (top : ℤ)
         → dots ≡ progress.dots → knit ≡ progress.knit
-        → top ≡ get_or (p' ++ drop n p) 0 (pos 0) → advanceSays status ≡ saidAt top
+        → top ≡ get_or (p' ++ drop n p) 0 (pos 0) → advance_says status ≡ said_at top
         → a
         ≡ record {
           progress = record { side = progress.side; dots = dots + made; knit = knit };
@@ -129,64 +129,64 @@ module _ {r dots : ℕ} (p : List ℤ) (s o : List ℕ) (h : SheetAsked r dots p
           status = status;
         }
         → record {
-          reply = record { progress = a.progress; made = a.made; said = advanceSays a.status };
-          pyramid = asRows r (p' ++ drop n p);
+          reply = record { progress = a.progress; made = a.made; said = advance_says a.status };
+          pyramid = as_rows r (p' ++ drop n p);
           serials = s' ++ drop c s;
           order = o' ++ drop c o;
         }
         ≡ advanced r progress budget rows s o
     unfolding advanced
-    advanced-is progress {a} {status} top ed ek et says ea =
-        rw (← ed, ← ek, ea, says, et, ← top-is, made_in, after-in, rows-after, ec)
+    advanced_is progress {a} {status} top ed ek et says ea =
+        rw (← ed, ← ek, ea, says, et, ← top_is, made_in, after_in, rows_after, ec)
 
 -- ---- the call
-module _ (progress : Progress) (p : List ℤ) (s o : List ℕ) {r : ℕ} (er : r ≡ powerOf progress.side) (check : Check)
+module _ (progress : Progress) (p : List ℤ) (s o : List ℕ) {r : ℕ} (er : r ≡ power_of progress.side) (check : Check)
     (e : checked check
-    ≡ advanceRefusal r progress.knit (length p) (length s) (length o)
-    (isSound r (sheetIn r progress.dots (asRows r p) s o))) where
-  abbrev side-power : ℕ
-  side-power = powerOf progress.side
+    ≡ advance_refusal r progress.knit (length p) (length s) (length o)
+    (is_sound r (sheet_in r progress.dots (as_rows r p) s o))) where
+  abbrev side_power : ℕ
+  side_power = power_of progress.side
 
-  abbrev rows-lent : List ℤ
-  rows-lent = asRows side-power p
+  abbrev rows_lent : List ℤ
+  rows_lent = as_rows side_power p
 
-  abbrev refusalOf : ℕ
-  refusalOf =
-      advanceRefusal side-power progress.knit (length rows-lent) (length s) (length o)
-      (isSound side-power (sheetIn side-power progress.dots rows-lent s o))
+  abbrev refusal_of : ℕ
+  refusal_of =
+      advance_refusal side_power progress.knit (length rows_lent) (length s) (length o)
+      (is_sound side_power (sheet_in side_power progress.dots rows_lent s o))
 
-  check-rows : checked check ≡ refusalOf
-  check-rows = rw (rows-length side-power p, ← er) e
+  check_rows : checked check ≡ refusal_of
+  check_rows = rw (rows_length side_power p, ← er) e
 
-  pub refused-is : (budget : ℕ) {why : Refusal} {a : AdvanceAnswer}
+  pub refused_is : (budget : ℕ) {why : Refusal} {a : AdvanceAnswer}
       → check ≡ Failed why → a ≡ record { progress = progress; made = 0; status = Refused why }
       → record {
-        reply = record { progress = a.progress; made = a.made; said = advanceSays a.status };
+        reply = record { progress = a.progress; made = a.made; said = advance_says a.status };
         pyramid = p;
         serials = s;
         order = o;
       }
-      ≡ advanceByQuarters progress budget p s o
-  unfolding advanceByQuarters advanceOf advanceSays
-  refused-is budget {why} failed ea =
-      let n : refusalOf ≡ suc (number_of why - 1) = failed-number check check-rows why failed in
-      rw (ea, advanceByQuarters, n, advanceOf, quarters-rows side-power p, ← number-positive why)
+      ≡ advance_by_quarters progress budget p s o
+  unfolding advance_by_quarters advance_of advance_says
+  refused_is budget {why} failed ea =
+      let n : refusal_of ≡ suc (number_of why - 1) = failed_number check check_rows why failed in
+      rw (ea, advance_by_quarters, n, advance_of, quarters_rows side_power p, ← number_positive why)
 
   module _ (passed : check ≡ Passed) where
-    pub advance-asked : SheetAsked r progress.dots p s o
-    advance-asked =
-        sheet-asked progress.knit (power_small progress.side er) progress.dots p s o check e passed
+    pub advance_asked : SheetAsked r progress.dots p s o
+    advance_asked =
+        sheet_asked progress.knit (power_small progress.side er) progress.dots p s o check e passed
 
     -- what is left, row after row, is what the call by rows leaves; so what lies there is that by quarters
     pub passed_is : (budget : ℕ) {reply : Reply} {p' : List ℤ} {s' o' : List ℕ}
-        → record { reply = reply; pyramid = asRows r p'; serials = s'; order = o' }
-        ≡ advanced r progress budget (asRows r p) s o
+        → record { reply = reply; pyramid = as_rows r p'; serials = s'; order = o' }
+        ≡ advanced r progress budget (as_rows r p) s o
         → record { reply = reply; pyramid = p'; serials = s'; order = o' }
-        ≡ advanceByQuarters progress budget p s o
-    unfolding advanceByQuarters advanceOf
+        ≡ advance_by_quarters progress budget p s o
+    unfolding advance_by_quarters advance_of
     passed_is budget {reply} {p'} {s'} {o'} q =
-        let z : refusalOf ≡ 0 = passed_none check check-rows passed in
-        let back : record { reply = reply; pyramid = asRows side-power p'; serials = s'; order = o' }
-        ≡ advanced side-power progress budget rows-lent s o
+        let z : refusal_of ≡ 0 = passed_none check check_rows passed in
+        let back : record { reply = reply; pyramid = as_rows side_power p'; serials = s'; order = o' }
+        ≡ advanced side_power progress budget rows_lent s o
         = rw er at q in
-        rw (advanceByQuarters, z, advanceOf, ← back, quarters-rows side-power p')
+        rw (advance_by_quarters, z, advance_of, ← back, quarters_rows side_power p')

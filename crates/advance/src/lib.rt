@@ -1,9 +1,9 @@
 // Advance: as many dots as are due, and at most the budget, spread by the knit of the record (`advance`).
 ghost use Rattle.std.specs.Prelude.{◌≡◌};
-ghost use Rattle.definition.specs.Answers.{advanceSays};
-ghost use Rattle.definition.specs.Advance.{saidAt, advanced};
-ghost use Rattle.definition.specs.Quarters.{asRows};
-ghost use Rattle.definition.specs.ByQuarters.{advanceByQuarters};
+ghost use Rattle.definition.specs.Answers.{advance_says};
+ghost use Rattle.definition.specs.Advance.{said_at, advanced};
+ghost use Rattle.definition.specs.Quarters.{as_rows};
+ghost use Rattle.definition.specs.ByQuarters.{advance_by_quarters};
 ghost use Rattle.places.specs.Table.{places};
 ghost use Rattle.sheet.specs.Sheets.{SheetAsked};
 
@@ -15,7 +15,7 @@ const HALF_DOT: i64 = 32640;
 
 // What is said with this top: finished if it is below 32,640, else more (S 7.3).
 fn ended(top: i64) -> AdvanceStatus
-    ensures { advanceSays result ≡ saidAt top }
+    ensures { advance_says result ≡ said_at top }
 {
     if top < HALF_DOT {
         return AdvanceStatus::Finished;
@@ -56,13 +56,13 @@ fn advance_sheet(
     requires sheet_asked { SheetAsked r progress.dots pyramid.old serials.old order.old }
     requires table_value { table.now ≡ places }
     ensures { record {
-      reply = record { progress = result.progress; made = result.made; said = advanceSays result.status };
-      pyramid = asRows r pyramid.new;
+      reply = record { progress = result.progress; made = result.made; said = advance_says result.status };
+      pyramid = as_rows r pyramid.new;
       serials = serials.new;
       order = order.new;
     }
         ≡ advanced r progress budget
-        (asRows r pyramid.old) serials.old order.old }
+        (as_rows r pyramid.old) serials.old order.old }
 {
     let dots = progress.dots;
     let knit = progress.knit;
@@ -91,12 +91,12 @@ pub fn advance(
     order: &mut [u32],
 ) -> AdvanceAnswer
     ensures { record {
-      reply = record { progress = result.progress; made = result.made; said = advanceSays result.status };
+      reply = record { progress = result.progress; made = result.made; said = advance_says result.status };
       pyramid = pyramid.new;
       serials = serials.new;
       order = order.new;
     }
-        ≡ advanceByQuarters progress budget pyramid.old serials.old order.old }
+        ≡ advance_by_quarters progress budget pyramid.old serials.old order.old }
 {
     let table = places::table();
     let dots = progress.dots;

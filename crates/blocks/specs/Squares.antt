@@ -1,6 +1,6 @@
 -- What the inner functions count and sum up: rows of cells, and squares of cells on a map of `side` by `side` (s rows
 -- of s cells, the first in row `top` at column `left`). What they ask for (`SquareAsked`), and the laws of their loops
--- (`dot-one`, `square-row`).
+-- (`dot_one`, `square_row`).
 use Rattle.std.specs.Prelude.{◌≡◌, refl, List, ℕ, ◌+◌, ◌*◌, ◌≤◌, ◌<◌, get_or}
 use Rattle.std.proofs.Common.{arith, mul-le-mul, mul-le-mul_right, eq-eqb, ne_eqb}
 use Rattle.definition.specs.Lists.{sum_to}
@@ -8,31 +8,31 @@ use Rattle.definition.specs.Blocks.{burnt}
 use Rattle.integers.specs.Totals.{Total}
 
 -- the sum of f over the values of `count` cells from the cell `from` on, and over those of a square
-abbrev pub rowSum : (ℕ → ℕ) → List ℕ → ℕ → ℕ → ℕ
-rowSum f values from count = sum_to count (λ y. f (get_or values (from + y) 0))
+abbrev pub row_sum : (ℕ → ℕ) → List ℕ → ℕ → ℕ → ℕ
+row_sum f values from count = sum_to count (λ y. f (get_or values (from + y) 0))
 
-abbrev pub squareSum : (ℕ → ℕ) → List ℕ → ℕ → ℕ → ℕ → ℕ → ℕ
-squareSum f values side s top left = sum_to s (λ x. rowSum f values ((top + x) * side + left) s)
+abbrev pub square_sum : (ℕ → ℕ) → List ℕ → ℕ → ℕ → ℕ → ℕ → ℕ
+square_sum f values side s top left = sum_to s (λ x. row_sum f values ((top + x) * side + left) s)
 
 -- the dots, 1 for each serial that isn't 0; and the greys themselves
-abbrev pub rowDots : List ℕ → ℕ → ℕ → ℕ
-rowDots = rowSum burnt
+abbrev pub row_dots : List ℕ → ℕ → ℕ → ℕ
+row_dots = row_sum burnt
 
-abbrev pub squareDots : List ℕ → ℕ → ℕ → ℕ → ℕ → ℕ
-squareDots = squareSum burnt
+abbrev pub square_dots : List ℕ → ℕ → ℕ → ℕ → ℕ → ℕ
+square_dots = square_sum burnt
 
-abbrev pub rowGreys : List ℕ → ℕ → ℕ → ℕ
-rowGreys = rowSum (λ grey. grey)
+abbrev pub row_greys : List ℕ → ℕ → ℕ → ℕ
+row_greys = row_sum (λ grey. grey)
 
-abbrev pub squareGreys : List ℕ → ℕ → ℕ → ℕ → ℕ → ℕ
-squareGreys = squareSum (λ grey. grey)
+abbrev pub square_greys : List ℕ → ℕ → ℕ → ℕ → ℕ → ℕ
+square_greys = square_sum (λ grey. grey)
 
 -- bounds: 256 greys, or errors, of at most 255 in size, and 256 rows of them
-abbrev pub rowMost : ℕ
-rowMost = 255 * 256
+abbrev pub row_most : ℕ
+row_most = 255 * 256
 
-abbrev pub squareMost : ℕ
-squareMost = rowMost * 256
+abbrev pub square_most : ℕ
+square_most = row_most * 256
 
 -- ════ what the functions ask for
 
@@ -50,13 +50,13 @@ pub record SquareAsked (lent side s top left : ℕ) : Type 0 where
 -- ════ cells
 
 -- a cell without a dot counts 0, a dot 1
-pub dot-none : {serial : ℕ} → serial ≡ 0 → Total (burnt serial) 1 0
+pub dot_none : {serial : ℕ} → serial ≡ 0 → Total (burnt serial) 1 0
 unfolding burnt
-dot-none {serial} e = rw (eq-eqb serial 0 e) (record { is = refl; small = omega arith })
+dot_none {serial} e = rw (eq-eqb serial 0 e) (record { is = refl; small = omega arith })
 
-pub dot-one : {serial : ℕ} → (serial ≡ 0 → ⊥) → Total (burnt serial) 1 1
+pub dot_one : {serial : ℕ} → (serial ≡ 0 → ⊥) → Total (burnt serial) 1 1
 unfolding burnt
-dot-one {serial} n = rw (ne_eqb serial 0 n) (record { is = refl; small = omega arith })
+dot_one {serial} n = rw (ne_eqb serial 0 n) (record { is = refl; small = omega arith })
 
 -- ════ rows of a square
 
@@ -65,9 +65,9 @@ pub record Row (lent side s top left x : ℕ) : Type 0 where
   pub asked : RowAsked lent ((top + x) * side + left) s
   pub most : (top + x) * side + left ≤ 65536
 
-pub square-row : {lent side s top left x : ℕ} → SquareAsked lent side s top left → x < s
+pub square_row : {lent side s top left x : ℕ} → SquareAsked lent side s top left → x < s
     → Row lent side s top left x
-square-row {lent} {side} {s} {top} {left} {x} h lt =
+square_row {lent} {side} {s} {top} {left} {x} h lt =
     let a : top + x + 1 ≤ side = omega (arith, h.down) in
     let b = mul-le-mul_right side a in
     let c = mul-le-mul h.small h.small in

@@ -1,8 +1,8 @@
 // The price list in code (`run_calls`): a map is loaded for a knit, and a list of Advance calls is made on it, each
 // lent parts of the buffers (`one_call`).
 ghost use Rattle.std.specs.Prelude.{◌≡◌, min, length, get_or};
-ghost use Rattle.definition.specs.AdvanceList.{call_of, heldAfter, heldAfterCalls};
-ghost use Rattle.call_list.specs.PriceListOfCode.{callsIn, Kept};
+ghost use Rattle.definition.specs.AdvanceList.{call_of, held_after, held_after_calls};
+ghost use Rattle.call_list.specs.PriceListOfCode.{calls_in, Kept};
 
 use definition::Progress;
 
@@ -43,7 +43,7 @@ pub fn one_call(
       serials = serials.new;
       order = order.new;
     }
-        ≡ heldAfter
+        ≡ held_after
         (call_of
         (record {
           progress = progress;
@@ -51,7 +51,7 @@ pub fn one_call(
           serials = serials.old;
           order = order.old;
         })
-        (record { budget = budget; pyramidLent = a; serialsLent = b; orderLent = c })) }
+        (record { budget = budget; pyramid_lent = a; serials_lent = b; order_lent = c })) }
 {
     let p = lent(a, pyramid.len());
     let s = lent(b, serials.len());
@@ -83,14 +83,14 @@ fn make_calls(
       serials = serials.new;
       order = order.new;
     }
-        ≡ heldAfterCalls
+        ≡ held_after_calls
         (record {
           progress = first;
           pyramid = pyramid.old;
           serials = serials.old;
           order = order.old;
         })
-        (callsIn budgets.now pyramids.now sheets.now orders.now) }
+        (calls_in budgets.now pyramids.now sheets.now orders.now) }
 {
     let mut progress = first;
     let mut i = 0;
@@ -120,7 +120,7 @@ pub fn run_calls(
 ) -> Progress
     ensures { Kept side knit
         greys.now pyramid.old serials.old order.old
-        (callsIn budgets.now pyramids.now sheets.now orders.now)
+        (calls_in budgets.now pyramids.now sheets.now orders.now)
         (record {
           progress = result;
           pyramid = pyramid.new;

@@ -1,5 +1,5 @@
--- The two calls' ways out: refused, with nothing changed (`keep-refused`, `restore-refused`), and done (`keep-done`,
--- `restore-done`).
+-- The two calls' ways out: refused, with nothing changed (`keep_refused`, `restore_refused`), and done (`keep_done`,
+-- `restore_done`).
 use Rattle.std.specs.Prelude.{◌≡◌, Bool, true, false, not, eqb, length, get_or, set, ℤ}
 use Rattle.std.proofs.Math.Path.{sym}
 use Rattle.std.proofs.Common.{◌∙◌, arith}
@@ -7,179 +7,179 @@ use mathlib.Core.List.{List, [], ◌∷◌, ◌++◌}
 use Prim.Native.Nat.{ℕ, suc, ◌-◌, ◌^◌, ◌≤◌, ◌<◌}
 use borrow.Author.Tests.{not-false}
 use Rattle.std.proofs.Math.ListN.{drop}
-use Rattle.definition.specs.Answers.{checkpointSays, number_of}
+use Rattle.definition.specs.Answers.{checkpoint_says, number_of}
 use Rattle.definition.specs.Pyramid.{needed}
-use Rattle.definition.specs.Blocks.{greyTotal, total_of}
-use Rattle.definition.specs.Diffusion.{kernelOf}
-use Rattle.definition.specs.Model.{modelStart, steps}
-use Rattle.definition.specs.Quarters.{quartersFrom, asRows, asQuarters}
-use Rattle.definition.specs.ByQuarters.{restoreByQuarters}
+use Rattle.definition.specs.Blocks.{grey_total, total_of}
+use Rattle.definition.specs.Diffusion.{kernel_of}
+use Rattle.definition.specs.Model.{model_start, steps}
+use Rattle.definition.specs.Quarters.{quarters_from, as_rows, as_quarters}
+use Rattle.definition.specs.ByQuarters.{restore_by_quarters}
 use Rattle.definition.specs.QuotePage.{figures}
-use Rattle.definition.specs.Sound.{isSound}
-use Rattle.definition.specs.Refusals.{powerOf, sheetUnsound, greyHigh, lowest}
-use Rattle.definition.specs.Load.{lowMap, loadRefusal}
-use Rattle.definition.specs.Advance.{sheetIn}
-use Rattle.definition.specs.Checkpoints.{isName, kept_at, nameUnknown, keepRefusal, keepOf}
-use Rattle.definition.specs.Checkpoints.{canRestore, restoreRefusal, restored, restoreOf}
+use Rattle.definition.specs.Sound.{is_sound}
+use Rattle.definition.specs.Refusals.{power_of, sheet_unsound, grey_high, lowest}
+use Rattle.definition.specs.Load.{low_map, load_refusal}
+use Rattle.definition.specs.Advance.{sheet_in}
+use Rattle.definition.specs.Checkpoints.{is_name, kept_at, name_unknown, keep_refusal, keep_of}
+use Rattle.definition.specs.Checkpoints.{can_restore, restore_refusal, restored, restore_of}
 use Rattle.definition.specs.declared.Progress.{Progress}
 use Rattle.definition.specs.declared.Refusal.{Refusal}
 use Rattle.definition.specs.declared.Checkpoints.{Checkpoints}
 use Rattle.definition.specs.declared.CheckpointAnswer.{CheckpointAnswer}
 use Rattle.definition.specs.declared.CheckpointStatus.TheVariants.{Done, Refused}
-use Rattle.refusals.specs.Lowest.{LoadLent, load-none, lowest-none}
-use Rattle.refusals.specs.Numbers.{number-positive}
-use Rattle.layouts.specs.Lent.{rows-length, rows_drop, as-quarters-part, quarters-rows}
-use Rattle.checks.specs.Checks.{checked, passed_none, failed-number}
+use Rattle.refusals.specs.Lowest.{LoadLent, load_none, lowest_none}
+use Rattle.refusals.specs.Numbers.{number_positive}
+use Rattle.layouts.specs.Lent.{rows_length, rows_drop, as_quarters_part, quarters_rows}
+use Rattle.checks.specs.Checks.{checked, passed_none, failed_number}
 use Rattle.checks.specs.declared.Check.{Check}
 use Rattle.checks.specs.declared.Check.TheVariants.{Passed, Failed}
-use Rattle.guarantee.specs.Quote.{figures-fit}
-use Rattle.sheet.specs.Sheets.{SheetLent, shownRows}
-use Rattle.fresh_sheet.specs.Filling.{fill-lent}
+use Rattle.guarantee.specs.Quote.{figures_fit}
+use Rattle.sheet.specs.Sheets.{SheetLent, shown_rows}
+use Rattle.fresh_sheet.specs.Filling.{fill_lent}
 use Rattle.quote_figures.specs.MapLent.{MapLent}
 use Rattle.checkpoints.specs.Restoring.{CountAsked, AnewAsked, Restored}
-use Rattle.names.specs.Names.{kept-within}
-use Rattle.checkpoints.specs.Rows.{lent-first, then-last, restore-none}
+use Rattle.names.specs.Names.{kept_within}
+use Rattle.checkpoints.specs.Rows.{lent_first, then_last, restore_none}
 
 -- ---- Keep
-module _ (progress : Progress) (checkpoints : Checkpoints) (name : ℕ) {r : ℕ} (er : r ≡ powerOf progress.side)
-    (check : Check) (e : checked check ≡ keepRefusal r name) where
-  pub keep-refused : {why : Refusal} {a : CheckpointAnswer} → check ≡ Failed why
+module _ (progress : Progress) (checkpoints : Checkpoints) (name : ℕ) {r : ℕ} (er : r ≡ power_of progress.side)
+    (check : Check) (e : checked check ≡ keep_refusal r name) where
+  pub keep_refused : {why : Refusal} {a : CheckpointAnswer} → check ≡ Failed why
       → a ≡ record { progress = progress; checkpoints = checkpoints; status = Refused why }
-      → record { progress = a.progress; checkpoints = a.checkpoints; said = checkpointSays a.status }
-      ≡ keepOf progress checkpoints name
-  unfolding keepOf checkpointSays
-  keep-refused {why} failed ea =
-      let n : keepRefusal (powerOf progress.side) name ≡ suc (number_of why - 1) =
-      rw (← er) (failed-number check e why failed) in
-      rw (ea, n, keepOf, ← number-positive why)
+      → record { progress = a.progress; checkpoints = a.checkpoints; said = checkpoint_says a.status }
+      ≡ keep_of progress checkpoints name
+  unfolding keep_of checkpoint_says
+  keep_refused {why} failed ea =
+      let n : keep_refusal (power_of progress.side) name ≡ suc (number_of why - 1) =
+      rw (← er) (failed_number check e why failed) in
+      rw (ea, n, keep_of, ← number_positive why)
 
   module _ (passed : check ≡ Passed) where
-    pub keep-named : isName name ≡ true
-    unfolding keepRefusal
-    keep-named =
-        let r₁ = lowest-none 1 (eqb r 0) _ (omega arith) (passed_none check e passed) in
-        not-false (isName name) (lowest-none 10 (not (isName name)) _ (omega arith) r₁.1).0
+    pub keep_named : is_name name ≡ true
+    unfolding keep_refusal
+    keep_named =
+        let r₁ = lowest_none 1 (eqb r 0) _ (omega arith) (passed_none check e passed) in
+        not-false (is_name name) (lowest_none 10 (not (is_name name)) _ (omega arith) r₁.1).0
 
-    pub keep-done : {with' : Checkpoints} {a : CheckpointAnswer}
+    pub keep_done : {with' : Checkpoints} {a : CheckpointAnswer}
         → with' ≡ record { kept = set checkpoints.kept (name - 1) (suc progress.dots) }
         → a ≡ record { progress = progress; checkpoints = with'; status = Done }
-        → record { progress = a.progress; checkpoints = a.checkpoints; said = checkpointSays a.status }
-        ≡ keepOf progress checkpoints name
-    unfolding keepOf checkpointSays
-    keep-done ew ea =
-        let z : keepRefusal (powerOf progress.side) name ≡ 0 = rw (← er) (passed_none check e passed) in
-        rw (ea, ew, z, keepOf)
+        → record { progress = a.progress; checkpoints = a.checkpoints; said = checkpoint_says a.status }
+        ≡ keep_of progress checkpoints name
+    unfolding keep_of checkpoint_says
+    keep_done ew ea =
+        let z : keep_refusal (power_of progress.side) name ≡ 0 = rw (← er) (passed_none check e passed) in
+        rw (ea, ew, z, keep_of)
 
 -- ---- Restore's check: Load's rows by what is lent, then the last three
 module _ {r : ℕ} (small : r ≤ 8) (dots knit : ℕ) (checkpoints : Checkpoints) (name : ℕ)
     (g : List ℕ) (p : List ℤ) (s o : List ℕ)
-    (first : Check) (e : checked first ≡ loadRefusal r knit (length g) (length p) (length s) (length o) true) where
+    (first : Check) (e : checked first ≡ load_refusal r knit (length g) (length p) (length s) (length o) true) where
   abbrev refusal : ℕ
   refusal =
-      restoreRefusal r knit (length g) (length p) (length s) (length o) (isSound r (sheetIn r dots (asRows r p) s o))
-      (lowMap r g) (canRestore checkpoints name (total_of (greyTotal r g)))
+      restore_refusal r knit (length g) (length p) (length s) (length o) (is_sound r (sheet_in r dots (as_rows r p) s o))
+      (low_map r g) (can_restore checkpoints name (total_of (grey_total r g)))
 
-  pub first-failed : {why : Refusal} → first ≡ Failed why → checked (Failed why) ≡ refusal
+  pub first_failed : {why : Refusal} → first ≡ Failed why → checked (Failed why) ≡ refusal
   unfolding checked
-  first-failed {why} failed =
-      number-positive why
+  first_failed {why} failed =
+      number_positive why
       ∙ sym
-      (lent-first r knit (length g) (length p) (length s) (length o) _ _ _ (number_of why - 1)
-      (failed-number first e why failed))
+      (lent_first r knit (length g) (length p) (length s) (length o) _ _ _ (number_of why - 1)
+      (failed_number first e why failed))
 
   module _ (passed : first ≡ Passed) where
     none_lent : LoadLent r knit (length g) (length p) (length s) (length o)
     none_lent =
-        ((load-none r knit (length g) (length p) (length s) (length o) true).0 (passed_none first e passed)).0
+        ((load_none r knit (length g) (length p) (length s) (length o) true).0 (passed_none first e passed)).0
 
-    pub map-lent : MapLent r (length g)
-    map-lent = record { power = none_lent.power; powers = small; room = none_lent.greys-long }
+    pub map_lent : MapLent r (length g)
+    map_lent = record { power = none_lent.power; powers = small; room = none_lent.greys_long }
 
-    pub sheet-lent : SheetLent r (length p) (length s) (length o)
-    sheet-lent =
+    pub sheet_lent : SheetLent r (length p) (length s) (length o)
+    sheet_lent =
         record {
           power = none_lent.power;
-          pyramid-long = none_lent.pyramid-long;
-          serials-long = none_lent.serials-long;
-          order-long = none_lent.order-long;
+          pyramid_long = none_lent.pyramid_long;
+          serials_long = none_lent.serials_long;
+          order_long = none_lent.order_long;
         }
 
-    pub last-checked : {sound : Bool} → sound ≡ isSound r (sheetIn r dots (shownRows false r p) s o)
-        → {low : Bool} → low ≡ lowMap r g
-        → {total : ℕ} → total ≡ total_of (greyTotal r g)
-        → {known : Bool} → known ≡ canRestore checkpoints name total
-        → (last : Check) → checked last ≡ lowest (sheetUnsound sound ∷ greyHigh low ∷ nameUnknown known ∷ [])
+    pub last_checked : {sound : Bool} → sound ≡ is_sound r (sheet_in r dots (shown_rows false r p) s o)
+        → {low : Bool} → low ≡ low_map r g
+        → {total : ℕ} → total ≡ total_of (grey_total r g)
+        → {known : Bool} → known ≡ can_restore checkpoints name total
+        → (last : Check) → checked last ≡ lowest (sheet_unsound sound ∷ grey_high low ∷ name_unknown known ∷ [])
         → checked last ≡ refusal
-    unfolding shownRows
-    last-checked es el et ek last q =
+    unfolding shown_rows
+    last_checked es el et ek last q =
         rw (es, el, ek, et) at q
-        ∙ sym (then-last r knit (length g) (length p) (length s) (length o) _ _ _ (passed_none first e passed))
+        ∙ sym (then_last r knit (length g) (length p) (length s) (length o) _ _ _ (passed_none first e passed))
 
 -- ---- what a Restore that isn't refused was given
 module _ (knit : ℕ) (checkpoints : Checkpoints) (name : ℕ) (g : List ℕ) (p : List ℤ) (s o : List ℕ)
     {r : ℕ} (small : r ≤ 8) (check : Check) (sound : Bool)
     (e : checked check
-    ≡ restoreRefusal r knit (length g) (length p) (length s) (length o) sound (lowMap r g)
-    (canRestore checkpoints name (total_of (greyTotal r g))))
+    ≡ restore_refusal r knit (length g) (length p) (length s) (length o) sound (low_map r g)
+    (can_restore checkpoints name (total_of (grey_total r g))))
     (passed : check ≡ Passed) (bytes : (i : ℕ) → get_or g i 0 ≤ 255) where
-  none : (loadRefusal r knit (length g) (length p) (length s) (length o) true ≡ 0)
-      × (canRestore checkpoints name (total_of (greyTotal r g)) ≡ true)
-  none = restore-none r knit (length g) (length p) (length s) (length o) _ _ _ (passed_none check e passed)
+  none : (load_refusal r knit (length g) (length p) (length s) (length o) true ≡ 0)
+      × (can_restore checkpoints name (total_of (grey_total r g)) ≡ true)
+  none = restore_none r knit (length g) (length p) (length s) (length o) _ _ _ (passed_none check e passed)
 
-  pub anew-asked : AnewAsked r g (length p) (length s) (length o)
-  anew-asked =
-      let lent = ((load-none r knit (length g) (length p) (length s) (length o) true).0 none.0).0 in
-      record { lent = fill-lent small lent; bytes = bytes }
+  pub anew_asked : AnewAsked r g (length p) (length s) (length o)
+  anew_asked =
+      let lent = ((load_none r knit (length g) (length p) (length s) (length o) true).0 none.0).0 in
+      record { lent = fill_lent small lent; bytes = bytes }
 
   -- the sum of all greys has at most the eight digits of its column on the quote page, so the total is small
-  greys-few : greyTotal r g < 10 ^ 8
-  unfolding greyTotal figures
-  greys-few = (figures-fit r g [] 0 0 0 small (omega arith) (omega arith) (omega arith) bytes).1.1.0
+  greys_few : grey_total r g < 10 ^ 8
+  unfolding grey_total figures
+  greys_few = (figures_fit r g [] 0 0 0 small (omega arith) (omega arith) (omega arith) bytes).1.1.0
 
-  pub count-asked : CountAsked checkpoints name
-  count-asked =
-      let k = kept-within checkpoints name (total_of (greyTotal r g)) none.1 in
-      record { is_name = k.0; some = k.1; few = omega (arith, k.2, greys-few) }
+  pub count_asked : CountAsked checkpoints name
+  count_asked =
+      let k = kept_within checkpoints name (total_of (grey_total r g)) none.1 in
+      record { is_name = k.0; some = k.1; few = omega (arith, k.2, greys_few) }
 
 -- ---- Restore
 module _ (progress : Progress) (checkpoints : Checkpoints) (name : ℕ) (g : List ℕ) (p : List ℤ) (s o : List ℕ)
-    {r : ℕ} (er : r ≡ powerOf progress.side) (check : Check)
+    {r : ℕ} (er : r ≡ power_of progress.side) (check : Check)
     (e : checked check
-    ≡ restoreRefusal r progress.knit (length g) (length p) (length s) (length o)
-    (isSound r (sheetIn r progress.dots (asRows r p) s o)) (lowMap r g)
-    (canRestore checkpoints name (total_of (greyTotal r g)))) where
-  abbrev side-power : ℕ
-  side-power = powerOf progress.side
+    ≡ restore_refusal r progress.knit (length g) (length p) (length s) (length o)
+    (is_sound r (sheet_in r progress.dots (as_rows r p) s o)) (low_map r g)
+    (can_restore checkpoints name (total_of (grey_total r g)))) where
+  abbrev side_power : ℕ
+  side_power = power_of progress.side
 
   abbrev rows : List ℤ
-  rows = asRows side-power p
+  rows = as_rows side_power p
 
-  abbrev refusalOf : ℕ
-  refusalOf =
-      restoreRefusal side-power progress.knit (length g) (length rows) (length s) (length o)
-      (isSound side-power (sheetIn side-power progress.dots rows s o)) (lowMap side-power g)
-      (canRestore checkpoints name (total_of (greyTotal side-power g)))
+  abbrev refusal_of : ℕ
+  refusal_of =
+      restore_refusal side_power progress.knit (length g) (length rows) (length s) (length o)
+      (is_sound side_power (sheet_in side_power progress.dots rows s o)) (low_map side_power g)
+      (can_restore checkpoints name (total_of (grey_total side_power g)))
 
-  check-rows : checked check ≡ refusalOf
-  check-rows = rw (rows-length side-power p, ← er) e
+  check_rows : checked check ≡ refusal_of
+  check_rows = rw (rows_length side_power p, ← er) e
 
-  pub restore-refused : {why : Refusal} {a : CheckpointAnswer} → check ≡ Failed why
+  pub restore_refused : {why : Refusal} {a : CheckpointAnswer} → check ≡ Failed why
       → a ≡ record { progress = progress; checkpoints = checkpoints; status = Refused why }
       → record {
         progress = a.progress;
         checkpoints = a.checkpoints;
-        said = checkpointSays a.status;
+        said = checkpoint_says a.status;
         pyramid = p;
         serials = s;
         order = o;
       }
-      ≡ restoreByQuarters progress checkpoints name g p s o
-  unfolding restoreByQuarters restoreOf checkpointSays
-  restore-refused {why} failed ea =
-      let n : refusalOf ≡ suc (number_of why - 1) = failed-number check check-rows why failed in
-      rw (ea, restoreByQuarters, n, restoreOf, quarters-rows side-power p, ← number-positive why)
+      ≡ restore_by_quarters progress checkpoints name g p s o
+  unfolding restore_by_quarters restore_of checkpoint_says
+  restore_refused {why} failed ea =
+      let n : refusal_of ≡ suc (number_of why - 1) = failed_number check check_rows why failed in
+      rw (ea, restore_by_quarters, n, restore_of, quarters_rows side_power p, ← number_positive why)
 
-  pub restore-done : check ≡ Passed → {dots : ℕ} → dots ≡ kept_at checkpoints name - 1
+  pub restore_done : check ≡ Passed → {dots : ℕ} → dots ≡ kept_at checkpoints name - 1
       → {p' : List ℤ} {s' o' : List ℕ} → Restored progress.knit r dots g p s o p' s' o'
       → {a : CheckpointAnswer}
       → a ≡ record {
@@ -190,18 +190,18 @@ module _ (progress : Progress) (checkpoints : Checkpoints) (name : ℕ) (g : Lis
       → record {
         progress = a.progress;
         checkpoints = a.checkpoints;
-        said = checkpointSays a.status;
+        said = checkpoint_says a.status;
         pyramid = p';
         serials = s';
         order = o';
       }
-      ≡ restoreByQuarters progress checkpoints name g p s o
-  unfolding restoreByQuarters restoreOf restored checkpointSays
-  restore-done passed ed f ea =
-      let z : refusalOf ≡ 0 = passed_none check check-rows passed in
+      ≡ restore_by_quarters progress checkpoints name g p s o
+  unfolding restore_by_quarters restore_of restored checkpoint_says
+  restore_done passed ed f ea =
+      let z : refusal_of ≡ 0 = passed_none check check_rows passed in
       let count = kept_at checkpoints name - 1 in
-      let sheet = steps (kernelOf progress.knit) side-power count (modelStart side-power g) in
-      let back : asQuarters side-power (sheet.pyramid ++ drop (needed side-power) rows)
-      ≡ quartersFrom side-power sheet.pyramid ++ drop (needed side-power) p
-      = as-quarters-part side-power sheet.pyramid _ (rw (er, ed) at f.long) ∙ rw (rows_drop side-power p) in
-      rw (ea, f.pyramid, f.serials, f.order, ed, er, restoreByQuarters, z, restoreOf, back)
+      let sheet = steps (kernel_of progress.knit) side_power count (model_start side_power g) in
+      let back : as_quarters side_power (sheet.pyramid ++ drop (needed side_power) rows)
+      ≡ quarters_from side_power sheet.pyramid ++ drop (needed side_power) p
+      = as_quarters_part side_power sheet.pyramid _ (rw (er, ed) at f.long) ∙ rw (rows_drop side_power p) in
+      rw (ea, f.pyramid, f.serials, f.order, ed, er, restore_by_quarters, z, restore_of, back)

@@ -1,15 +1,15 @@
 // Keep and Restore: counts of dots under eight names (`keep`), and the way back to one of them (`restore`).
 ghost use Rattle.std.specs.Prelude.{◌≡◌, [], ◌∷◌, ◌-◌, ◌≤◌, length};
-ghost use Rattle.definition.specs.Answers.{checkpointSays};
-ghost use Rattle.definition.specs.Blocks.{greyTotal, total_of};
-ghost use Rattle.definition.specs.Sound.{isSound};
-ghost use Rattle.definition.specs.Refusals.{sheetUnsound, greyHigh, lowest};
-ghost use Rattle.definition.specs.Load.{lowMap};
-ghost use Rattle.definition.specs.Advance.{sheetIn};
-ghost use Rattle.definition.specs.Checkpoints.{kept_at, nameUnknown, keepRefusal, keepOf};
-ghost use Rattle.definition.specs.Checkpoints.{canRestore, restoreRefusal};
-ghost use Rattle.definition.specs.Quarters.{asRows};
-ghost use Rattle.definition.specs.ByQuarters.{restoreByQuarters};
+ghost use Rattle.definition.specs.Answers.{checkpoint_says};
+ghost use Rattle.definition.specs.Blocks.{grey_total, total_of};
+ghost use Rattle.definition.specs.Sound.{is_sound};
+ghost use Rattle.definition.specs.Refusals.{sheet_unsound, grey_high, lowest};
+ghost use Rattle.definition.specs.Load.{low_map};
+ghost use Rattle.definition.specs.Advance.{sheet_in};
+ghost use Rattle.definition.specs.Checkpoints.{kept_at, name_unknown, keep_refusal, keep_of};
+ghost use Rattle.definition.specs.Checkpoints.{can_restore, restore_refusal};
+ghost use Rattle.definition.specs.Quarters.{as_rows};
+ghost use Rattle.definition.specs.ByQuarters.{restore_by_quarters};
 ghost use Rattle.places.specs.Table.{places};
 ghost use Rattle.checks.specs.Checks.{checked};
 ghost use Rattle.checkpoints.specs.Restoring.{CountAsked, AnewAsked, Restored};
@@ -40,7 +40,7 @@ fn refused(progress: Progress, checkpoints: Checkpoints, why: Refusal) -> Checkp
 
 // Keep's refusals 1, then 10 (S 5.2).
 fn check_keep(r: usize, name: u32) -> Check
-    ensures { checked result ≡ keepRefusal r name }
+    ensures { checked result ≡ keep_refusal r name }
 {
     if r == 0 {
         return Check::Failed(Refusal::SideUnknown);
@@ -53,8 +53,8 @@ fn check_keep(r: usize, name: u32) -> Check
 
 // Keep (S 10.1): the dots of the record are written down under a name.
 pub fn keep(progress: Progress, checkpoints: Checkpoints, name: u32) -> CheckpointAnswer
-    ensures { record { progress = result.progress; checkpoints = result.checkpoints; said = checkpointSays result.status }
-        ≡ keepOf progress checkpoints name }
+    ensures { record { progress = result.progress; checkpoints = result.checkpoints; said = checkpoint_says result.status }
+        ≡ keep_of progress checkpoints name }
 {
     let r = sizes::power_of(progress.side);
     match check_keep(r, name) {
@@ -68,7 +68,7 @@ pub fn keep(progress: Progress, checkpoints: Checkpoints, name: u32) -> Checkpoi
 
 // Restore's last refusals: 5, then 12, then 10.
 fn check_last(sound: bool, low: bool, known: bool) -> Check
-    ensures { checked result ≡ lowest (sheetUnsound sound ∷ greyHigh low ∷ nameUnknown known ∷ []) }
+    ensures { checked result ≡ lowest (sheet_unsound sound ∷ grey_high low ∷ name_unknown known ∷ []) }
 {
     if !sound {
         return Check::Failed(Refusal::SheetUnsound);
@@ -98,12 +98,12 @@ fn check_restore(
     requires r_bound { r ≤ 8 }
     requires table_value { table.now ≡ places }
     ensures { checked result
-        ≡ restoreRefusal r knit
+        ≡ restore_refusal r knit
         (length greys.now) (length pyramid.now)
         (length serials.now) (length order.now)
-        (isSound r (sheetIn r dots (asRows r pyramid.now) serials.now order.now))
-        (lowMap r greys.now)
-        (canRestore checkpoints name (total_of (greyTotal r greys.now))) }
+        (is_sound r (sheet_in r dots (as_rows r pyramid.now) serials.now order.now))
+        (low_map r greys.now)
+        (can_restore checkpoints name (total_of (grey_total r greys.now))) }
 {
     match fresh_sheet::check_load(
         r,
@@ -178,12 +178,12 @@ pub fn restore(
     ensures { record {
       progress = result.progress;
       checkpoints = result.checkpoints;
-      said = checkpointSays result.status;
+      said = checkpoint_says result.status;
       pyramid = pyramid.new;
       serials = serials.new;
       order = order.new;
     }
-        ≡ restoreByQuarters progress checkpoints name
+        ≡ restore_by_quarters progress checkpoints name
         greys.now pyramid.old serials.old order.old }
 {
     let table = places::table();

@@ -1,4 +1,4 @@
--- The number that a check says, 0 if it passes (`checked`, `passed_none`, `failed-number`); and what the tests of
+-- The number that a check says, 0 if it passes (`checked`, `passed_none`, `failed_number`); and what the tests of
 -- lengths and places tell about the rows of refusals (`short`, `enough`).
 use Rattle.std.specs.Prelude.{◌≡◌, true, false, ℕ, suc, ◌-◌, ◌≤◌, ◌<◌, ltb, leb}
 use Rattle.std.proofs.Math.Path.{sym, ap}
@@ -6,7 +6,7 @@ use Rattle.std.proofs.Common.{◌∙◌, arith, lt-ltb, le-ltb, le-leb}
 use Rattle.std.proofs.lemmas.Bool.{lt-leb}
 use Rattle.definition.specs.Answers.{number_of}
 use Rattle.definition.specs.declared.Refusal.{Refusal}
-use Rattle.refusals.specs.Numbers.{number-positive}
+use Rattle.refusals.specs.Numbers.{number_positive}
 use Rattle.checks.specs.declared.Check.{Check}
 use Rattle.checks.specs.declared.Check.TheVariants.{Passed, Failed}
 
@@ -20,9 +20,9 @@ module _ (check : Check) {n : ℕ} (e : checked check ≡ n) where
   unfolding checked
   passed_none passed = sym e ∙ ap checked passed
 
-  pub failed-number : (why : Refusal) → check ≡ Failed why → n ≡ suc (number_of why - 1)
+  pub failed_number : (why : Refusal) → check ≡ Failed why → n ≡ suc (number_of why - 1)
   unfolding checked
-  failed-number why failed = sym e ∙ ap checked failed ∙ number-positive why
+  failed_number why failed = sym e ∙ ap checked failed ∙ number_positive why
 
 -- fewer places lent than asked, or enough; `asked` is what the code has worked out for `needed`
 module _ {lent asked needed : ℕ} (e : asked ≡ needed) where

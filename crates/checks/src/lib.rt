@@ -2,7 +2,7 @@
 // applies. The number of a refusal (`number_of`), and the check of a greys buffer (`check_greys`).
 ghost use Rattle.std.specs.Prelude.{◌≡◌, ◌≤◌};
 ghost use Rattle.definition.specs.Answers.{number_of};
-ghost use Rattle.definition.specs.Refusals.{greysRefusal};
+ghost use Rattle.definition.specs.Refusals.{greys_refusal};
 ghost use Rattle.checks.specs.Checks.{checked};
 
 use definition::Refusal;
@@ -38,7 +38,7 @@ pub fn number_of(why: Refusal) -> u32
 // Refusals 1 and 2, in this order (S 5.2), from the side's power and the places of the greys buffer.
 pub fn check_greys(r: usize, lent: usize) -> Check
     requires { r ≤ 8 }
-    ensures { checked result ≡ greysRefusal r lent }
+    ensures { checked result ≡ greys_refusal r lent }
 {
     let cells = sizes::cell_count(r);
     if r == 0 {

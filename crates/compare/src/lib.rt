@@ -1,7 +1,7 @@
 // Compare: how two plates of one side stand to each other (`compare`).
 ghost use Rattle.std.specs.Prelude.{◌≡◌, ◌≤◌};
-ghost use Rattle.definition.specs.Answers.{compareSays};
-ghost use Rattle.definition.specs.Shelf.{compareRefusal, compareOf};
+ghost use Rattle.definition.specs.Answers.{compare_says};
+ghost use Rattle.definition.specs.Shelf.{compare_refusal, compare_of};
 ghost use Rattle.checks.specs.Checks.{checked};
 
 use checks::Check;
@@ -10,7 +10,7 @@ use definition::{CompareAnswer, Refusal};
 // Compare's refusals 1, 4 (S 5.2), for lengths lent.
 fn check_compare(r: usize, left: usize, right: usize) -> Check
     requires { r ≤ 8 }
-    ensures { checked result ≡ compareRefusal r left right }
+    ensures { checked result ≡ compare_refusal r left right }
 {
     if r == 0 {
         return Check::Failed(Refusal::SideUnknown);
@@ -27,7 +27,7 @@ fn check_compare(r: usize, left: usize, right: usize) -> Check
 
 // Compare (S 11.1): before, same or after, with the first cell that differs where the counts agree.
 pub fn compare(side: u32, left: &[u32], right: &[u32]) -> CompareAnswer
-    ensures { compareSays result ≡ compareOf side left.now right.now }
+    ensures { compare_says result ≡ compare_of side left.now right.now }
 {
     let r = sizes::power_of(side);
     match check_compare(r, left.len(), right.len()) {

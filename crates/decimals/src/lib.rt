@@ -1,10 +1,10 @@
 // Numbers in texts: the one reader (`read_number`) and the one writer of decimal digits (`put_number`, `put_field`,
 // `put_column`).
 ghost use Rattle.std.specs.Prelude.{◌≡◌, [], ◌∷◌, ◌+◌, ◌-◌, ◌^◌, ◌<◌, ◌≤◌, length, drop, replicate};
-ghost use Rattle.definition.specs.Text.{decimal, space, rightAligned, isDigit, digitsThen, field_of};
-ghost use Rattle.grammar.specs.Fields.{isNextDigit};
-ghost use Rattle.decimals.specs.Reading.{fieldIn};
-ghost use Rattle.decimals.specs.Writing.{Wrote, fieldText, columnText};
+ghost use Rattle.definition.specs.Text.{decimal, space, right_aligned, is_digit, digits_then, field_of};
+ghost use Rattle.grammar.specs.Fields.{is_next_digit};
+ghost use Rattle.decimals.specs.Reading.{field_in};
+ghost use Rattle.decimals.specs.Writing.{Wrote, field_text, column_text};
 
 // What a text holds at a place: a number, and the place behind the byte that ends it; or no such number.
 #[derive(Drop)]
@@ -15,7 +15,7 @@ pub enum Number {
 
 // Whether a byte is a digit.
 fn is_digit(b: u8) -> bool
-    ensures { result ≡ isDigit b }
+    ensures { result ≡ is_digit b }
 {
     if b < 48 {
         return false;
@@ -26,7 +26,7 @@ fn is_digit(b: u8) -> bool
 // Whether a byte is one digit more behind digits with the value v: none behind a 0, and none that makes the number
 // larger than `most`.
 fn is_next_digit(most: u32, v: u32, b: u8) -> bool
-    ensures { result ≡ isNextDigit most v b }
+    ensures { result ≡ is_next_digit most v b }
 {
     if !is_digit(b) {
         return false;
@@ -39,7 +39,7 @@ fn is_next_digit(most: u32, v: u32, b: u8) -> bool
 
 // The number whose first digits have the value `first`; the others stand from a place on.
 fn read_digits(text: &[u8], from: usize, first: u32, most: u32, end: u8) -> Number
-    ensures { fieldIn text.now result ≡ digitsThen most end first (drop from text.now) }
+    ensures { field_in text.now result ≡ digits_then most end first (drop from text.now) }
 {
     let mut v = first;
     let mut at = from;
@@ -59,7 +59,7 @@ fn read_digits(text: &[u8], from: usize, first: u32, most: u32, end: u8) -> Numb
 
 // The number that begins at a place of the text and ends in the byte `end` (S 6.1).
 pub fn read_number(text: &[u8], from: usize, most: u32, end: u8) -> Number
-    ensures { fieldIn text.now result ≡ field_of most end (drop from text.now) }
+    ensures { field_in text.now result ≡ field_of most end (drop from text.now) }
 {
     if text.len() <= from {
         return Number::Malformed;
@@ -111,7 +111,7 @@ fn one_less(width: usize) -> usize
 // place behind them. A number with more digits than the width is stored whole.
 fn put_right(out: &mut [u8], at: usize, width: usize, n: u64) -> usize
     requires { at + width ≤ 2 ^ 62 }
-    ensures { Wrote out.old at (rightAligned width n) result out.new }
+    ensures { Wrote out.old at (right_aligned width n) result out.new }
 {
     let before = one_less(width);
     if n < 10 {
@@ -133,7 +133,7 @@ pub fn put_number(out: &mut [u8], at: usize, n: u64) -> usize
 // A number right aligned, with the byte that ends it (S 6.5).
 pub fn put_column(out: &mut [u8], at: usize, width: usize, n: u64, end: u8) -> usize
     requires { at + width ≤ 2 ^ 62 }
-    ensures { Wrote out.old at (columnText width n end) result out.new × (result ≤ at + width + 21) }
+    ensures { Wrote out.old at (column_text width n end) result out.new × (result ≤ at + width + 21) }
 {
     let last = put_right(out, at, width, n);
     put_byte(out, last, end)
@@ -142,7 +142,7 @@ pub fn put_column(out: &mut [u8], at: usize, width: usize, n: u64, end: u8) -> u
 // A number with the byte that ends it (S 6.1).
 pub fn put_field(out: &mut [u8], at: usize, n: u64, end: u8) -> usize
     requires { at ≤ 2 ^ 62 }
-    ensures { Wrote out.old at (fieldText n end) result out.new }
+    ensures { Wrote out.old at (field_text n end) result out.new }
 {
     put_column(out, at, 0, n, end)
 }

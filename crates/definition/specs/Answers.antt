@@ -49,7 +49,7 @@ use Rattle.definition.specs.declared.TwoHeadsStatus.TheVariants as TwoHeads
 -- row and column (S 11.1).
 pub data Compared : Type 0 where
   before : Compared
-  beforeAt : ℕ → ℕ → Compared
+  before_at : ℕ → ℕ → Compared
   same : Compared
   after_at : ℕ → ℕ → Compared
   after : Compared
@@ -86,71 +86,71 @@ number_of PairFalls = 13
 number_of SideSmall = 14
 
 -- Load answers its record and, beside it, nothing or a number (S 7.1, S 7.2)
-unfoldable pub loadSays : LoadStatus → Said
-loadSays Load.Loaded = returned []
-loadSays (Load.Refused why) = refused (number_of why)
+unfoldable pub load_says : LoadStatus → Said
+load_says Load.Loaded = returned []
+load_says (Load.Refused why) = refused (number_of why)
 
 -- Advance says "finished", "more" or, in place of these, a number (S 7.3, S 7.4)
-unfoldable pub advanceSays : AdvanceStatus → Said
-advanceSays Advance.Finished = finished
-advanceSays Advance.More = more
-advanceSays (Advance.Refused why) = refused (number_of why)
+unfoldable pub advance_says : AdvanceStatus → Said
+advance_says Advance.Finished = finished
+advance_says Advance.More = more
+advance_says (Advance.Refused why) = refused (number_of why)
 
 -- Tally answers the dots of a square, or a number alone (S 8.1)
-unfoldable pub tallySays : TallyAnswer → Said
-tallySays (Tally.Dots n) = returned (n ∷ [])
-tallySays (Tally.Refused why) = refused (number_of why)
+unfoldable pub tally_says : TallyAnswer → Said
+tally_says (Tally.Dots n) = returned (n ∷ [])
+tally_says (Tally.Refused why) = refused (number_of why)
 
 -- Levels answers its nine sums beside this (S 8.2)
-unfoldable pub levelsSays : LevelsStatus → Said
-levelsSays Levels.Summed = returned []
-levelsSays (Levels.Refused why) = refused (number_of why)
+unfoldable pub levels_says : LevelsStatus → Said
+levels_says Levels.Summed = returned []
+levels_says (Levels.Refused why) = refused (number_of why)
 
 -- Map Text answers the side that it read (S 9.1)
-unfoldable pub mapTextSays : MapTextAnswer → Said
-mapTextSays (MapText.Side n) = returned (n ∷ [])
-mapTextSays (MapText.Refused why) = refused (number_of why)
+unfoldable pub map_text_says : MapTextAnswer → Said
+map_text_says (MapText.Side n) = returned (n ∷ [])
+map_text_says (MapText.Refused why) = refused (number_of why)
 
 -- Drill List, Quote Page and Lower Text answer the length of their text (S 6.6)
-unfoldable pub textSays : TextAnswer → Said
-textSays (Text.Length n) = returned (n ∷ [])
-textSays (Text.Refused why) = refused (number_of why)
+unfoldable pub text_says : TextAnswer → Said
+text_says (Text.Length n) = returned (n ∷ [])
+text_says (Text.Refused why) = refused (number_of why)
 
 -- Sample answers the state reached (S 12.1)
-unfoldable pub sampleSays : SampleAnswer → Said
-sampleSays (Sample.State n) = returned (n ∷ [])
-sampleSays (Sample.Refused why) = refused (number_of why)
+unfoldable pub sample_says : SampleAnswer → Said
+sample_says (Sample.State n) = returned (n ∷ [])
+sample_says (Sample.Refused why) = refused (number_of why)
 
 -- Compare answers how two plates stand (S 11.1)
-unfoldable pub compareSays : CompareAnswer → Said
-compareSays Compare.Before = comparison before
-compareSays (Compare.BeforeAt row column) = comparison (beforeAt row column)
-compareSays Compare.Same = comparison same
-compareSays (Compare.AfterAt row column) = comparison (after_at row column)
-compareSays Compare.After = comparison after
-compareSays (Compare.Refused why) = refused (number_of why)
+unfoldable pub compare_says : CompareAnswer → Said
+compare_says Compare.Before = comparison before
+compare_says (Compare.BeforeAt row column) = comparison (before_at row column)
+compare_says Compare.Same = comparison same
+compare_says (Compare.AfterAt row column) = comparison (after_at row column)
+compare_says Compare.After = comparison after
+compare_says (Compare.Refused why) = refused (number_of why)
 
 -- Shelf answers nothing, or a number (S 11.2)
-unfoldable pub shelfSays : ShelfAnswer → Said
-shelfSays Shelf.Sorted = returned []
-shelfSays (Shelf.Refused why) = refused (number_of why)
+unfoldable pub shelf_says : ShelfAnswer → Said
+shelf_says Shelf.Sorted = returned []
+shelf_says (Shelf.Refused why) = refused (number_of why)
 
 -- Keep and Restore: beside the record and the value, nothing or a number (S 10.1, S 10.2)
-unfoldable pub checkpointSays : CheckpointStatus → Said
-checkpointSays Checkpoint.Done = returned []
-checkpointSays (Checkpoint.Refused why) = refused (number_of why)
+unfoldable pub checkpoint_says : CheckpointStatus → Said
+checkpoint_says Checkpoint.Done = returned []
+checkpoint_says (Checkpoint.Refused why) = refused (number_of why)
 
 -- Relay answers nothing, or a number (S 12.2)
-unfoldable pub relaySays : RelayAnswer → Said
-relaySays Relay.Relaid = returned []
-relaySays (Relay.Refused why) = refused (number_of why)
+unfoldable pub relay_says : RelayAnswer → Said
+relay_says Relay.Relaid = returned []
+relay_says (Relay.Refused why) = refused (number_of why)
 
 -- Sketch Quote answers the side, and the least and the greatest total (S 9.4)
-unfoldable pub sketchSays : SketchAnswer → Said
-sketchSays (Sketch.Quoted side least greatest) = returned (side ∷ least ∷ greatest ∷ [])
-sketchSays (Sketch.Refused why) = refused (number_of why)
+unfoldable pub sketch_says : SketchAnswer → Said
+sketch_says (Sketch.Quoted side least greatest) = returned (side ∷ least ∷ greatest ∷ [])
+sketch_says (Sketch.Refused why) = refused (number_of why)
 
 -- Two Heads: beside the record, the holes and the debt, nothing or a number (S 13.5)
-unfoldable pub twoHeadsSays : TwoHeadsStatus → Said
-twoHeadsSays TwoHeads.Stopped = returned []
-twoHeadsSays (TwoHeads.Refused why) = refused (number_of why)
+unfoldable pub two_heads_says : TwoHeadsStatus → Said
+two_heads_says TwoHeads.Stopped = returned []
+two_heads_says (TwoHeads.Refused why) = refused (number_of why)

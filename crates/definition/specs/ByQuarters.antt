@@ -1,80 +1,80 @@
--- The calls on a pyramid by quarters: `loadByQuarters`, `advanceByQuarters`, `drillListByQuarters`, `restoreByQuarters`
--- and `renewalByQuarters` write the pyramid lent row after row, make the call on that, and write what it leaves by
--- quarters. And Relay, `relayOf`, which writes the pyramid of an older sheet by quarters.
+-- The calls on a pyramid by quarters: `load_by_quarters`, `advance_by_quarters`, `drill_list_by_quarters`, `restore_by_quarters`
+-- and `renewal_by_quarters` write the pyramid lent row after row, make the call on that, and write what it leaves by
+-- quarters. And Relay, `relay_of`, which writes the pyramid of an older sheet by quarters.
 use Rattle.std.specs.Prelude.{Bool, List, [], ◌∷◌, ◌++◌, ℕ, zero, suc, length, drop, ℤ}
 use Rattle.definition.specs.Answers.{Said, returned, refused}
 use Rattle.definition.specs.Pyramid.{needed}
-use Rattle.definition.specs.Sound.{isSound}
+use Rattle.definition.specs.Sound.{is_sound}
 use Rattle.definition.specs.Refusals.{
-  powerOf,
-  sideUnknown,
-  knitUnknown,
-  pyramidShort,
-  sheetShort,
-  sheetUnsound,
+  power_of,
+  side_unknown,
+  knit_unknown,
+  pyramid_short,
+  sheet_short,
+  sheet_unsound,
   lowest,
 }
 use Rattle.definition.specs.Load.{LoadOutcome, load_of}
-use Rattle.definition.specs.Advance.{AdvanceOutcome, sheetIn, advanceOf}
+use Rattle.definition.specs.Advance.{AdvanceOutcome, sheet_in, advance_of}
 use Rattle.definition.specs.Text.{TextOutcome}
-use Rattle.definition.specs.DrillList.{drillListOf}
-use Rattle.definition.specs.Renewal.{renewalOf}
-use Rattle.definition.specs.Checkpoints.{RestoreOutcome, restoreOf}
-use Rattle.definition.specs.Quarters.{quartersFrom, asRows, asQuarters}
+use Rattle.definition.specs.DrillList.{drill_list_of}
+use Rattle.definition.specs.Renewal.{renewal_of}
+use Rattle.definition.specs.Checkpoints.{RestoreOutcome, restore_of}
+use Rattle.definition.specs.Quarters.{quarters_from, as_rows, as_quarters}
 use Rattle.definition.specs.declared.Progress.{Progress}
 use Rattle.definition.specs.declared.Checkpoints.{Checkpoints}
 
 -- Load (S 7.1, S 15.14)
-unfoldable pub loadByQuarters : ℕ → ℕ → List ℕ → List ℤ → List ℕ → List ℕ → LoadOutcome
-loadByQuarters side knit greys pyramid serials order =
-    let r = powerOf side in
-    let out = load_of side knit greys (asRows r pyramid) serials order in
+unfoldable pub load_by_quarters : ℕ → ℕ → List ℕ → List ℤ → List ℕ → List ℕ → LoadOutcome
+load_by_quarters side knit greys pyramid serials order =
+    let r = power_of side in
+    let out = load_of side knit greys (as_rows r pyramid) serials order in
     record {
       progress = out.progress;
       said = out.said;
-      pyramid = asQuarters r out.pyramid;
+      pyramid = as_quarters r out.pyramid;
       serials = out.serials;
       order = out.order;
     }
 
 -- Advance; the sheet that has to be sound is the one by quarters (S 7.3, S 15.14)
-unfoldable pub advanceByQuarters : Progress → ℕ → List ℤ → List ℕ → List ℕ → AdvanceOutcome
-advanceByQuarters progress budget pyramid serials order =
-    let r = powerOf progress.side in
-    let out = advanceOf progress budget (asRows r pyramid) serials order in
+unfoldable pub advance_by_quarters : Progress → ℕ → List ℤ → List ℕ → List ℕ → AdvanceOutcome
+advance_by_quarters progress budget pyramid serials order =
+    let r = power_of progress.side in
+    let out = advance_of progress budget (as_rows r pyramid) serials order in
     record {
       reply = out.reply;
-      pyramid = asQuarters r out.pyramid;
+      pyramid = as_quarters r out.pyramid;
       serials = out.serials;
       order = out.order;
     }
 
 -- Drill List, likewise (S 9.3, S 15.14)
-unfoldable pub drillListByQuarters : Progress → List ℤ → List ℕ → List ℕ → List ℕ → TextOutcome
-drillListByQuarters progress pyramid serials order output =
-    drillListOf progress (asRows (powerOf progress.side) pyramid) serials order output
+unfoldable pub drill_list_by_quarters : Progress → List ℤ → List ℕ → List ℕ → List ℕ → TextOutcome
+drill_list_by_quarters progress pyramid serials order output =
+    drill_list_of progress (as_rows (power_of progress.side) pyramid) serials order output
 
 -- Restore, likewise (S 10.2, S 15.14)
-unfoldable pub restoreByQuarters :
+unfoldable pub restore_by_quarters :
     Progress → Checkpoints → ℕ → List ℕ → List ℤ → List ℕ → List ℕ → RestoreOutcome
-restoreByQuarters progress checkpoints name greys pyramid serials order =
-    let r = powerOf progress.side in
-    let out = restoreOf progress checkpoints name greys (asRows r pyramid) serials order in
+restore_by_quarters progress checkpoints name greys pyramid serials order =
+    let r = power_of progress.side in
+    let out = restore_of progress checkpoints name greys (as_rows r pyramid) serials order in
     record {
       progress = out.progress;
       checkpoints = out.checkpoints;
       said = out.said;
-      pyramid = asQuarters r out.pyramid;
+      pyramid = as_quarters r out.pyramid;
       serials = out.serials;
       order = out.order;
     }
 
 -- the renewal by itself (S 12.3, S 15.14)
-unfoldable pub renewalByQuarters : ℕ → ℕ → ℕ → List ℤ → Bool × List ℤ
-renewalByQuarters side row column pyramid =
-    let r = powerOf side in
-    let out = renewalOf side row column (asRows r pyramid) in
-    (out.0, asQuarters r out.1)
+unfoldable pub renewal_by_quarters : ℕ → ℕ → ℕ → List ℤ → Bool × List ℤ
+renewal_by_quarters side row column pyramid =
+    let r = power_of side in
+    let out = renewal_of side row column (as_rows r pyramid) in
+    (out.0, as_quarters r out.1)
 
 -- ---- Relay
 -- what it says, and the second pyramid afterwards
@@ -84,21 +84,21 @@ pub record RelayOutcome : Type 0 where
 
 -- its checks, 1, 11, 3 for either pyramid, 4, 4, 5, from the side's power, the knit, the lengths lent, and whether the
 -- sheet is sound row after row (S 5.2, S 12.2)
-unfoldable pub relayRefusal : ℕ → ℕ → ℕ → ℕ → ℕ → ℕ → Bool → ℕ
-relayRefusal r knit pyramid second serials order sound =
+unfoldable pub relay_refusal : ℕ → ℕ → ℕ → ℕ → ℕ → ℕ → Bool → ℕ
+relay_refusal r knit pyramid second serials order sound =
     lowest
-    (sideUnknown r ∷ knitUnknown knit ∷ pyramidShort r pyramid ∷ pyramidShort r second
-    ∷ sheetShort r serials ∷ sheetShort r order ∷ sheetUnsound sound ∷ [])
+    (side_unknown r ∷ knit_unknown knit ∷ pyramid_short r pyramid ∷ pyramid_short r second
+    ∷ sheet_short r serials ∷ sheet_short r order ∷ sheet_unsound sound ∷ [])
 
 -- The second pyramid gets the first one by quarters over its needed length, and what lies past that stays (S 12.2). A
 -- refusal leaves it unchanged.
-unfoldable pub relayOf : Progress → List ℤ → List ℕ → List ℕ → List ℤ → RelayOutcome
-relayOf progress pyramid serials order second =
-    let r = powerOf progress.side in
-    let sound = isSound r (sheetIn r progress.dots pyramid serials order) in
-    let refusal = relayRefusal r progress.knit (length pyramid) (length second) (length serials) (length order)
+unfoldable pub relay_of : Progress → List ℤ → List ℕ → List ℕ → List ℤ → RelayOutcome
+relay_of progress pyramid serials order second =
+    let r = power_of progress.side in
+    let sound = is_sound r (sheet_in r progress.dots pyramid serials order) in
+    let refusal = relay_refusal r progress.knit (length pyramid) (length second) (length serials) (length order)
     sound in
     elim refusal [
-      | zero ↦ record { said = returned []; second = quartersFrom r pyramid ++ drop (needed r) second }
+      | zero ↦ record { said = returned []; second = quarters_from r pyramid ++ drop (needed r) second }
       | suc n ↦ record { said = refused (suc n); second = second }
     ]

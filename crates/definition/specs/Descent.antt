@@ -19,20 +19,20 @@ abbrev pub Choice : Type 0
 Choice = ℤ → ℤ → Bool
 
 -- the first of equal largest ones: a later one is taken only where it is larger (S 3.3)
-unfoldable pub firstOfEquals : Choice
-firstOfEquals best next = lt_z best next
+unfoldable pub first_of_equals : Choice
+first_of_equals best next = lt_z best next
 
 -- the last of them: a later one is taken also where it is as large (S 3.3)
-unfoldable pub lastOfEquals : Choice
-lastOfEquals best next = le_z best next
+unfoldable pub last_of_equals : Choice
+last_of_equals best next = le_z best next
 
 -- the last of equals, or the first
-unfoldable pub ofEquals : Bool → Choice
-ofEquals last = cond last lastOfEquals firstOfEquals
+unfoldable pub of_equals : Bool → Choice
+of_equals last = cond last last_of_equals first_of_equals
 
 -- the choice for the dot with this serial: of equals the last if it is even, the first if it is odd (S 3.3)
 unfoldable pub choice_of : ℕ → Choice
-choice_of serial = ofEquals (eqb (serial % 2) 0)
+choice_of serial = of_equals (eqb (serial % 2) 0)
 
 -- the one that is taken of two
 unfoldable pub better : Choice → Candidate → Candidate → Candidate
@@ -42,11 +42,11 @@ better takes best next = cond (takes best.sum next.sum) next best
 -- (S 3.2, S 3.3)
 unfoldable pub largest : Choice → (ℕ → ℕ → ℤ) → ℕ → ℕ → Candidate
 largest takes below a b =
-    let topLeft = candidate below (2 * a) (2 * b) in
-    let topRight = candidate below (2 * a) (2 * b + 1) in
-    let bottomLeft = candidate below (2 * a + 1) (2 * b) in
-    let bottomRight = candidate below (2 * a + 1) (2 * b + 1) in
-    better takes (better takes (better takes topLeft topRight) bottomLeft) bottomRight
+    let top_left = candidate below (2 * a) (2 * b) in
+    let top_right = candidate below (2 * a) (2 * b + 1) in
+    let bottom_left = candidate below (2 * a + 1) (2 * b) in
+    let bottom_right = candidate below (2 * a + 1) (2 * b + 1) in
+    better takes (better takes (better takes top_left top_right) bottom_left) bottom_right
 
 -- the row and column reached from entry (a, b) of level k, where each of `left` steps goes to a largest of the four
 -- below; the whole walk, from the top to a cell, is k = 0, a = b = 0 and left = r (S 3.2)

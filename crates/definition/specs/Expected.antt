@@ -139,98 +139,98 @@ levels8 =
     ∷ []
 
 -- the flat map of side 4, where quarters and cells are equal, likewise
-unfoldable pub greysFlat4 : List ℕ
-greysFlat4 =
+unfoldable pub greys_flat4 : List ℕ
+greys_flat4 =
     240 ∷ 240 ∷ 240 ∷ 240 ∷ 240 ∷ 240
     ∷ 240 ∷ 240 ∷ 240 ∷ 240 ∷ 240 ∷ 240
     ∷ 240 ∷ 240 ∷ 240 ∷ 240
     ∷ []
 
-unfoldable pub orderFlat4 : List ℕ
-orderFlat4 =
+unfoldable pub order_flat4 : List ℕ
+order_flat4 =
     0 ∷ 15 ∷ 2 ∷ 13 ∷ 7 ∷ 8
     ∷ 5 ∷ 10 ∷ 3 ∷ 12 ∷ 14 ∷ 1
     ∷ 11 ∷ 4 ∷ 9 ∷ 0
     ∷ []
 
-unfoldable pub serialsFlat4 : List ℕ
-serialsFlat4 =
+unfoldable pub serials_flat4 : List ℕ
+serials_flat4 =
     1 ∷ 12 ∷ 3 ∷ 9 ∷ 14 ∷ 7
     ∷ 0 ∷ 5 ∷ 6 ∷ 15 ∷ 8 ∷ 13
     ∷ 10 ∷ 4 ∷ 11 ∷ 2
     ∷ []
 
-unfoldable pub pyramidFlat4 : List ℤ
-pyramidFlat4 =
+unfoldable pub pyramid_flat4 : List ℤ
+pyramid_flat4 =
     pos 3840 ∷ negsuc 12544 ∷ pos 43262 ∷ negsuc 14704 ∷ negsuc 12171 ∷ negsuc 4363
     ∷ negsuc 1036 ∷ negsuc 5178 ∷ pos 0 ∷ negsuc 912 ∷ negsuc 6230 ∷ pos 53399
     ∷ negsuc 4957 ∷ negsuc 6724 ∷ pos 0 ∷ negsuc 5763 ∷ pos 0 ∷ negsuc 913
     ∷ negsuc 7065 ∷ negsuc 1962 ∷ negsuc 4444
     ∷ []
 
-unfoldable pub quartersFlat4 : List ℤ
-quartersFlat4 =
+unfoldable pub quarters_flat4 : List ℤ
+quarters_flat4 =
     pos 3840 ∷ negsuc 12544 ∷ pos 43262 ∷ negsuc 14704 ∷ negsuc 12171 ∷ negsuc 4363
     ∷ negsuc 1036 ∷ negsuc 912 ∷ negsuc 6230 ∷ negsuc 5178 ∷ pos 0 ∷ pos 53399
     ∷ negsuc 4957 ∷ negsuc 6724 ∷ pos 0 ∷ negsuc 913 ∷ negsuc 7065 ∷ negsuc 5763
     ∷ pos 0 ∷ negsuc 1962 ∷ negsuc 4444
     ∷ []
 
-unfoldable pub levelsFlat4 : List ℕ
-levelsFlat4 =
+unfoldable pub levels_flat4 : List ℕ
+levels_flat4 =
     225 ∷ 48825 ∷ 60975 ∷ 0 ∷ 0 ∷ 0
     ∷ 0 ∷ 0 ∷ 0
     ∷ []
 
 -- ribbed: the map of side 2 with four greys of 128, and those of side 4 and side 8 above; of each the order
 -- list, the serial sheet and the pyramid, likewise
-unfoldable pub orderRibbed2 : List ℕ
-orderRibbed2 =
+unfoldable pub order_ribbed2 : List ℕ
+order_ribbed2 =
     0 ∷ 3 ∷ 0 ∷ 0
     ∷ []
 
-unfoldable pub serialsRibbed2 : List ℕ
-serialsRibbed2 =
+unfoldable pub serials_ribbed2 : List ℕ
+serials_ribbed2 =
     1 ∷ 0 ∷ 0 ∷ 2
     ∷ []
 
-unfoldable pub pyramidRibbed2 : List ℤ
-pyramidRibbed2 =
+unfoldable pub pyramid_ribbed2 : List ℤ
+pyramid_ribbed2 =
     pos 512 ∷ pos 0 ∷ pos 256 ∷ pos 256 ∷ pos 0
     ∷ []
 
-unfoldable pub orderRibbed4 : List ℕ
-orderRibbed4 =
+unfoldable pub order_ribbed4 : List ℕ
+order_ribbed4 =
     10 ∷ 1 ∷ 9 ∷ 3 ∷ 15 ∷ 5
     ∷ 13 ∷ 2 ∷ 11 ∷ 0 ∷ 0 ∷ 0
     ∷ 0 ∷ 0 ∷ 0 ∷ 0
     ∷ []
 
-unfoldable pub serialsRibbed4 : List ℕ
-serialsRibbed4 =
+unfoldable pub serials_ribbed4 : List ℕ
+serials_ribbed4 =
     0 ∷ 2 ∷ 8 ∷ 4 ∷ 0 ∷ 6
     ∷ 0 ∷ 0 ∷ 0 ∷ 3 ∷ 1 ∷ 9
     ∷ 0 ∷ 7 ∷ 0 ∷ 5
     ∷ []
 
-unfoldable pub pyramidRibbed4 : List ℤ
-pyramidRibbed4 =
+unfoldable pub pyramid_ribbed4 : List ℤ
+pyramid_ribbed4 =
     negsuc 7935 ∷ pos 823 ∷ negsuc 12004 ∷ pos 9092 ∷ negsuc 5845 ∷ pos 13739
     ∷ negsuc 12913 ∷ pos 0 ∷ negsuc 9841 ∷ negsuc 1 ∷ pos 0 ∷ pos 9677
     ∷ negsuc 11839 ∷ pos 3152 ∷ negsuc 13286 ∷ negsuc 14063 ∷ pos 0 ∷ pos 19227
     ∷ pos 0 ∷ pos 21082 ∷ negsuc 12863
     ∷ []
 
-unfoldable pub quartersRibbed4 : List ℤ
-quartersRibbed4 =
+unfoldable pub quarters_ribbed4 : List ℤ
+quarters_ribbed4 =
     negsuc 7935 ∷ pos 823 ∷ negsuc 12004 ∷ pos 9092 ∷ negsuc 5845 ∷ pos 13739
     ∷ negsuc 12913 ∷ negsuc 1 ∷ pos 0 ∷ pos 0 ∷ negsuc 9841 ∷ pos 9677
     ∷ negsuc 11839 ∷ pos 3152 ∷ negsuc 13286 ∷ pos 19227 ∷ pos 0 ∷ negsuc 14063
     ∷ pos 0 ∷ pos 21082 ∷ negsuc 12863
     ∷ []
 
-unfoldable pub orderRibbed8 : List ℕ
-orderRibbed8 =
+unfoldable pub order_ribbed8 : List ℕ
+order_ribbed8 =
     24 ∷ 7 ∷ 44 ∷ 26 ∷ 4 ∷ 55
     ∷ 19 ∷ 23 ∷ 57 ∷ 53 ∷ 16 ∷ 28
     ∷ 50 ∷ 39 ∷ 3 ∷ 0 ∷ 0 ∷ 0
@@ -244,8 +244,8 @@ orderRibbed8 =
     ∷ 0 ∷ 0 ∷ 0 ∷ 0
     ∷ []
 
-unfoldable pub serialsRibbed8 : List ℕ
-serialsRibbed8 =
+unfoldable pub serials_ribbed8 : List ℕ
+serials_ribbed8 =
     0 ∷ 0 ∷ 0 ∷ 15 ∷ 5 ∷ 0
     ∷ 0 ∷ 2 ∷ 0 ∷ 0 ∷ 0 ∷ 0
     ∷ 0 ∷ 0 ∷ 0 ∷ 0 ∷ 11 ∷ 0
@@ -259,8 +259,8 @@ serialsRibbed8 =
     ∷ 0 ∷ 0 ∷ 0 ∷ 0
     ∷ []
 
-unfoldable pub pyramidRibbed8 : List ℤ
-pyramidRibbed8 =
+unfoldable pub pyramid_ribbed8 : List ℤ
+pyramid_ribbed8 =
     negsuc 14335 ∷ negsuc 11397 ∷ negsuc 7032 ∷ pos 3989 ∷ pos 106 ∷ pos 12232
     ∷ negsuc 11696 ∷ pos 5745 ∷ pos 14592 ∷ negsuc 12060 ∷ pos 128 ∷ negsuc 22591
     ∷ negsuc 4777 ∷ pos 7253 ∷ negsuc 13311 ∷ pos 7424 ∷ negsuc 13311 ∷ pos 4971
@@ -278,8 +278,8 @@ pyramidRibbed8 =
     ∷ pos 10837
     ∷ []
 
-unfoldable pub quartersRibbed8 : List ℤ
-quartersRibbed8 =
+unfoldable pub quarters_ribbed8 : List ℤ
+quarters_ribbed8 =
     negsuc 14335 ∷ negsuc 11397 ∷ negsuc 7032 ∷ pos 3989 ∷ pos 106 ∷ pos 12232
     ∷ negsuc 11696 ∷ negsuc 12060 ∷ pos 128 ∷ pos 5745 ∷ pos 14592 ∷ negsuc 22591
     ∷ negsuc 4777 ∷ pos 7253 ∷ negsuc 13311 ∷ pos 4971 ∷ pos 5077 ∷ pos 7424

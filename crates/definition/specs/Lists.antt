@@ -1,4 +1,4 @@
--- Sums, tests and lists by place: `sum_to`, `allTo`, `tabulate`, `joined`, `repeated`. No term of the specification is
+-- Sums, tests and lists by place: `sum_to`, `all_to`, `tabulate`, `joined`, `repeated`. No term of the specification is
 -- defined here.
 use Rattle.std.specs.Prelude.{Bool, true, ◌&&◌, List, [], ◌∷◌, ◌++◌, ℕ, zero, suc, ◌+◌, ℤ, pos, ◌+ℤ◌}
 use Rattle.std.specs.Int.Signed.{le_z}
@@ -9,23 +9,23 @@ sum_to zero f = 0
 sum_to (suc n) f = sum_to n f + f n
 
 -- the same in integers
-unfoldable pub sumZTo : ℕ → (ℕ → ℤ) → ℤ
-sumZTo zero f = pos 0
-sumZTo (suc n) f = sumZTo n f +ℤ f n
+unfoldable pub sum_z_to : ℕ → (ℕ → ℤ) → ℤ
+sum_z_to zero f = pos 0
+sum_z_to (suc n) f = sum_z_to n f +ℤ f n
 
 -- the test holds at 0, 1, .., n − 1
-unfoldable pub allTo : ℕ → (ℕ → Bool) → Bool
-allTo zero p = true
-allTo (suc n) p = allTo n p && p n
+unfoldable pub all_to : ℕ → (ℕ → Bool) → Bool
+all_to zero p = true
+all_to (suc n) p = all_to n p && p n
 
 -- f i, f (i + 1), .., n of them
-unfoldable pub tabulateFrom : {A : Type 0} → ℕ → ℕ → (ℕ → A) → List A
-tabulateFrom i zero f = []
-tabulateFrom i (suc n) f = f i ∷ tabulateFrom (suc i) n f
+unfoldable pub tabulate_from : {A : Type 0} → ℕ → ℕ → (ℕ → A) → List A
+tabulate_from i zero f = []
+tabulate_from i (suc n) f = f i ∷ tabulate_from (suc i) n f
 
 -- f 0, f 1, .., f (n − 1)
 abbrev pub tabulate : {A : Type 0} → ℕ → (ℕ → A) → List A
-tabulate n f = tabulateFrom 0 n f
+tabulate n f = tabulate_from 0 n f
 
 -- the lists f 0, f 1, .., f (n − 1), one behind the other
 unfoldable pub joined : {A : Type 0} → ℕ → (ℕ → List A) → List A
@@ -38,5 +38,5 @@ repeated zero l = []
 repeated (suc n) l = l ++ repeated n l
 
 -- whether two integers are equal
-unfoldable pub eqZ : ℤ → ℤ → Bool
-eqZ a b = le_z a b && le_z b a
+unfoldable pub eq_z : ℤ → ℤ → Bool
+eq_z a b = le_z a b && le_z b a

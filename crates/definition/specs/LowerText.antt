@@ -1,10 +1,10 @@
--- The call Lower Text, which makes of a stored map text one that passes: `lowerTextOf` is what it answers and leaves in
+-- The call Lower Text, which makes of a stored map text one that passes: `lower_text_of` is what it answers and leaves in
 -- both buffers, for every text and all lists lent.
 use Rattle.std.specs.Prelude.{List, [], ◌∷◌, ◌++◌, ℕ, zero, suc, length, drop}
 use Rattle.definition.specs.Answers.{Said, returned, refused}
 use Rattle.definition.specs.Lowering.{lowered}
-use Rattle.definition.specs.Refusals.{outputShort, lowest}
-use Rattle.definition.specs.MapText.{mapText, accepted, rejected, readMap}
+use Rattle.definition.specs.Refusals.{output_short, lowest}
+use Rattle.definition.specs.MapText.{map_text, accepted, rejected, read_map}
 
 -- what is said, and the greys and the output afterwards
 pub record LowerTextOutcome : Type 0 where
@@ -13,13 +13,13 @@ pub record LowerTextOutcome : Type 0 where
   pub output : List ℕ
 
 -- refused: nothing is written (S 5.1)
-unfoldable pub textKept : ℕ → List ℕ → List ℕ → LowerTextOutcome
-textKept n greys output = record { said = refused n; greys = greys; output = output }
+unfoldable pub text_kept : ℕ → List ℕ → List ℕ → LowerTextOutcome
+text_kept n greys output = record { said = refused n; greys = greys; output = output }
 
 -- the lowered greys and their one text, in front of what the buffers had behind them; the answer is the text's length
 -- (S 9.2)
-unfoldable pub textLowered : List ℕ → List ℕ → List ℕ → List ℕ → LowerTextOutcome
-textLowered low text greys output =
+unfoldable pub text_lowered : List ℕ → List ℕ → List ℕ → List ℕ → LowerTextOutcome
+text_lowered low text greys output =
     record {
       said = returned (length text ∷ []);
       greys = low ++ drop (length low) greys;
@@ -28,15 +28,15 @@ textLowered low text greys output =
 
 -- The text is read as a map text, with the refusals 7, 1, 2, 7; then comes 8, if the output is shorter than the text of
 -- the lowered greys (S 9.2, S 5.2).
-unfoldable pub lowerTextOf : List ℕ → List ℕ → List ℕ → LowerTextOutcome
-lowerTextOf text greys output =
-    elim (readMap text (length greys)) [
-      | rejected n ↦ textKept n greys output
+unfoldable pub lower_text_of : List ℕ → List ℕ → List ℕ → LowerTextOutcome
+lower_text_of text greys output =
+    elim (read_map text (length greys)) [
+      | rejected n ↦ text_kept n greys output
       | accepted side values ↦
           let low = lowered values in
-          let lowText = mapText side low in
-          elim (lowest (outputShort (length lowText) (length output) ∷ [])) [
-            | zero ↦ textLowered low lowText greys output
-            | suc n ↦ textKept (suc n) greys output
+          let low_text = map_text side low in
+          elim (lowest (output_short (length low_text) (length output) ∷ [])) [
+            | zero ↦ text_lowered low low_text greys output
+            | suc n ↦ text_kept (suc n) greys output
           ]
     ]

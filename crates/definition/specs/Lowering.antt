@@ -1,4 +1,4 @@
--- No grey above 240: `noneHigh` is whether greys keep to that, and `lowered` are greys made so that they do.
+-- No grey above 240: `none_high` is whether greys keep to that, and `lowered` are greys made so that they do.
 use Rattle.std.specs.Prelude.{Bool, true, ◌&&◌, List, [], ◌∷◌, map, ℕ, min, leb}
 
 -- the highest grey of a low map (S 2.2)
@@ -6,9 +6,9 @@ abbrev pub highest : ℕ
 highest = 240
 
 -- none of these greys is above it (S 2.2)
-unfoldable pub noneHigh : List ℕ → Bool
-noneHigh [] = true
-noneHigh (grey ∷ greys) = leb grey highest && noneHigh greys
+unfoldable pub none_high : List ℕ → Bool
+none_high [] = true
+none_high (grey ∷ greys) = leb grey highest && none_high greys
 
 -- each grey above it lowered to it (S 12.4)
 unfoldable pub lowered : List ℕ → List ℕ

@@ -1,21 +1,21 @@
--- Map texts: `mapText`, the one text of a side and greys; `readText` and `readMap`, which read by the grammar, with
--- their refusals in order; and the call Map Text, `mapTextOf`.
+-- Map texts: `map_text`, the one text of a side and greys; `read_text` and `read_map`, which read by the grammar, with
+-- their refusals in order; and the call Map Text, `map_text_of`.
 use Rattle.std.specs.Prelude.{true, false, List, [], ◌∷◌, ◌++◌, ℕ, zero, suc, length, take, drop}
 use Rattle.std.proofs.Math.Option.{Option, some, none}
 use Rattle.definition.specs.Lists.{repeated}
 use Rattle.definition.specs.Answers.{GreysOutcome, returned, refused}
-use Rattle.definition.specs.Lowering.{noneHigh}
-use Rattle.definition.specs.Refusals.{powerOf, greysRefusal}
-use Rattle.definition.specs.Text.{newline, line, lineEnds, field, malformed, field_of}
+use Rattle.definition.specs.Lowering.{none_high}
+use Rattle.definition.specs.Refusals.{power_of, greys_refusal}
+use Rattle.definition.specs.Text.{newline, line, line_ends, field, malformed, field_of}
 
 -- m lines of n numbers each (S 6.1)
-unfoldable pub rowsText : ℕ → ℕ → List ℕ → List ℕ
-rowsText n zero values = []
-rowsText n (suc m) values = line (take n values) ++ rowsText n m (drop n values)
+unfoldable pub rows_text : ℕ → ℕ → List ℕ → List ℕ
+rows_text n zero values = []
+rows_text n (suc m) values = line (take n values) ++ rows_text n m (drop n values)
 
 -- the side on a line, then a line of N greys for each row (S 6.2)
-unfoldable pub mapText : ℕ → List ℕ → List ℕ
-mapText side greys = line (side ∷ []) ++ rowsText side side greys
+unfoldable pub map_text : ℕ → List ℕ → List ℕ
+map_text side greys = line (side ∷ []) ++ rows_text side side greys
 
 -- numbers of at most `most`, with these bytes behind them in turn, and no byte behind the last (S 6.2)
 unfoldable pub values_of : ℕ → List ℕ → List ℕ → Option (List ℕ)
@@ -33,42 +33,42 @@ pub data Reading : Type 0 where
   rejected : ℕ → Reading
 
 -- the bytes behind the greys of a map: N lines of N
-abbrev pub mapEnds : ℕ → List ℕ
-mapEnds side = repeated side (lineEnds side)
+abbrev pub map_ends : ℕ → List ℕ
+map_ends side = repeated side (line_ends side)
 
 -- the numbers behind a first line, with these ends: one above 255 does not fit (S 6.2)
-unfoldable pub readNumbers : ℕ → List ℕ → List ℕ → Reading
-readNumbers side ends text = elim (values_of 255 ends text) [ none ↦ rejected 7 | some values ↦ accepted side values ]
+unfoldable pub read_numbers : ℕ → List ℕ → List ℕ → Reading
+read_numbers side ends text = elim (values_of 255 ends text) [ none ↦ rejected 7 | some values ↦ accepted side values ]
 
 -- The reader of texts that begin with a line of the side: 7 if that isn't a number of one to three digits and byte 10,
--- then 1, then 2 for a greys buffer of `room` places, then 7 for the rest (S 6.4). `endsOf` has the bytes behind the
+-- then 1, then 2 for a greys buffer of `room` places, then 7 for the rest (S 6.4). `ends_of` has the bytes behind the
 -- numbers that a side asks for.
-unfoldable pub readText : (ℕ → List ℕ) → List ℕ → ℕ → Reading
-readText endsOf text room =
+unfoldable pub read_text : (ℕ → List ℕ) → List ℕ → ℕ → Reading
+read_text ends_of text room =
     elim (field_of 999 newline text) [
       | malformed ↦ rejected 7
       | field side rest ↦
-          let r = powerOf side in
-          elim (greysRefusal r room) [ zero ↦ readNumbers side (endsOf side) rest | suc n ↦ rejected (suc n) ]
+          let r = power_of side in
+          elim (greys_refusal r room) [ zero ↦ read_numbers side (ends_of side) rest | suc n ↦ rejected (suc n) ]
     ]
 
 -- a map's text by the grammar (S 6.2)
-abbrev pub readMap : List ℕ → ℕ → Reading
-readMap text room = readText mapEnds text room
+abbrev pub read_map : List ℕ → ℕ → Reading
+read_map text room = read_text map_ends text room
 
--- Map Text's own reader: by the grammar, as `readMap` does, and then no grey may be above 240 (S 9.1)
-unfoldable pub readLow : List ℕ → ℕ → Reading
-readLow text room =
-    elim (readMap text room) [
+-- Map Text's own reader: by the grammar, as `read_map` does, and then no grey may be above 240 (S 9.1)
+unfoldable pub read_low : List ℕ → ℕ → Reading
+read_low text room =
+    elim (read_map text room) [
       | rejected n ↦ rejected n
-      | accepted side greys ↦ elim (noneHigh greys) [ true ↦ accepted side greys | false ↦ rejected 12 ]
+      | accepted side greys ↦ elim (none_high greys) [ true ↦ accepted side greys | false ↦ rejected 12 ]
     ]
 
 -- the whole call: the side, and the N² greys in front of what the buffer has behind them; a refusal leaves it whole
 -- (S 9.1, S 2.9)
-unfoldable pub mapTextOf : List ℕ → List ℕ → GreysOutcome
-mapTextOf text greys =
-    elim (readLow text (length greys)) [
+unfoldable pub map_text_of : List ℕ → List ℕ → GreysOutcome
+map_text_of text greys =
+    elim (read_low text (length greys)) [
       | accepted side values ↦ record { said = returned (side ∷ []); greys = values ++ drop (length values) greys }
       | rejected n ↦ record { said = refused n; greys = greys }
     ]

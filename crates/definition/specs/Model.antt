@@ -1,19 +1,19 @@
--- A sheet, a `Halftone` in the code, how one hole is made on it (`placeDot`), and the model of a map: its start
--- (`modelStart`) and its steps (`step`, `steps`).
+-- A sheet, a `Halftone` in the code, how one hole is made on it (`place_dot`), and the model of a map: its start
+-- (`model_start`) and its steps (`step`, `steps`).
 use Rattle.std.specs.Prelude.{true, false, List, ℕ, zero, suc, ◌*◌, get_or, set, drop, replicate, ℤ, pos, nat_abs, ◌-ℤ◌}
 use Rattle.std.specs.Int.Signed.{le_z}
 use Rattle.definition.specs.Pyramid.{
-  oneDot,
-  halfDot,
-  cellCount,
-  cellNumber,
+  one_dot,
+  half_dot,
+  cell_count,
+  cell_number,
   start,
   place_in,
-  levelOf,
-  inLevel,
-  pyramidOver,
+  level_of,
+  in_level,
+  pyramid_over,
 }
-use Rattle.definition.specs.Blocks.{greyAt}
+use Rattle.definition.specs.Blocks.{grey_at}
 use Rattle.definition.specs.Descent.{choice_of, descend}
 use Rattle.definition.specs.Diffusion.{Kernel, diffuse}
 
@@ -32,32 +32,32 @@ top_of pyramid = get_or pyramid 0 (pos 0)
 
 -- the model's start: each cell owes 256 × its grey, the entries above are sums, no cell is burnt, and all else is 0
 -- (S 3.9)
-unfoldable pub modelStart : ℕ → List ℕ → Halftone
-modelStart r greys =
+unfoldable pub model_start : ℕ → List ℕ → Halftone
+model_start r greys =
     record {
-      pyramid = pyramidOver r (levelOf r (λ row column. pos (256 * greyAt r greys row column)));
-      serials = replicate (cellCount r) 0;
-      order = replicate (cellCount r) 0;
+      pyramid = pyramid_over r (level_of r (λ row column. pos (256 * grey_at r greys row column)));
+      serials = replicate (cell_count r) 0;
+      order = replicate (cell_count r) 0;
       dots = 0;
     }
 
 -- what the cell reached lacks of one dot, if it owes w; on a sound sheet that isn't negative (S 3.4)
 unfoldable pub missing : ℤ → ℕ
-missing w = nat_abs (pos oneDot -ℤ w)
+missing w = nat_abs (pos one_dot -ℤ w)
 
 -- A dot at a cell: it owes nothing any more and has the next serial, and the order list has it (S 3.4); what it lacked
 -- is spread over its neighbours (S 3.7), and then every entry above is again the sum of its four (S 3.8).
-unfoldable pub placeDot : Kernel → ℕ → Halftone → ℕ × ℕ → Halftone
-placeDot kernel r s cell =
+unfoldable pub place_dot : Kernel → ℕ → Halftone → ℕ × ℕ → Halftone
+place_dot kernel r s cell =
     let row = cell.0 in
     let column = cell.1 in
     let before = drop (start r) s.pyramid in
-    let d = missing (inLevel r before row column) in
+    let d = missing (in_level r before row column) in
     let cells = diffuse kernel r row column d 9 (set before (place_in r row column) (pos 0)) in
     record {
-      pyramid = pyramidOver r cells;
-      serials = set s.serials (cellNumber r row column) (suc s.dots);
-      order = set s.order s.dots (cellNumber r row column);
+      pyramid = pyramid_over r cells;
+      serials = set s.serials (cell_number r row column) (suc s.dots);
+      order = set s.order s.dots (cell_number r row column);
       dots = suc s.dots;
     }
 
@@ -65,8 +65,8 @@ placeDot kernel r s cell =
 -- serial; below that a step changes nothing (S 3.1, S 3.2, S 3.9).
 unfoldable pub step : Kernel → ℕ → Halftone → Halftone
 step kernel r s =
-    elim (le_z (pos halfDot) (top_of s.pyramid)) [
-      | true ↦ placeDot kernel r s (descend (choice_of (suc s.dots)) s.pyramid r 0 0 0)
+    elim (le_z (pos half_dot) (top_of s.pyramid)) [
+      | true ↦ place_dot kernel r s (descend (choice_of (suc s.dots)) s.pyramid r 0 0 0)
       | false ↦ s
     ]
 

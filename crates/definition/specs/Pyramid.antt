@@ -1,25 +1,25 @@
 -- The pyramid of debts, row after row: its levels, the place of each entry (`start`, `place_in`, `entry`), its needed
--- length (`needed`), and the sums of four (`four`, `coarser`, `pyramidOver`). Cells are numbered by `cellNumber`.
+-- length (`needed`), and the sums of four (`four`, `coarser`, `pyramid_over`). Cells are numbered by `cell_number`.
 use Rattle.std.specs.Prelude.{List, ◌++◌, ℕ, zero, suc, ◌+◌, ◌*◌, ◌-◌, ◌/◌, ◌%◌, ◌^◌, get_or, ℤ, pos, ◌+ℤ◌}
 use Rattle.definition.specs.Lists.{tabulate}
 
 -- what one hole is worth, 255 × 256, in the unit of the cells' debts; a debt, a residual in the code, is a whole number
 -- that may be negative (S 2.4)
-abbrev pub oneDot : ℕ
-oneDot = 65280
+abbrev pub one_dot : ℕ
+one_dot = 65280
 
 -- half of it: from here on a hole is due (S 3.1)
-abbrev pub halfDot : ℕ
-halfDot = 32640
+abbrev pub half_dot : ℕ
+half_dot = 32640
 
 -- the cells of a map of side N = 2^r, which are N² (S 2.1)
-abbrev pub cellCount : ℕ → ℕ
-cellCount r = 2 ^ r * 2 ^ r
+abbrev pub cell_count : ℕ → ℕ
+cell_count r = 2 ^ r * 2 ^ r
 
 -- the number of the cell in this row and column, both counted from 0 at the top left; greys, serial sheet and order
 -- list go by it (S 2.3)
-abbrev pub cellNumber : ℕ → ℕ → ℕ → ℕ
-cellNumber r row column = row * 2 ^ r + column
+abbrev pub cell_number : ℕ → ℕ → ℕ → ℕ
+cell_number r row column = row * 2 ^ r + column
 
 -- where level k begins (S 2.5)
 unfoldable pub start : ℕ → ℕ
@@ -37,15 +37,15 @@ place_in k a b = a * 2 ^ k + b
 unfoldable pub row_at : ℕ → ℕ → ℕ
 row_at k i = i / 2 ^ k
 
-unfoldable pub columnAt : ℕ → ℕ → ℕ
-columnAt k i = i % 2 ^ k
+unfoldable pub column_at : ℕ → ℕ → ℕ
+column_at k i = i % 2 ^ k
 
 -- a level by itself: the one with f a b as its entry (a, b), and its entry (a, b)
-unfoldable pub levelOf : ℕ → (ℕ → ℕ → ℤ) → List ℤ
-levelOf k f = tabulate (2 ^ k * 2 ^ k) (λ i. f (row_at k i) (columnAt k i))
+unfoldable pub level_of : ℕ → (ℕ → ℕ → ℤ) → List ℤ
+level_of k f = tabulate (2 ^ k * 2 ^ k) (λ i. f (row_at k i) (column_at k i))
 
-unfoldable pub inLevel : ℕ → List ℤ → ℕ → ℕ → ℤ
-inLevel k level a b = get_or level (place_in k a b) (pos 0)
+unfoldable pub in_level : ℕ → List ℤ → ℕ → ℕ → ℤ
+in_level k level a b = get_or level (place_in k a b) (pos 0)
 
 -- entry (a, b) of level k of a pyramid (S 2.6)
 unfoldable pub entry : List ℤ → ℕ → ℕ → ℕ → ℤ
@@ -58,9 +58,9 @@ four below a b =
 
 -- level k, from level k + 1 below it: each entry the sum of its four (S 2.4)
 unfoldable pub coarser : ℕ → List ℤ → List ℤ
-coarser k below = levelOf k (four (inLevel (suc k) below))
+coarser k below = level_of k (four (in_level (suc k) below))
 
 -- the pyramid over the debts of the cells, which are level r: level 0 first, whose one entry is the sum of all (S 2.4)
-unfoldable pub pyramidOver : ℕ → List ℤ → List ℤ
-pyramidOver zero cells = cells
-pyramidOver (suc k) cells = pyramidOver k (coarser k cells) ++ cells
+unfoldable pub pyramid_over : ℕ → List ℤ → List ℤ
+pyramid_over zero cells = cells
+pyramid_over (suc k) cells = pyramid_over k (coarser k cells) ++ cells

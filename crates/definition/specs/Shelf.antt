@@ -1,5 +1,5 @@
--- The calls Compare, `compareOf`, on two plates of one side, and Shelf, `shelfOf`, which puts plates in order.
--- `compared` says how two plates stand by their burnt cells, and `inOrder` lists a shelf.
+-- The calls Compare, `compare_of`, on two plates of one side, and Shelf, `shelf_of`, which puts plates in order.
+-- `compared` says how two plates stand by their burnt cells, and `in_order` lists a shelf.
 use Rattle.std.specs.Prelude.{Bool, true, false, List, [], ◌∷◌, ◌++◌, ℕ, zero, suc, ◌*◌, ltb, length, get_or, take, drop}
 use Rattle.definition.specs.Answers.{
   Said,
@@ -8,14 +8,14 @@ use Rattle.definition.specs.Answers.{
   refused,
   Compared,
   before,
-  beforeAt,
+  before_at,
   same,
   after_at,
   after,
 }
-use Rattle.definition.specs.Pyramid.{cellCount, row_at, columnAt}
-use Rattle.definition.specs.Blocks.{burnt, allDots}
-use Rattle.definition.specs.Refusals.{Row, powerOf, sideUnknown, sheetShort, outputShort, lowest}
+use Rattle.definition.specs.Pyramid.{cell_count, row_at, column_at}
+use Rattle.definition.specs.Blocks.{burnt, all_dots}
+use Rattle.definition.specs.Refusals.{Row, power_of, side_unknown, sheet_short, output_short, lowest}
 
 -- ---- two plates
 -- what is compared of a plate, its pattern: 1 for a burnt cell, 0 for an unburnt one, by cell number; which serial it
@@ -25,14 +25,14 @@ pattern serials i = burnt (get_or serials i 0)
 
 -- Of two patterns the first cell at which they differ, sought from cell i on through `count` cells. Cell numbers go row
 -- by row, and in a row column by column. The plate that is unburnt there comes first (S 11.1).
-unfoldable pub firstDifference : ℕ → ℕ → ℕ → (ℕ → ℕ) → (ℕ → ℕ) → Compared
-firstDifference r zero i f g = same
-firstDifference r (suc count) i f g =
+unfoldable pub first_difference : ℕ → ℕ → ℕ → (ℕ → ℕ) → (ℕ → ℕ) → Compared
+first_difference r zero i f g = same
+first_difference r (suc count) i f g =
     elim (ltb (f i) (g i)) [
-      | true ↦ beforeAt (row_at r i) (columnAt r i)
+      | true ↦ before_at (row_at r i) (column_at r i)
       | false ↦ elim (ltb (g i) (f i)) [
-        | true ↦ after_at (row_at r i) (columnAt r i)
-        | false ↦ firstDifference r count (suc i) f g
+        | true ↦ after_at (row_at r i) (column_at r i)
+        | false ↦ first_difference r count (suc i) f g
       ]
     ]
 
@@ -40,66 +40,66 @@ firstDifference r (suc count) i f g =
 -- (S 11.1).
 unfoldable pub compared : ℕ → List ℕ → List ℕ → Compared
 compared r left right =
-    let m = allDots r left in
-    let n = allDots r right in
+    let m = all_dots r left in
+    let n = all_dots r right in
     elim (ltb m n) [
       | true ↦ before
       | false ↦ elim (ltb n m) [
         | true ↦ after
-        | false ↦ firstDifference r (cellCount r) 0 (pattern left) (pattern right)
+        | false ↦ first_difference r (cell_count r) 0 (pattern left) (pattern right)
       ]
     ]
 
 -- the checks 1, then 4 for either sheet: from the side's power and the lengths lent (S 5.2)
-unfoldable pub compareRefusal : ℕ → ℕ → ℕ → ℕ
-compareRefusal r left right = lowest (sideUnknown r ∷ sheetShort r left ∷ sheetShort r right ∷ [])
+unfoldable pub compare_refusal : ℕ → ℕ → ℕ → ℕ
+compare_refusal r left right = lowest (side_unknown r ∷ sheet_short r left ∷ sheet_short r right ∷ [])
 
 -- the call Compare (S 11.1)
-unfoldable pub compareOf : ℕ → List ℕ → List ℕ → Said
-compareOf side left right =
-    let r = powerOf side in
-    elim (compareRefusal r (length left) (length right)) [
+unfoldable pub compare_of : ℕ → List ℕ → List ℕ → Said
+compare_of side left right =
+    let r = power_of side in
+    elim (compare_refusal r (length left) (length right)) [
       | zero ↦ comparison (compared r left right)
       | suc n ↦ refused (suc n)
     ]
 
 -- ---- the shelf
 -- plate number i of a shelf, where the plates stand one after the other (S 11.2)
-unfoldable pub plateAt : ℕ → List ℕ → ℕ → List ℕ
-plateAt r plates i = take (cellCount r) (drop (i * cellCount r) plates)
+unfoldable pub plate_at : ℕ → List ℕ → ℕ → List ℕ
+plate_at r plates i = take (cell_count r) (drop (i * cell_count r) plates)
 
 -- whether the left plate comes before the right one (S 11.1)
-unfoldable pub isBefore : Compared → Bool
-isBefore before = true
-isBefore (beforeAt row column) = true
-isBefore same = false
-isBefore (after_at row column) = false
-isBefore after = false
+unfoldable pub is_before : Compared → Bool
+is_before before = true
+is_before (before_at row column) = true
+is_before same = false
+is_before (after_at row column) = false
+is_before after = false
 
 -- plate x put into a list that is in order: in front of the first plate that it comes before, so behind all its equals
 -- (S 11.2)
 unfoldable pub insert : ℕ → List ℕ → ℕ → List ℕ → List ℕ
 insert r plates x [] = x ∷ []
 insert r plates x (y ∷ ys) =
-    elim (isBefore (compared r (plateAt r plates x) (plateAt r plates y))) [
+    elim (is_before (compared r (plate_at r plates x) (plate_at r plates y))) [
       | true ↦ x ∷ y ∷ ys
       | false ↦ y ∷ insert r plates x ys
     ]
 
 -- the numbers of the first n plates in order, equal plates as they stood: each plate in turn put among those before it
 -- (S 11.2)
-unfoldable pub inOrder : ℕ → List ℕ → ℕ → List ℕ
-inOrder r plates zero = []
-inOrder r plates (suc n) = insert r plates n (inOrder r plates n)
+unfoldable pub in_order : ℕ → List ℕ → ℕ → List ℕ
+in_order r plates zero = []
+in_order r plates (suc n) = insert r plates n (in_order r plates n)
 
 -- 4: a shelf shorter than n × N² (S 11.2)
-abbrev pub shelfShort : ℕ → ℕ → ℕ → Row
-shelfShort r n lent = (4, ltb lent (n * cellCount r))
+abbrev pub shelf_short : ℕ → ℕ → ℕ → Row
+shelf_short r n lent = (4, ltb lent (n * cell_count r))
 
 -- the checks 1, then 4 for the shelf, then 8 for a list shorter than n: from the side's power, n and the lengths lent
 -- (S 5.2)
-unfoldable pub shelfRefusal : ℕ → ℕ → ℕ → ℕ → ℕ
-shelfRefusal r n plates list = lowest (sideUnknown r ∷ shelfShort r n plates ∷ outputShort n list ∷ [])
+unfoldable pub shelf_refusal : ℕ → ℕ → ℕ → ℕ → ℕ
+shelf_refusal r n plates list = lowest (side_unknown r ∷ shelf_short r n plates ∷ output_short n list ∷ [])
 
 -- what is said, and the list afterwards
 pub record ShelfOutcome : Type 0 where
@@ -107,10 +107,10 @@ pub record ShelfOutcome : Type 0 where
   pub list : List ℕ
 
 -- the call Shelf; the places past the n-th stay, and all of them where it refuses (S 11.2)
-unfoldable pub shelfOf : ℕ → ℕ → List ℕ → List ℕ → ShelfOutcome
-shelfOf side n plates list =
-    let r = powerOf side in
-    elim (shelfRefusal r n (length plates) (length list)) [
-      | zero ↦ record { said = returned []; list = inOrder r plates n ++ drop n list }
+unfoldable pub shelf_of : ℕ → ℕ → List ℕ → List ℕ → ShelfOutcome
+shelf_of side n plates list =
+    let r = power_of side in
+    elim (shelf_refusal r n (length plates) (length list)) [
+      | zero ↦ record { said = returned []; list = in_order r plates n ++ drop n list }
       | suc k ↦ record { said = refused (suc k); list = list }
     ]

@@ -1,16 +1,16 @@
--- The rows for the order of the spread, `spreadPlates`: which neighbour bears the odd units, place by place.
+-- The rows for the order of the spread, `spread_plates`: which neighbour bears the odd units, place by place.
 use Rattle.std.specs.Prelude.{Bool, List, [], ◌∷◌, map, ℕ, set, replicate, pos}
-use Rattle.definition.specs.Diffusion.{plain, ribbed, kernelOf, diffuse}
+use Rattle.definition.specs.Diffusion.{plain, ribbed, kernel_of, diffuse}
 use Rattle.definition.specs.Refusals.{Row}
-use Rattle.definition.specs.PlateTools.{sameZ, minus}
+use Rattle.definition.specs.PlateTools.{same_z, minus}
 
 -- on a map of side 4, spreading d around a cell takes this from each cell, by row
 unfoldable pub spreads : ℕ → ℕ → ℕ → ℕ → List ℕ → Bool
 spreads knit row column d taken =
-    sameZ (diffuse (kernelOf knit) 2 row column d 9 (replicate 16 (pos 0))) (map minus taken)
+    same_z (diffuse (kernel_of knit) 2 row column d 9 (replicate 16 (pos 0))) (map minus taken)
 
-unfoldable pub spreadPlates : List Row
-spreadPlates =
+unfoldable pub spread_plates : List Row
+spread_plates =
     -- inside plain cloth the sums of the weights are 1, 2, 3, 4, 6, 8, 10, 12 of 12. Of 1, only the last is a whole one
     -- (S 3.6, S 3.7)
     (

@@ -2,10 +2,10 @@
 // (`descend`). The pyramid lies by quarters: below the entry at place i of the whole pyramid are those at the places
 // 4i + 1 to 4i + 4.
 ghost use Rattle.std.specs.Prelude.{◌≡◌, ◌+◌, ◌-◌, ◌^◌, ◌<◌, length};
-ghost use Rattle.definition.specs.Descent.{ofEquals, descend};
+ghost use Rattle.definition.specs.Descent.{of_equals, descend};
 ghost use Rattle.definition.specs.Quarters.{rows_from};
 ghost use Rattle.pyramid.specs.PyramidPart.{Within};
-ghost use Rattle.descent.specs.Candidates.{candidateAt, betterOf, FourAsked, Taken, DescentAsked, number_of};
+ghost use Rattle.descent.specs.Candidates.{candidate_at, better_of, FourAsked, Taken, DescentAsked, number_of};
 
 // A cell of the map.
 #[derive(Drop)]
@@ -24,7 +24,7 @@ struct Candidate {
 // One of the four entries from place `first` on, as a candidate.
 fn candidate_at(pyramid: &[i64], first: usize, quarter: usize) -> Candidate
     requires { first + quarter < length pyramid.now }
-    ensures { result ≡ candidateAt pyramid.now first quarter }
+    ensures { result ≡ candidate_at pyramid.now first quarter }
 {
     let sum = pyramid[first + quarter];
     Candidate {
@@ -37,7 +37,7 @@ fn candidate_at(pyramid: &[i64], first: usize, quarter: usize) -> Candidate
 // with tie 1 the last is taken (S 3.3); added to the sum, the choice costs no branch.
 fn better(best: Candidate, next: Candidate, last: bool) -> Candidate
     requires { Within (2 ^ 40) next.sum }
-    ensures { result ≡ betterOf last best next }
+    ensures { result ≡ better_of last best next }
 {
     let most = best.sum;
     let sum = next.sum + last as i64;
@@ -64,7 +64,7 @@ fn largest(pyramid: &[i64], first: usize, last: bool) -> usize
 // part of that length: then the compiled code needn't store and reload a struct or the slice at each level.
 fn walk(pyramid: &[i64], r: usize, k: usize, at: usize, a: usize, b: usize, last: bool) -> usize
     requires { DescentAsked pyramid.now r k at a b }
-    ensures { result ≡ number_of r (descend (ofEquals last) (rows_from r pyramid.now) (r - k) k a b) }
+    ensures { result ≡ number_of r (descend (of_equals last) (rows_from r pyramid.now) (r - k) k a b) }
 {
     if k == r {
         return a * sizes::pow2(r) + b;
@@ -95,7 +95,7 @@ pub fn descend(
     last: bool,
 ) -> Cell
     requires { DescentAsked pyramid.now r k at a b }
-    ensures { (result.row, result.column) ≡ descend (ofEquals last) (rows_from r pyramid.now) (r - k) k a b }
+    ensures { (result.row, result.column) ≡ descend (of_equals last) (rows_from r pyramid.now) (r - k) k a b }
 {
     let number = walk(pyramid, r, k, at, a, b, last);
     let side = sizes::pow2(r);

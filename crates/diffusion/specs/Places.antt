@@ -1,41 +1,41 @@
--- Places of a map: where a cell lies among the cells by quarters (`place-in`, `read-there`, `stored_there`), and that
+-- Places of a map: where a cell lies among the cells by quarters (`place_in`, `read_there`, `stored_there`), and that
 -- the numbers on the way to it are small.
 use Rattle.std.specs.Prelude.{◌≡◌, List, ℕ, ◌+◌, ◌*◌, ◌/◌, ◌%◌, ◌^◌, ◌≤◌, ◌<◌, length, get_or, set, ℤ, pos}
 use Rattle.std.proofs.Common.{sym, ap, ◌∙◌, arith, pow_mono, Fits}
 use Rattle.std.specs.Int.{w64}
-use Rattle.definition.specs.Pyramid.{cellCount, place_in, inLevel}
+use Rattle.definition.specs.Pyramid.{cell_count, place_in, in_level}
 use Rattle.definition.specs.Quarters.{interleaved}
-use Rattle.quadtree.specs.Levels.{cells-few}
-use Rattle.layouts.specs.Interleaved.{interleaved-lt}
-use Rattle.layouts.specs.Cells.{rowsLevel, rows_in, rows-set}
+use Rattle.quadtree.specs.Levels.{cells_few}
+use Rattle.layouts.specs.Interleaved.{interleaved_lt}
+use Rattle.layouts.specs.Cells.{rows_level, rows_in, rows_set}
 use Rattle.diffusion.specs.OneTurn.{CellAsked}
 
-pub side-small : (r : ℕ) → r ≤ 8 → 2 ^ r ≤ 256
-side-small r h = pow_mono {i = r} {j = 8} h
+pub side_small_lem : (r : ℕ) → r ≤ 8 → 2 ^ r ≤ 256
+side_small_lem r h = pow_mono {i = r} {j = 8} h
 
 -- the row and the column of place p of the nine around a cell, counted from one before the map
 module _ (r row column p : ℕ) where
   pub row_fits : CellAsked r row column → p < 9 → Fits w64 (row + p / 3)
-  row_fits h k = record { fits = omega (arith, side-small r h.most, h.above) }
+  row_fits h k = record { fits = omega (arith, side_small_lem r h.most, h.above) }
 
   pub column_fits : CellAsked r row column → Fits w64 (column + p % 3)
-  column_fits h = record { fits = omega (arith, side-small r h.most, h.left) }
+  column_fits h = record { fits = omega (arith, side_small_lem r h.most, h.left) }
 
 pub ruleset Near-fits = (row_fits, column_fits)
 
 -- a place of a map
 module _ (r x y at : ℕ) (e : at ≡ interleaved r x y) where
-  pub place-in : {size : ℕ} → size ≡ cellCount r → at < size
-  place-in l = omega (arith, interleaved-lt r x y)
+  pub place_in : {size : ℕ} → size ≡ cell_count r → at < size
+  place_in l = omega (arith, interleaved_lt r x y)
 
   pub bytes_fit : r ≤ 8 → Fits w64 (at * 8)
-  bytes_fit most = record { fits = omega (arith, interleaved-lt r x y, cells-few r most) }
+  bytes_fit most = record { fits = omega (arith, interleaved_lt r x y, cells_few r most) }
 
   -- what is read and stored there is read and stored row after row
   module _ (cells : List ℤ) (a : x < 2 ^ r) (b : y < 2 ^ r) where
-    pub read-there : inLevel r (rowsLevel r cells) x y ≡ get_or cells at (pos 0)
-    read-there = rows_in r cells x y a b ∙ ap (λ (i : ℕ). get_or cells i (pos 0)) (sym e)
+    pub read_there : in_level r (rows_level r cells) x y ≡ get_or cells at (pos 0)
+    read_there = rows_in r cells x y a b ∙ ap (λ (i : ℕ). get_or cells i (pos 0)) (sym e)
 
-    pub stored_there : length cells ≡ cellCount r → (v : ℤ)
-        → rowsLevel r (set cells at v) ≡ set (rowsLevel r cells) (place_in r x y) v
-    stored_there long v = ap (λ (i : ℕ). rowsLevel r (set cells i v)) e ∙ rows-set r cells x y v long a b
+    pub stored_there : length cells ≡ cell_count r → (v : ℤ)
+        → rows_level r (set cells at v) ≡ set (rows_level r cells) (place_in r x y) v
+    stored_there long v = ap (λ (i : ℕ). rows_level r (set cells i v)) e ∙ rows_set r cells x y v long a b

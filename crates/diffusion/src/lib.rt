@@ -2,16 +2,16 @@
 // `diffuse`). The cells lie by quarters; what becomes of them is said of the cells written row after row.
 ghost use Rattle.std.specs.Prelude.{◌≡◌, ◌*◌, ◌/◌, ◌^◌, ◌<◌, ◌≤◌, get_or, set, pos, ◌-ℤ◌};
 ghost use Rattle.definition.specs.Lists.{sum_to};
-ghost use Rattle.definition.specs.Pyramid.{place_in, inLevel};
+ghost use Rattle.definition.specs.Pyramid.{place_in, in_level};
 ghost use Rattle.definition.specs.Model.{missing};
-ghost use Rattle.definition.specs.Diffusion.{weightsOf, placesInTurn, kernelOf, weightAt, diffuse};
-ghost use Rattle.layouts.specs.Cells.{rowsLevel};
+ghost use Rattle.definition.specs.Diffusion.{weights_of, places_in_turn, kernel_of, weight_at, diffuse};
+ghost use Rattle.layouts.specs.Cells.{rows_level};
 ghost use Rattle.places.specs.Table.{places};
-ghost use Rattle.places.specs.Parts.{partsAround};
+ghost use Rattle.places.specs.Parts.{parts_around};
 ghost use Rattle.diffusion.specs.OneTurn.{
-  shareTaken,
-  isInside,
-  oneOfThree,
+  share_taken,
+  is_inside,
+  one_of_three,
   CellAsked,
   ShareAsked,
   DiffuseAsked,
@@ -34,7 +34,7 @@ const DOT: i64 = 65280;
 // 1 and nothing.
 fn knit_weight(knit: u32, p: usize) -> usize
     requires { p < 9 }
-    ensures { result ≡ get_or (weightsOf knit) p 0 }
+    ensures { result ≡ get_or (weights_of knit) p 0 }
 {
     if p == 4 {
         return 0;
@@ -48,7 +48,7 @@ fn knit_weight(knit: u32, p: usize) -> usize
 // The place of the nine that comes in turn n (S 3.6).
 fn turn(n: usize) -> usize
     requires { n < 9 }
-    ensures { result ≡ get_or placesInTurn n 4 }
+    ensures { result ≡ get_or places_in_turn n 4 }
 {
     (TURNS >> (4 * n)) % 16
 }
@@ -56,7 +56,7 @@ fn turn(n: usize) -> usize
 // The weight of the place in turn n around a cell: 0 at the cell itself and off the map.
 fn weight(knit: u32, r: usize, row: usize, column: usize, n: usize) -> usize
     requires { CellAsked r row column × (n < 9) }
-    ensures { result ≡ weightAt (kernelOf knit) r row column n }
+    ensures { result ≡ weight_at (kernel_of knit) r row column n }
 {
     let p = turn(n);
     let side = sizes::pow2(r);
@@ -81,7 +81,7 @@ fn weight(knit: u32, r: usize, row: usize, column: usize, n: usize) -> usize
 // ribbed.
 fn weight_sum(knit: u32, r: usize, row: usize, column: usize) -> usize
     requires { CellAsked r row column }
-    ensures { result ≡ sum_to 9 (weightAt (kernelOf knit) r row column) }
+    ensures { result ≡ sum_to 9 (weight_at (kernel_of knit) r row column) }
 {
     let mut sum = 0;
     let mut n = 0;
@@ -114,7 +114,7 @@ fn take_share(
 )
     requires share_asked { ShareAsked cells.old r row column p w s }
     requires table_value { table.now ≡ places }
-    ensures { rowsLevel r cells.new ≡ shareTaken r row column p w s (rowsLevel r cells.old) }
+    ensures { rows_level r cells.new ≡ share_taken r row column p w s (rows_level r cells.old) }
 {
     if w == 0 {
         return;
@@ -137,8 +137,8 @@ pub fn diffuse(
 )
     requires diffuse_asked { DiffuseAsked cells.old r row column d }
     requires table_value { table.now ≡ places }
-    ensures { rowsLevel r cells.new
-        ≡ diffuse (kernelOf knit) r row column d 9 (rowsLevel r cells.old) }
+    ensures { rows_level r cells.new
+        ≡ diffuse (kernel_of knit) r row column d 9 (rows_level r cells.old) }
 {
     let all = weight_sum(knit, r, row, column);
     let mut sum = 0;
@@ -157,7 +157,7 @@ pub fn diffuse(
 // Whether all eight neighbours of a cell lie on the map, as those of nearly every cell do.
 fn is_inside(r: usize, row: usize, column: usize) -> bool
     requires { r ≤ 8 }
-    ensures { result ≡ isInside r row column }
+    ensures { result ≡ is_inside r row column }
 {
     let last = sizes::pow2(r) - 1;
     if row == 0 {
@@ -174,7 +174,7 @@ fn is_inside(r: usize, row: usize, column: usize) -> bool
 
 // Of the three rows around a cell the part of row x: above, here, below.
 fn row_at(p: Parts, x: usize) -> usize
-    ensures { result ≡ oneOfThree x p.above p.row p.below }
+    ensures { result ≡ one_of_three x p.above p.row p.below }
 {
     match x {
         0 => p.above,
@@ -185,7 +185,7 @@ fn row_at(p: Parts, x: usize) -> usize
 
 // Of the three columns around a cell the part of column y: left, here, right.
 fn column_at(p: Parts, y: usize) -> usize
-    ensures { result ≡ oneOfThree y p.left p.column p.right }
+    ensures { result ≡ one_of_three y p.left p.column p.right }
 {
     match y {
         0 => p.left,
@@ -217,9 +217,9 @@ fn spread(
     d: usize,
 )
     requires inside_asked { InsideAsked cells.old p r row column d }
-    requires all_value { all ≡ sum_to 9 (weightAt (kernelOf knit) r row column) }
-    ensures { rowsLevel r cells.new
-        ≡ diffuse (kernelOf knit) r row column d 9 (rowsLevel r cells.old) }
+    requires all_value { all ≡ sum_to 9 (weight_at (kernel_of knit) r row column) }
+    ensures { rows_level r cells.new
+        ≡ diffuse (kernel_of knit) r row column d 9 (rows_level r cells.old) }
 {
     let mut sum = 0;
     let mut given = 0;
@@ -246,8 +246,8 @@ fn spread_inside(
     d: usize,
 )
     requires { InsideAsked cells.old p r row column d }
-    ensures { rowsLevel r cells.new
-        ≡ diffuse (kernelOf knit) r row column d 9 (rowsLevel r cells.old) }
+    ensures { rows_level r cells.new
+        ≡ diffuse (kernel_of knit) r row column d 9 (rows_level r cells.old) }
 {
     if knit == 0 {
         spread(cells, p, 0, 12, r, row, column, d);
@@ -270,9 +270,9 @@ fn diffuse_at(
 )
     requires diffuse_asked { DiffuseAsked cells.old r row column d }
     requires table_value { table.now ≡ places }
-    requires p_value { p ≡ partsAround (2 ^ r) row column }
-    ensures { rowsLevel r cells.new
-        ≡ diffuse (kernelOf knit) r row column d 9 (rowsLevel r cells.old) }
+    requires p_value { p ≡ parts_around (2 ^ r) row column }
+    ensures { rows_level r cells.new
+        ≡ diffuse (kernel_of knit) r row column d 9 (rows_level r cells.old) }
 {
     if is_inside(r, row, column) {
         spread_inside(cells, p, knit, r, row, column, d);
@@ -296,11 +296,11 @@ pub fn place(
 )
     requires place_asked { PlaceAsked cells.old r at row column }
     requires table_value { table.now ≡ places }
-    requires p_value { p ≡ partsAround (2 ^ r) row column }
-    ensures { rowsLevel r cells.new
-        ≡ diffuse (kernelOf knit) r row column
-        (missing (inLevel r (rowsLevel r cells.old) row column)) 9
-        (set (rowsLevel r cells.old) (place_in r row column) (pos 0)) }
+    requires p_value { p ≡ parts_around (2 ^ r) row column }
+    ensures { rows_level r cells.new
+        ≡ diffuse (kernel_of knit) r row column
+        (missing (in_level r (rows_level r cells.old) row column)) 9
+        (set (rows_level r cells.old) (place_in r row column) (pos 0)) }
 {
     let d = DOT - cells[at];
     cells[at] = 0;

@@ -7,18 +7,18 @@ use Rattle.std.proofs.Math.Nat.{add_assoc}
 use Rattle.std.proofs.Math.Numerals.{add-one}
 use Rattle.std.specs.Int.Signed.{lt_z}
 use Rattle.std.specs.Int.{w32, w64}
-use Rattle.definition.specs.Pyramid.{halfDot, start, needed}
-use Rattle.definition.specs.Quarters.{interleaved, quarterEntry, rows_from}
-use Rattle.definition.specs.Diffusion.{kernelOf}
+use Rattle.definition.specs.Pyramid.{half_dot, start, needed}
+use Rattle.definition.specs.Quarters.{interleaved, quarter_entry, rows_from}
+use Rattle.definition.specs.Diffusion.{kernel_of}
 use Rattle.definition.specs.Model.{Halftone, top_of, step, steps}
-use Rattle.definition.specs.Advance.{dotsDue}
-use Rattle.integers.specs.Linear.{ints, up-or-dn}
-use Rattle.quadtree.specs.Levels.{start-suc, cells-few}
-use Rattle.layouts.specs.Relaid.{rows-entry}
-use Rattle.shares.specs.Kernels.{knit-fit}
-use Rattle.dots.specs.Steps.{Sheet, top-entry, due-is, steps-sheet, steps-due}
+use Rattle.definition.specs.Advance.{dots_due}
+use Rattle.integers.specs.Linear.{ints, up_or_dn}
+use Rattle.quadtree.specs.Levels.{start_suc, cells_few}
+use Rattle.layouts.specs.Relaid.{rows_entry}
+use Rattle.shares.specs.Kernels.{knit_fit}
+use Rattle.dots.specs.Steps.{Sheet, top_entry, due_is, steps_sheet, steps_due}
 use Rattle.place_dot.specs.DotDue.{DotAsked}
-use Rattle.dot_run.specs.Tops.{none-owed, some-owed}
+use Rattle.dot_run.specs.Tops.{none_owed, some_owed}
 
 -- a sheet of just the needed lengths, sound
 pub record RunAsked (r : ℕ) (s : Halftone) : Type 0 where
@@ -29,14 +29,14 @@ pub record RunAsked (r : ℕ) (s : Halftone) : Type 0 where
 -- what a run leaves on cloth of a knit: the sheet with so many dots more, and these are the smaller of the budget and
 -- the dots due
 pub record Ran (knit r : ℕ) (s : Halftone) (budget made : ℕ) (after : Halftone) : Type 0 where
-  pub made-is : made ≡ min budget (dotsDue (top_of s.pyramid))
-  pub after_is : after ≡ steps (kernelOf knit) r made s
+  pub made_is : made ≡ min budget (dots_due (top_of s.pyramid))
+  pub after_is : after ≡ steps (kernel_of knit) r made s
 
 -- the top of a pyramid by quarters is the top row after row
-pub top-rows : (r : ℕ) (p : List ℤ) → top_of (rows_from r p) ≡ get_or p 0 (pos 0)
-unfolding quarterEntry start interleaved
-top-rows r p =
-    top-entry (rows_from r p) ∙ rows-entry r p 0 0 0 (omega arith) (omega arith) (omega arith)
+pub top_rows : (r : ℕ) (p : List ℤ) → top_of (rows_from r p) ≡ get_or p 0 (pos 0)
+unfolding quarter_entry start interleaved
+top_rows r p =
+    top_entry (rows_from r p) ∙ rows_entry r p 0 0 0 (omega arith) (omega arith) (omega arith)
 
 -- after some turns: the sheet holds p, row after row, s and o, with so many dots more than at the start, where it held
 -- p₀, s₀ and o₀
@@ -44,7 +44,7 @@ pub record Going (knit r : ℕ) (p₀ : List ℤ) (s₀ o₀ : List ℕ) (dots b
     (p : List ℤ) (s o : List ℕ) (made : ℕ) : Type 0 where
   pub within : made ≤ budget
   pub is : record { pyramid = rows_from r p; serials = s; order = o; dots = dots + made }
-      ≡ steps (kernelOf knit) r made (record { pyramid = rows_from r p₀; serials = s₀; order = o₀; dots = dots })
+      ≡ steps (kernel_of knit) r made (record { pyramid = rows_from r p₀; serials = s₀; order = o₀; dots = dots })
   pub long : length p ≡ length p₀
 
 module _ (knit r : ℕ) (p₀ : List ℤ) (s₀ o₀ : List ℕ) (dots budget : ℕ)
@@ -60,61 +60,61 @@ module _ (knit r : ℕ) (p₀ : List ℤ) (s₀ o₀ : List ℕ) (dots budget : 
   begins = record { within = omega arith; is = rw (add-zero dots); long = refl }
 
   module _ (p : List ℤ) (s o : List ℕ) (made : ℕ) (g : Going knit r p₀ s₀ o₀ dots budget p s o made) where
-    abbrev sheet-now : Halftone
-    sheet-now = record { pyramid = rows_from r p; serials = s; order = o; dots = dots + made }
+    abbrev sheet_now : Halftone
+    sheet_now = record { pyramid = rows_from r p; serials = s; order = o; dots = dots + made }
 
-    sheet : Sheet r sheet-now
-    sheet = rw g.is (steps-sheet (kernelOf knit) (knit-fit knit) r big made first h.sheet)
+    sheet : Sheet r sheet_now
+    sheet = rw g.is (steps_sheet (kernel_of knit) (knit_fit knit) r big made first h.sheet)
 
-    pub same-pyramid : length p ≡ length p₀
-    same-pyramid = g.long
+    pub same_pyramid : length p ≡ length p₀
+    same_pyramid = g.long
 
-    pub same-serials : length s ≡ length s₀
-    same-serials = sheet.sized.serials ∙ sym h.sheet.sized.serials
+    pub same_serials : length s ≡ length s₀
+    same_serials = sheet.sized.serials ∙ sym h.sheet.sized.serials
 
-    pub same-order : length o ≡ length o₀
-    same-order = sheet.sized.order ∙ sym h.sheet.sized.order
+    pub same_order : length o ≡ length o₀
+    same_order = sheet.sized.order ∙ sym h.sheet.sized.order
 
-    module _ (needed-long : length p₀ ≡ needed r) where
-      pub still-long : length p ≡ needed r
-      still-long = g.long ∙ needed-long
+    module _ (needed_long : length p₀ ≡ needed r) where
+      pub still_long : length p ≡ needed r
+      still_long = g.long ∙ needed_long
 
       pub top_in : 0 < length p
-      top_in = omega (arith, still-long, start-suc r, mul-le-mul big big)
+      top_in = omega (arith, still_long, start_suc r, mul-le-mul big big)
 
     pub few : Fits w32 (dots + made)
-    few = record { fits = omega (arith, sheet.sound.few-dots, cells-few r h.small) }
+    few = record { fits = omega (arith, sheet.sound.few_dots_lem, cells_few r h.small) }
 
     -- what is due now is what of the dots due at the start has not been made
-    rest : made + dotsDue (top_of (rows_from r p)) ≡ dotsDue (top_of (rows_from r p₀))
-    rest = omega (arith, rw (← g.is) at (steps-due (kernelOf knit) (knit-fit knit) r big made first h.sheet))
+    rest : made + dots_due (top_of (rows_from r p)) ≡ dots_due (top_of (rows_from r p₀))
+    rest = omega (arith, rw (← g.is) at (steps_due (kernel_of knit) (knit_fit knit) r big made first h.sheet))
 
-    pub spent : budget ≤ made → Ran knit r first budget made sheet-now
-    spent le = record { made-is = omega (arith, rest, g.within); after_is = g.is }
+    pub spent : budget ≤ made → Ran knit r first budget made sheet_now
+    spent le = record { made_is = omega (arith, rest, g.within); after_is = g.is }
 
     module _ (fits : SFits w64 (get_or p 0 (pos 0))) where
-      pub none-due : lt_z (to_z w64 (of_z w64 (get_or p 0 (pos 0)))) (pos halfDot) ≡ true
-          → Ran knit r first budget made sheet-now
-      none-due e =
-          let low = none-owed (get_or p 0 (pos 0)) fits e in
+      pub none_due : lt_z (to_z w64 (of_z w64 (get_or p 0 (pos 0)))) (pos half_dot) ≡ true
+          → Ran knit r first budget made sheet_now
+      none_due e =
+          let low = none_owed (get_or p 0 (pos 0)) fits e in
           let top = top_of (rows_from r p) in
-          let d : dotsDue top ≡ 0 =
-          omega (ints, due-is top, up-or-dn top, rw (← top-rows r p) at low) in
-          record { made-is = omega (arith, rest, g.within); after_is = g.is }
+          let d : dots_due top ≡ 0 =
+          omega (ints, due_is top, up_or_dn top, rw (← top_rows r p) at low) in
+          record { made_is = omega (arith, rest, g.within); after_is = g.is }
 
-      module _ (e : lt_z (to_z w64 (of_z w64 (get_or p 0 (pos 0)))) (pos halfDot) ≡ false) where
-        pub dot-asked : DotAsked r sheet-now
-        dot-asked =
+      module _ (e : lt_z (to_z w64 (of_z w64 (get_or p 0 (pos 0)))) (pos half_dot) ≡ false) where
+        pub dot_asked : DotAsked r sheet_now
+        dot_asked =
             record {
               power = h.power;
               small = h.small;
               sheet = sheet;
-              due = rw (top-rows r p) (some-owed (get_or p 0 (pos 0)) fits e);
+              due = rw (top_rows r p) (some_owed (get_or p 0 (pos 0)) fits e);
             }
 
     pub goes_on : (p' : List ℤ) (s' o' : List ℕ) → made < budget → length p' ≡ length p
         → record { pyramid = rows_from r p'; serials = s'; order = o'; dots = dots + made + 1 }
-        ≡ step (kernelOf knit) r sheet-now
+        ≡ step (kernel_of knit) r sheet_now
         → Going knit r p₀ s₀ o₀ dots budget p' s' o' (made + 1)
     unfolding steps
     goes_on p' s' o' lt kept q =

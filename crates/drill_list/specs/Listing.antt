@@ -1,5 +1,5 @@
--- The list written line by line (`head-wrote`, `dot-wrote`, `list_wrote`), and into a buffer that has room for it
--- (`list_written`) or not (`list-short`).
+-- The list written line by line (`head_wrote`, `dot_wrote`, `list_wrote`), and into a buffer that has room for it
+-- (`list_written`) or not (`list_short`).
 use Rattle.std.specs.Prelude.{◌≡◌, refl, List, [], ◌∷◌, ◌++◌, ℕ, suc, ◌+◌, ◌-◌, ◌/◌, ◌%◌, ◌^◌, ◌<◌, ◌≤◌, get_or, take}
 use Rattle.std.proofs.Common.{sym, ap, ◌∙◌, append_assoc, append-nil, add-zero, div-le_self, add-one, pow_pos, pow_mono, length-append, take-suc, length-take-le}
 use Rattle.std.proofs.Math.Nat.{zero-add, mod-le}
@@ -7,21 +7,21 @@ use native.Mathlib.Omega.{arith}
 use borrow.Author.Tests.{lt-ltb, le-ltb}
 use Rattle.std.proofs.Math.ListN.{length}
 use Rattle.std.proofs.Math.Seq.{append_snoc}
-use Rattle.definition.specs.Answers.{textSays, number_of}
-use Rattle.definition.specs.Refusals.{outputShort, lowest}
-use Rattle.definition.specs.Text.{comma, newline, decimal, line, TextOutcome, textInto}
-use Rattle.definition.specs.DrillList.{dotLines}
+use Rattle.definition.specs.Answers.{text_says, number_of}
+use Rattle.definition.specs.Refusals.{output_short, lowest}
+use Rattle.definition.specs.Text.{comma, newline, decimal, line, TextOutcome, text_into}
+use Rattle.definition.specs.DrillList.{dot_lines}
 use Rattle.definition.specs.declared.Refusal.TheVariants.{OutputShort}
 use Rattle.definition.specs.declared.TextAnswer.TheVariants.{Length, Refused}
-use Rattle.decimals.specs.Writing.{fieldText, length-number, Wrote, wrote_none, wrote-append, sets-front}
+use Rattle.decimals.specs.Writing.{field_text, length_number, Wrote, wrote_none, wrote_append, sets_front}
 
 -- the list of the first `dots` cells of an order list
-unfoldable pub listText : ℕ → ℕ → List ℕ → List ℕ
-listText r dots order = line (dots ∷ 2 ^ r ∷ []) ++ dotLines r 1 (take dots order)
+unfoldable pub list_text : ℕ → ℕ → List ℕ → List ℕ
+list_text r dots order = line (dots ∷ 2 ^ r ∷ []) ++ dot_lines r 1 (take dots order)
 
 -- a list into a buffer that has room for it; or a refusal
-abbrev pub listedIn : List ℕ → List ℕ → TextOutcome
-listedIn list output = textInto (lowest (outputShort (length list) (length output) ∷ [])) list output
+abbrev pub listed_in : List ℕ → List ℕ → TextOutcome
+listed_in list output = text_into (lowest (output_short (length list) (length output) ∷ [])) list output
 
 -- a power, and so many cells in an order list
 pub record ListAsked (r dots order : ℕ) : Type 0 where
@@ -30,60 +30,60 @@ pub record ListAsked (r dots order : ℕ) : Type 0 where
   pub listed : dots ≤ order
 
 -- ---- lines
-line-two : (a b : ℕ) → line (a ∷ b ∷ []) ≡ fieldText a comma ++ fieldText b newline
-unfolding line fieldText
-line-two a b = sym (append_snoc (decimal a) comma (decimal b ++ newline ∷ []))
+line_two : (a b : ℕ) → line (a ∷ b ∷ []) ≡ field_text a comma ++ field_text b newline
+unfolding line field_text
+line_two a b = sym (append_snoc (decimal a) comma (decimal b ++ newline ∷ []))
 
-line-three : (a b c : ℕ) → line (a ∷ b ∷ c ∷ []) ≡ fieldText a comma ++ (fieldText b comma ++ fieldText c newline)
-unfolding line fieldText
-line-three a b c = rw (append_snoc (decimal a) comma _, append_snoc (decimal b) comma _)
+line_three : (a b c : ℕ) → line (a ∷ b ∷ c ∷ []) ≡ field_text a comma ++ (field_text b comma ++ field_text c newline)
+unfolding line field_text
+line_three a b c = rw (append_snoc (decimal a) comma _, append_snoc (decimal b) comma _)
 
 -- `side` is what the code has worked out for 2 ^ r
 module _ {side : ℕ} (r : ℕ) (e : side ≡ 2 ^ r) where
-  pub some-side : 0 < side
-  some-side = omega (arith, pow_pos r)
+  pub some_side : 0 < side
+  some_side = omega (arith, pow_pos r)
 
   module _ {l l₁ l₂ : List ℕ} {at a b : ℕ} where
-    pub head-wrote : (dots : ℕ) → Wrote l at (fieldText dots comma) a l₁ → Wrote l₁ a (fieldText side newline) b l₂
+    pub head_wrote : (dots : ℕ) → Wrote l at (field_text dots comma) a l₁ → Wrote l₁ a (field_text side newline) b l₂
         → Wrote l at (line (dots ∷ 2 ^ r ∷ [])) b l₂
-    head-wrote dots x y = rw (← e, line-two dots side) (wrote-append x y)
+    head_wrote dots x y = rw (← e, line_two dots side) (wrote_append x y)
 
-    pub dot-wrote : {l₃ : List ℕ} {c : ℕ} (serial cell : ℕ) → Wrote l at (fieldText serial comma) a l₁
-        → Wrote l₁ a (fieldText (cell / side) comma) b l₂
-        → Wrote l₂ b (fieldText (cell % side) newline) c l₃
+    pub dot_wrote : {l₃ : List ℕ} {c : ℕ} (serial cell : ℕ) → Wrote l at (field_text serial comma) a l₁
+        → Wrote l₁ a (field_text (cell / side) comma) b l₂
+        → Wrote l₂ b (field_text (cell % side) newline) c l₃
         → Wrote l at (line (serial ∷ cell / 2 ^ r ∷ cell % 2 ^ r ∷ [])) c l₃
-    dot-wrote serial cell x y z =
-        rw (← e, line-three serial (cell / side) (cell % side)) (wrote-append x (wrote-append y z))
+    dot_wrote serial cell x y z =
+        rw (← e, line_three serial (cell / side) (cell % side)) (wrote_append x (wrote_append y z))
 
 -- ---- the lines of dots
-dotLines-snoc : (r j : ℕ) (cells : List ℕ) (cell : ℕ)
-    → dotLines r j (cells ++ cell ∷ []) ≡ dotLines r j cells
+dot_lines_snoc : (r j : ℕ) (cells : List ℕ) (cell : ℕ)
+    → dot_lines r j (cells ++ cell ∷ []) ≡ dot_lines r j cells
     ++ line ((j + length cells) ∷ cell / 2 ^ r ∷ cell % 2 ^ r ∷ [])
-unfolding dotLines
-dotLines-snoc r j [] cell = rw (add-zero j, append-nil)
-dotLines-snoc r j (x ∷ cells) cell =
+unfolding dot_lines
+dot_lines_snoc r j [] cell = rw (add-zero j, append-nil)
+dot_lines_snoc r j (x ∷ cells) cell =
     let e : suc j + length cells ≡ j + suc (length cells) = omega arith in
-    rw (dotLines-snoc r (suc j) cells cell, e, append_assoc)
+    rw (dot_lines_snoc r (suc j) cells cell, e, append_assoc)
 
-pub no-dots : {l : List ℕ} {at : ℕ} (r : ℕ) → Wrote l at (dotLines r 1 []) at l
-unfolding dotLines
-no-dots r = wrote_none
+pub no_dots : {l : List ℕ} {at : ℕ} (r : ℕ) → Wrote l at (dot_lines r 1 []) at l
+unfolding dot_lines
+no_dots r = wrote_none
 
 module _ (r : ℕ) (order : List ℕ) (j : ℕ) (h : j < length order) where
   -- one dot more: its line behind those of the first j
-  taken : dotLines r 1 (take (j + 1) order)
-      ≡ dotLines r 1 (take j order) ++ line ((j + 1) ∷ get_or order j 0 / 2 ^ r ∷ get_or order j 0 % 2 ^ r ∷ [])
+  taken : dot_lines r 1 (take (j + 1) order)
+      ≡ dot_lines r 1 (take j order) ++ line ((j + 1) ∷ get_or order j 0 / 2 ^ r ∷ get_or order j 0 % 2 ^ r ∷ [])
   taken =
       let e : 1 + j ≡ j + 1 = omega arith in
-      ap (λ (k : ℕ). dotLines r 1 (take k order)) (add-one j)
-      ∙ ap (dotLines r 1) (take-suc order j 0 h)
-      ∙ dotLines-snoc r 1 (take j order) (get_or order j 0)
+      ap (λ (k : ℕ). dot_lines r 1 (take k order)) (add-one j)
+      ∙ ap (dot_lines r 1) (take-suc order j 0 h)
+      ∙ dot_lines_snoc r 1 (take j order) (get_or order j 0)
       ∙ rw (length-take-le j order (omega arith), e)
 
-  pub one-more-dot : {l l₁ l₂ : List ℕ} {at a b : ℕ} → Wrote l at (dotLines r 1 (take j order)) a l₁
+  pub one_more_dot : {l l₁ l₂ : List ℕ} {at a b : ℕ} → Wrote l at (dot_lines r 1 (take j order)) a l₁
       → Wrote l₁ a (line ((j + 1) ∷ get_or order j 0 / 2 ^ r ∷ get_or order j 0 % 2 ^ r ∷ [])) b l₂
-      → Wrote l at (dotLines r 1 (take (j + 1) order)) b l₂
-  one-more-dot x y = rw taken (wrote-append x y)
+      → Wrote l at (dot_lines r 1 (take (j + 1) order)) b l₂
+  one_more_dot x y = rw taken (wrote_append x y)
 
 -- ---- how long a line is, and where it ends
 pub length_two : (a b : ℕ) → length (line (a ∷ b ∷ [])) ≡ length (decimal a) + length (decimal b) + 2
@@ -102,79 +102,79 @@ unfolding line
 length_three a b c = omega (arith, length-append (decimal a) (comma ∷ line (b ∷ c ∷ [])), length_two b c)
 
 module _ {l l₁ : List ℕ} {at next : ℕ} (r : ℕ) where
-  pub head-end : (dots : ℕ) → dots < 2 ^ 64 → r ≤ 8 → Wrote l at (line (dots ∷ 2 ^ r ∷ [])) next l₁ → next ≤ at + 42
-  head-end dots p small w =
+  pub head_end : (dots : ℕ) → dots < 2 ^ 64 → r ≤ 8 → Wrote l at (line (dots ∷ 2 ^ r ∷ [])) next l₁ → next ≤ at + 42
+  head_end dots p small w =
       omega (
         arith,
         w.place,
         length_two dots (2 ^ r),
-        length-number dots p,
-        length-number (2 ^ r)
+        length_number dots p,
+        length_number (2 ^ r)
             (omega (arith, pow_mono {i = r} {j = 8} small)),
       )
 
-  pub dot-end : (serial cell : ℕ) → serial < 2 ^ 64 → cell < 2 ^ 64
+  pub dot_end : (serial cell : ℕ) → serial < 2 ^ 64 → cell < 2 ^ 64
       → Wrote l at (line (serial ∷ cell / 2 ^ r ∷ cell % 2 ^ r ∷ [])) next l₁ → next ≤ at + 63
-  dot-end serial cell p q w =
+  dot_end serial cell p q w =
       let row = cell / 2 ^ r in
       let column = cell % 2 ^ r in
       omega (
         arith,
         w.place,
         length_three serial row column,
-        length-number serial p,
-        length-number row (omega (arith, div-le_self cell (2 ^ r))),
-        length-number column (omega (arith, mod-le cell (2 ^ r))),
+        length_number serial p,
+        length_number row (omega (arith, div-le_self cell (2 ^ r))),
+        length_number column (omega (arith, mod-le cell (2 ^ r))),
       )
 
 -- ---- lengths that are added up, each a number's digits and one byte more
 module _ {side : ℕ} (r : ℕ) (e : side ≡ 2 ^ r) {a b : ℕ} where
-  pub head-adds : (dots : ℕ) → a ≡ length (decimal dots) + 1 → b ≡ length (decimal side) + 1
+  pub head_adds : (dots : ℕ) → a ≡ length (decimal dots) + 1 → b ≡ length (decimal side) + 1
       → a + b ≡ length (line (dots ∷ 2 ^ r ∷ []))
-  head-adds dots x y = rw (← e, length_two dots side) (omega arith)
+  head_adds dots x y = rw (← e, length_two dots side) (omega arith)
 
-  pub dot-adds : {c : ℕ} (serial cell : ℕ) → a ≡ length (decimal serial) + 1 → b ≡ length (decimal (cell / side)) + 1
+  pub dot_adds : {c : ℕ} (serial cell : ℕ) → a ≡ length (decimal serial) + 1 → b ≡ length (decimal (cell / side)) + 1
       → c ≡ length (decimal (cell % side)) + 1 → a + b + c ≡ length (line (serial ∷ cell / 2 ^ r ∷ cell % 2 ^ r ∷ []))
-  dot-adds serial cell x y z = rw (← e, length_three serial (cell / side) (cell % side)) (omega arith)
+  dot_adds serial cell x y z = rw (← e, length_three serial (cell / side) (cell % side)) (omega arith)
 
-pub no-dots-add : (r : ℕ) → 0 ≡ length (dotLines r 1 [])
-unfolding dotLines
-no-dots-add r = refl
+pub no_dots_add : (r : ℕ) → 0 ≡ length (dot_lines r 1 [])
+unfolding dot_lines
+no_dots_add r = refl
 
 -- the dot with a serial stands one place before it
 module _ (r : ℕ) (order : List ℕ) (serial : ℕ) (some : 0 < serial) (h : serial ≤ length order) {a b : ℕ} where
-  pub one-more-adds : a ≡ length (dotLines r 1 (take (serial - 1) order))
+  pub one_more_adds : a ≡ length (dot_lines r 1 (take (serial - 1) order))
       → b ≡ length (line (serial ∷ get_or order (serial - 1) 0 / 2 ^ r ∷ get_or order (serial - 1) 0 % 2 ^ r ∷ []))
-      → a + b ≡ length (dotLines r 1 (take (serial + 1 - 1) order))
-  one-more-adds x y =
+      → a + b ≡ length (dot_lines r 1 (take (serial + 1 - 1) order))
+  one_more_adds x y =
       let next : serial + 1 - 1 ≡ serial - 1 + 1 = omega arith in
       let here : serial - 1 + 1 ≡ serial = omega arith in
       rw (next, taken r order (serial - 1) (omega arith), here, length-append) (omega arith)
 
-pub list-adds : {a b : ℕ} (r dots : ℕ) (order : List ℕ) → a ≡ length (line (dots ∷ 2 ^ r ∷ []))
-    → b ≡ length (dotLines r 1 (take dots order))
-    → a + b ≡ length (listText r dots order)
-unfolding listText
-list-adds r dots order x y = rw length-append (omega arith)
+pub list_adds : {a b : ℕ} (r dots : ℕ) (order : List ℕ) → a ≡ length (line (dots ∷ 2 ^ r ∷ []))
+    → b ≡ length (dot_lines r 1 (take dots order))
+    → a + b ≡ length (list_text r dots order)
+unfolding list_text
+list_adds r dots order x y = rw length-append (omega arith)
 
 -- ---- the whole list
 pub list_wrote : {l l₁ l₂ : List ℕ} {a b : ℕ} (r dots : ℕ) (order : List ℕ) → Wrote l 0 (line (dots ∷ 2 ^ r ∷ [])) a l₁
-    → Wrote l₁ a (dotLines r 1 (take dots order)) b l₂
-    → Wrote l 0 (listText r dots order) b l₂
-unfolding listText
-list_wrote r dots order x y = wrote-append x y
+    → Wrote l₁ a (dot_lines r 1 (take dots order)) b l₂
+    → Wrote l 0 (list_text r dots order) b l₂
+unfolding list_text
+list_wrote r dots order x y = wrote_append x y
 
 -- n is its length, worked out before: it says whether there is room
 module _ (list output : List ℕ) {n : ℕ} (long : n ≡ length list) where
-  pub list-short : length output < n
-      → record { said = textSays (Refused OutputShort); output = output } ≡ listedIn list output
-  unfolding textInto lowest textSays number_of
-  list-short h = rw (lt-ltb (length output) (length list) (omega arith))
+  pub list_short : length output < n
+      → record { said = text_says (Refused OutputShort); output = output } ≡ listed_in list output
+  unfolding text_into lowest text_says number_of
+  list_short h = rw (lt-ltb (length output) (length list) (omega arith))
 
   pub list_written : n ≤ length output → {m : ℕ} {after : List ℕ} → Wrote output 0 list m after
-      → record { said = textSays (Length m); output = after } ≡ listedIn list output
-  unfolding textInto lowest textSays
+      → record { said = text_says (Length m); output = after } ≡ listed_in list output
+  unfolding text_into lowest text_says
   list_written h w =
       let room : length list ≤ length output = omega arith in
       let fits = le-ltb (length output) (length list) room in
-      rw (w.stored, sets-front list output room, w.place, zero-add (length list), fits)
+      rw (w.stored, sets_front list output room, w.place, zero-add (length list), fits)

@@ -1,112 +1,112 @@
--- Drill List's ways out: refused before the list is made, with nothing changed (`refused-is`); and the list, written or
--- refused for its length (`listed-is`).
+-- Drill List's ways out: refused before the list is made, with nothing changed (`refused_is`); and the list, written or
+-- refused for its length (`listed_is`).
 use Rattle.std.specs.Prelude.{◌≡◌, Bool, true, List, [], ◌∷◌, ◌++◌, ℕ, suc, ◌-◌, ◌≤◌, length, ℤ}
 use Rattle.std.proofs.Math.Path.{refl}
 use Rattle.std.proofs.Common.{sym, ◌∙◌, arith, take-take}
-use Rattle.definition.specs.Answers.{textSays, number_of}
-use Rattle.definition.specs.Pyramid.{cellCount}
-use Rattle.definition.specs.Refusals.{powerOf, outputShort, lowest}
-use Rattle.definition.specs.Sound.{isSound}
-use Rattle.definition.specs.Advance.{sheetIn, advanceRefusal}
+use Rattle.definition.specs.Answers.{text_says, number_of}
+use Rattle.definition.specs.Pyramid.{cell_count}
+use Rattle.definition.specs.Refusals.{power_of, output_short, lowest}
+use Rattle.definition.specs.Sound.{is_sound}
+use Rattle.definition.specs.Advance.{sheet_in, advance_refusal}
 use Rattle.definition.specs.Model.{Halftone}
-use Rattle.definition.specs.Quarters.{asRows}
-use Rattle.definition.specs.ByQuarters.{drillListByQuarters}
-use Rattle.definition.specs.Text.{TextOutcome, textInto}
-use Rattle.definition.specs.DrillList.{drillText, drillListRefusal, drillListOf}
+use Rattle.definition.specs.Quarters.{as_rows}
+use Rattle.definition.specs.ByQuarters.{drill_list_by_quarters}
+use Rattle.definition.specs.Text.{TextOutcome, text_into}
+use Rattle.definition.specs.DrillList.{drill_text, drill_list_refusal, drill_list_of}
 use Rattle.definition.specs.declared.Progress.{Progress}
 use Rattle.definition.specs.declared.Refusal.{Refusal}
 use Rattle.definition.specs.declared.TextAnswer.TheVariants.{Refused}
 use Rattle.integers.specs.Tests.{T_true}
-use Rattle.quadtree.specs.Levels.{cells-few}
+use Rattle.quadtree.specs.Levels.{cells_few}
 use Rattle.refusals.specs.Powers.{power_small}
-use Rattle.refusals.specs.Lowest.{positive, lowest-before, lowest-after}
-use Rattle.refusals.specs.Numbers.{number-positive}
-use Rattle.layouts.specs.Lent.{rows-length}
-use Rattle.dots.specs.SoundTest.{test-sound}
-use Rattle.checks.specs.Checks.{checked, passed_none, failed-number}
+use Rattle.refusals.specs.Lowest.{positive, lowest_before, lowest_after}
+use Rattle.refusals.specs.Numbers.{number_positive}
+use Rattle.layouts.specs.Lent.{rows_length}
+use Rattle.dots.specs.SoundTest.{test_sound}
+use Rattle.checks.specs.Checks.{checked, passed_none, failed_number}
 use Rattle.checks.specs.declared.Check.{Check}
 use Rattle.checks.specs.declared.Check.TheVariants.{Passed, Failed}
-use Rattle.sheet.specs.Sheets.{SheetAsked, sheet-asked}
-use Rattle.drill_list.specs.Listing.{listText, listedIn, ListAsked}
+use Rattle.sheet.specs.Sheets.{SheetAsked, sheet_asked}
+use Rattle.drill_list.specs.Listing.{list_text, listed_in, ListAsked}
 
 module _ (r knit p s o list output : ℕ) where
-  sheet-first : (sound : Bool) (n : ℕ) → advanceRefusal r knit p s o sound ≡ suc n
-      → drillListRefusal r knit p s o sound list output ≡ suc n
-  unfolding advanceRefusal drillListRefusal
-  sheet-first sound n e = lowest-before _ (outputShort list output ∷ []) n e
+  sheet_first : (sound : Bool) (n : ℕ) → advance_refusal r knit p s o sound ≡ suc n
+      → drill_list_refusal r knit p s o sound list output ≡ suc n
+  unfolding advance_refusal drill_list_refusal
+  sheet_first sound n e = lowest_before _ (output_short list output ∷ []) n e
 
-  length-then : advanceRefusal r knit p s o true ≡ 0
-      → drillListRefusal r knit p s o true list output ≡ lowest (outputShort list output ∷ [])
-  unfolding advanceRefusal drillListRefusal positive
-  length-then e = lowest-after _ (outputShort list output ∷ []) refl e
+  length_then : advance_refusal r knit p s o true ≡ 0
+      → drill_list_refusal r knit p s o true list output ≡ lowest (output_short list output ∷ [])
+  unfolding advance_refusal drill_list_refusal positive
+  length_then e = lowest_after _ (output_short list output ∷ []) refl e
 
 -- p is a pyramid by quarters
-module _ (progress : Progress) (p : List ℤ) (s o : List ℕ) {r : ℕ} (er : r ≡ powerOf progress.side) (check : Check)
+module _ (progress : Progress) (p : List ℤ) (s o : List ℕ) {r : ℕ} (er : r ≡ power_of progress.side) (check : Check)
     (e : checked check
-    ≡ advanceRefusal r progress.knit (length p) (length s) (length o)
-    (isSound r (sheetIn r progress.dots (asRows r p) s o))) where
+    ≡ advance_refusal r progress.knit (length p) (length s) (length o)
+    (is_sound r (sheet_in r progress.dots (as_rows r p) s o))) where
   abbrev knit : ℕ
   knit = progress.knit
 
   abbrev k : ℕ
-  k = powerOf progress.side
+  k = power_of progress.side
 
   abbrev rows : List ℤ
-  rows = asRows k p
+  rows = as_rows k p
 
   abbrev sheet : Halftone
-  sheet = sheetIn k progress.dots rows s o
+  sheet = sheet_in k progress.dots rows s o
 
-  check-rows : checked check ≡ advanceRefusal k knit (length rows) (length s) (length o) (isSound k sheet)
-  check-rows = rw (rows-length k p, ← er) e
+  check_rows : checked check ≡ advance_refusal k knit (length rows) (length s) (length o) (is_sound k sheet)
+  check_rows = rw (rows_length k p, ← er) e
 
-  pub refused-is : (output : List ℕ) {why : Refusal} → check ≡ Failed why
-      → record { said = textSays (Refused why); output = output } ≡ drillListByQuarters progress p s o output
-  unfolding drillListByQuarters drillListOf textInto textSays
-  refused-is output {why} failed =
-      let n = failed-number check check-rows why failed in
-      let first = sheet-first k knit (length rows) (length s) (length o) (length (drillText k sheet)) (length output)
-      (isSound k sheet) (number_of why - 1) n in
-      rw (first, ← number-positive why)
+  pub refused_is : (output : List ℕ) {why : Refusal} → check ≡ Failed why
+      → record { said = text_says (Refused why); output = output } ≡ drill_list_by_quarters progress p s o output
+  unfolding drill_list_by_quarters drill_list_of text_into text_says
+  refused_is output {why} failed =
+      let n = failed_number check check_rows why failed in
+      let first = sheet_first k knit (length rows) (length s) (length o) (length (drill_text k sheet)) (length output)
+      (is_sound k sheet) (number_of why - 1) n in
+      rw (first, ← number_positive why)
 
   module _ (passed : check ≡ Passed) where
     asked : SheetAsked r progress.dots p s o
-    asked = sheet-asked progress.knit (power_small progress.side er) progress.dots p s o check e passed
+    asked = sheet_asked progress.knit (power_small progress.side er) progress.dots p s o check e passed
 
-    few : progress.dots ≤ cellCount r
-    unfolding sheetIn
-    few = (test-sound r (sheetIn r progress.dots (asRows r p) s o) (T_true _ asked.sound)).few-dots
+    few : progress.dots ≤ cell_count r
+    unfolding sheet_in
+    few = (test_sound r (sheet_in r progress.dots (as_rows r p) s o) (T_true _ asked.sound)).few_dots_lem
 
-    pub list-asked : ListAsked r progress.dots (length o)
-    list-asked =
+    pub list_asked : ListAsked r progress.dots (length o)
+    list_asked =
         record {
           small = asked.small;
-          few = omega (arith, few, cells-few r asked.small);
-          listed = omega (arith, few, asked.lent.order-long);
+          few = omega (arith, few, cells_few r asked.small);
+          listed = omega (arith, few, asked.lent.order_long);
         }
 
     -- the sheet's order list is the part of the buffer that has a place for each cell
-    list-is : drillText r (sheetIn r progress.dots (asRows r p) s o) ≡ listText r progress.dots o
-    unfolding drillText sheetIn listText
-    list-is = rw (take-take progress.dots (cellCount r) o few)
+    list_is : drill_text r (sheet_in r progress.dots (as_rows r p) s o) ≡ list_text r progress.dots o
+    unfolding drill_text sheet_in list_text
+    list_is = rw (take-take progress.dots (cell_count r) o few)
 
-    sound-there : isSound k sheet ≡ true
-    sound-there = rw er at asked.sound
+    sound_there : is_sound k sheet ≡ true
+    sound_there = rw er at asked.sound
 
-    not-refused : advanceRefusal k knit (length rows) (length s) (length o) true ≡ 0
-    not-refused = rw sound-there at (passed_none check check-rows passed)
+    not_refused : advance_refusal k knit (length rows) (length s) (length o) true ≡ 0
+    not_refused = rw sound_there at (passed_none check check_rows passed)
 
     module _ (output : List ℕ) where
-      list-then : drillListByQuarters progress p s o output ≡ listedIn (drillText k sheet) output
-      unfolding drillListByQuarters drillListOf
-      list-then =
-          let list = drillText k sheet in
-          let z : drillListRefusal k knit (length rows) (length s) (length o) (isSound k sheet)
+      list_then : drill_list_by_quarters progress p s o output ≡ listed_in (drill_text k sheet) output
+      unfolding drill_list_by_quarters drill_list_of
+      list_then =
+          let list = drill_text k sheet in
+          let z : drill_list_refusal k knit (length rows) (length s) (length o) (is_sound k sheet)
           (length list) (length output)
-          ≡ lowest (outputShort (length list) (length output) ∷ []) =
-          rw sound-there (length-then k knit (length rows) (length s) (length o) _ (length output) not-refused) in
+          ≡ lowest (output_short (length list) (length output) ∷ []) =
+          rw sound_there (length_then k knit (length rows) (length s) (length o) _ (length output) not_refused) in
           rw z
 
-      pub listed-is : {out : TextOutcome} → out ≡ listedIn (listText r progress.dots o) output
-          → out ≡ drillListByQuarters progress p s o output
-      listed-is q = q ∙ sym (list-then ∙ rw (← er, list-is))
+      pub listed_is : {out : TextOutcome} → out ≡ listed_in (list_text r progress.dots o) output
+          → out ≡ drill_list_by_quarters progress p s o output
+      listed_is q = q ∙ sym (list_then ∙ rw (← er, list_is))

@@ -1,12 +1,12 @@
 // Drill List (`drill_list`): the number of dots and the side on one line, then a line for each dot with its serial, row
 // and column.
 ghost use Rattle.std.specs.Prelude.{◌≡◌, [], ◌∷◌, ◌*◌, ◌/◌, ◌%◌, ◌^◌, ◌≤◌, length, take};
-ghost use Rattle.definition.specs.Answers.{textSays};
+ghost use Rattle.definition.specs.Answers.{text_says};
 ghost use Rattle.definition.specs.Text.{line};
-ghost use Rattle.definition.specs.DrillList.{dotLines};
-ghost use Rattle.definition.specs.ByQuarters.{drillListByQuarters};
+ghost use Rattle.definition.specs.DrillList.{dot_lines};
+ghost use Rattle.definition.specs.ByQuarters.{drill_list_by_quarters};
 ghost use Rattle.decimals.specs.Writing.{Wrote};
-ghost use Rattle.drill_list.specs.Listing.{listText, listedIn, ListAsked};
+ghost use Rattle.drill_list.specs.Listing.{list_text, listed_in, ListAsked};
 
 use checks::Check;
 use definition::{Progress, Refusal, TextAnswer};
@@ -35,7 +35,7 @@ fn put_dot(out: &mut [u8], at: usize, serial: u64, cell: u64, r: usize) -> usize
 // The lines of the first `dots` cells of the order list.
 fn put_dots(out: &mut [u8], from: usize, order: &[u32], dots: usize, r: usize) -> usize
     requires { (from ≤ 2 ^ 60) × ListAsked r dots (length order.now) }
-    ensures { Wrote out.old from (dotLines r 1 (take dots order.now)) result out.new }
+    ensures { Wrote out.old from (dot_lines r 1 (take dots order.now)) result out.new }
 {
     let mut at = from;
     let mut j = 0;
@@ -49,7 +49,7 @@ fn put_dots(out: &mut [u8], from: usize, order: &[u32], dots: usize, r: usize) -
 // The whole list, as far as the buffer has places; returns its length.
 fn put_list(out: &mut [u8], order: &[u32], dots: usize, r: usize) -> usize
     requires { ListAsked r dots (length order.now) }
-    ensures { Wrote out.old 0 (listText r dots order.now) result out.new }
+    ensures { Wrote out.old 0 (list_text r dots order.now) result out.new }
 {
     let at = put_head(out, dots as u64, r);
     put_dots(out, at, order, dots, r)
@@ -78,7 +78,7 @@ fn dot_length(serial: u64, cell: u64, r: usize) -> usize
 // How long the lines of the first `dots` cells of the order list are.
 fn dots_length(order: &[u32], dots: usize, r: usize) -> usize
     requires { ListAsked r dots (length order.now) }
-    ensures { (result ≡ length (dotLines r 1 (take dots order.now))) × (result ≤ 63 * dots) }
+    ensures { (result ≡ length (dot_lines r 1 (take dots order.now))) × (result ≤ 63 * dots) }
 {
     let mut bytes: usize = 0;
     let mut serial = 1;
@@ -92,7 +92,7 @@ fn dots_length(order: &[u32], dots: usize, r: usize) -> usize
 // How long the whole list is, by counting digits: nothing is written.
 fn list_length(order: &[u32], dots: usize, r: usize) -> usize
     requires { ListAsked r dots (length order.now) }
-    ensures { result ≡ length (listText r dots order.now) }
+    ensures { result ≡ length (list_text r dots order.now) }
 {
     head_length(dots as u64, r) + dots_length(order, dots, r)
 }
@@ -101,10 +101,10 @@ fn list_length(order: &[u32], dots: usize, r: usize) -> usize
 fn write_list(out: &mut [u8], order: &[u32], dots: usize, r: usize) -> TextAnswer
     requires { ListAsked r dots (length order.now) }
     ensures { record {
-      said = textSays result;
+      said = text_says result;
       output = out.new;
     }
-        ≡ listedIn (listText r dots order.now) out.old }
+        ≡ listed_in (list_text r dots order.now) out.old }
 {
     let length = list_length(order, dots, r);
     if out.len() < length {
@@ -122,8 +122,8 @@ pub fn drill_list(
     order: &[u32],
     out: &mut [u8],
 ) -> TextAnswer
-    ensures { record { said = textSays result; output = out.new }
-        ≡ drillListByQuarters progress
+    ensures { record { said = text_says result; output = out.new }
+        ≡ drill_list_by_quarters progress
         pyramid.now serials.now order.now out.old }
 {
     let table = places::table();

@@ -1,7 +1,7 @@
 // The sheet that a map starts with: the check of what is lent for it (`check_load`, `low_map`), and the filling of the
 // three buffers (`fill`).
 ghost use Rattle.std.specs.Prelude.{◌≡◌, ◌++◌, ◌≤◌, length, drop, replicate};
-ghost use Rattle.definition.specs.Load.{lowMap, loadRefusal};
+ghost use Rattle.definition.specs.Load.{low_map, load_refusal};
 ghost use Rattle.places.specs.Table.{places};
 ghost use Rattle.checks.specs.Checks.{checked};
 ghost use Rattle.fresh_sheet.specs.Filling.{FillLent, Filled};
@@ -13,7 +13,7 @@ use definition::Refusal;
 // lent, those are.
 pub fn low_map(r: usize, greys: &[u8]) -> bool
     requires { r ≤ 8 }
-    ensures { result ≡ lowMap r greys.now }
+    ensures { result ≡ low_map r greys.now }
 {
     let cells = sizes::cell_count(r);
     if greys.len() < cells {
@@ -34,7 +34,7 @@ pub fn check_load(
     low: bool,
 ) -> Check
     requires { r ≤ 8 }
-    ensures { checked result ≡ loadRefusal r knit greys pyramid serials order low }
+    ensures { checked result ≡ load_refusal r knit greys pyramid serials order low }
 {
     let cells = sizes::cell_count(r);
     let needed = sizes::needed(r);

@@ -1,18 +1,18 @@
--- An instance of the price list, so that it is seen to speak of something (`holds-here`): P3, side 2 and greys 128,
+-- An instance of the price list, so that it is seen to speak of something (`holds_here`): P3, side 2 and greys 128,
 -- with budgets 0, 1, 1 and, after the first of them, a call that is lent a pyramid of four places, one too few. The
 -- buffers are one place longer than needed.
 use Rattle.std.specs.Prelude.{◌≡◌, refl, List, [], ◌∷◌, ℕ, drop, replicate, ℤ, pos}
 use Rattle.std.proofs.Common.{arith}
-use Rattle.definition.specs.Lists.{sum_to, allTo, tabulateFrom, joined, eqZ}
+use Rattle.definition.specs.Lists.{sum_to, all_to, tabulate_from, joined, eq_z}
 use Rattle.definition.specs.Answers.{Said, finished, more, refused}
-use Rattle.definition.specs.Pyramid.{needed, cellCount, start, place_in, row_at, columnAt}
-use Rattle.definition.specs.Pyramid.{levelOf, inLevel, entry, four, coarser, pyramidOver}
-use Rattle.definition.specs.Blocks.{greyAt, burnt, burntAt}
+use Rattle.definition.specs.Pyramid.{needed, cell_count, start, place_in, row_at, column_at}
+use Rattle.definition.specs.Pyramid.{level_of, in_level, entry, four, coarser, pyramid_over}
+use Rattle.definition.specs.Blocks.{grey_at, burnt, burnt_at}
 use Rattle.definition.specs.Descent.{
   candidate,
-  firstOfEquals,
-  lastOfEquals,
-  ofEquals,
+  first_of_equals,
+  last_of_equals,
+  of_equals,
   choice_of,
   better,
   largest,
@@ -21,49 +21,49 @@ use Rattle.definition.specs.Descent.{
 use Rattle.definition.specs.Diffusion.{
   plain,
   ribbed,
-  weightsOf,
-  placesInTurn,
-  kernelOf,
+  weights_of,
+  places_in_turn,
+  kernel_of,
   within,
-  onMap,
-  weightAt,
+  on_map,
+  weight_at,
   share,
   diffuse,
 }
-use Rattle.definition.specs.Model.{top_of, modelStart, missing, placeDot, step, steps}
+use Rattle.definition.specs.Model.{top_of, model_start, missing, place_dot, step, steps}
 use Rattle.definition.specs.Sound.{
-  burntNear,
-  everyEntry,
-  fewDots,
+  burnt_near,
+  every_entry,
+  few_dots,
   numbered,
   counted,
   unused,
   summed,
   bounded,
   owing,
-  isSound,
+  is_sound,
 }
-use Rattle.definition.specs.Refusals.{powerUpTo, powerOf, lowest}
-use Rattle.definition.specs.Lowering.{noneHigh}
-use Rattle.definition.specs.Load.{lowMap, loadRefusal, loaded, load_of}
-use Rattle.definition.specs.Advance.{Reply, dotsDue, saidAt, sheetIn, advanceRefusal, advanced, advanceOf}
+use Rattle.definition.specs.Refusals.{power_up_to, power_of, lowest}
+use Rattle.definition.specs.Lowering.{none_high}
+use Rattle.definition.specs.Load.{low_map, load_refusal, loaded, load_of}
+use Rattle.definition.specs.Advance.{Reply, dots_due, said_at, sheet_in, advance_refusal, advanced, advance_of}
 use Rattle.definition.specs.Quarters.{
   interleaved,
   row_of,
-  columnOf,
-  quarterEntry,
-  quarterLevel,
+  column_of,
+  quarter_entry,
+  quarter_level,
   rows_from,
-  quartersFrom,
+  quarters_from,
   relaid,
-  asRows,
-  asQuarters,
+  as_rows,
+  as_quarters,
 }
-use Rattle.definition.specs.ByQuarters.{loadByQuarters, advanceByQuarters}
-use Rattle.definition.specs.AdvanceList.{Call, heldAfterLoad, call_of, heldAfter, outcomesOf, repliesOf}
+use Rattle.definition.specs.ByQuarters.{load_by_quarters, advance_by_quarters}
+use Rattle.definition.specs.AdvanceList.{Call, held_after_load, call_of, held_after, outcomes_of, replies_of}
 use Rattle.guarantee.specs.PriceList.{Accepted, HoldsFrom, PriceList}
 use Rattle.guarantee.specs.Lent.{held_of}
-use Rattle.guarantee.specs.Theorem.{loaded-before, price-list}
+use Rattle.guarantee.specs.Theorem.{loaded_before, price_list}
 
 abbrev greys : List ℕ
 greys = 128 ∷ 128 ∷ 128 ∷ 128 ∷ []
@@ -75,37 +75,37 @@ abbrev sheet : List ℕ
 sheet = replicate 5 9
 
 abbrev call : ℕ → ℕ → Call
-call budget lent = record { budget = budget; pyramidLent = lent; serialsLent = 5; orderLent = 5 }
+call budget lent = record { budget = budget; pyramid_lent = lent; serials_lent = 5; order_lent = 5 }
 
 abbrev calls : List Call
 calls = call 0 6 ∷ call 1 4 ∷ call 1 6 ∷ call 1 5 ∷ []
 
 accepted : Accepted 2 plain greys pyramid sheet sheet
-unfolding loadByQuarters asRows relaid rows_from joined levelOf tabulateFrom load_of loadRefusal lowMap noneHigh loaded
-    lowest powerOf powerUpTo start
+unfolding load_by_quarters as_rows relaid rows_from joined level_of tabulate_from load_of load_refusal low_map none_high loaded
+    lowest power_of power_up_to start
 accepted = record { bytes = (omega arith, (omega arith, (omega arith, (omega arith, tt)))); said = refl }
 
-accepted-ribbed : Accepted 2 ribbed greys pyramid sheet sheet
-unfolding loadByQuarters asRows relaid rows_from joined levelOf tabulateFrom load_of loadRefusal lowMap noneHigh loaded
-    lowest powerOf powerUpTo start
-accepted-ribbed = record { bytes = accepted.bytes; said = refl }
+accepted_ribbed : Accepted 2 ribbed greys pyramid sheet sheet
+unfolding load_by_quarters as_rows relaid rows_from joined level_of tabulate_from load_of load_refusal low_map none_high loaded
+    lowest power_of power_up_to start
+accepted_ribbed = record { bytes = accepted.bytes; said = refl }
 
-pub holds-here : PriceList 2 plain greys pyramid sheet sheet calls
-holds-here = price-list 2 plain greys pyramid sheet sheet accepted calls
+pub holds_here : PriceList 2 plain greys pyramid sheet sheet calls
+holds_here = price_list 2 plain greys pyramid sheet sheet accepted calls
 
-pub holds-ribbed : PriceList 2 ribbed greys pyramid sheet sheet calls
-holds-ribbed = price-list 2 ribbed greys pyramid sheet sheet accepted-ribbed calls
+pub holds_ribbed : PriceList 2 ribbed greys pyramid sheet sheet calls
+holds_ribbed = price_list 2 ribbed greys pyramid sheet sheet accepted_ribbed calls
 
 -- the same calls on a sheet that was loaded when greys went up to 255, of four such greys (S 7.5)
 abbrev dark : List ℕ
 dark = 255 ∷ 255 ∷ 255 ∷ 255 ∷ []
 
-pub holds-before :
+pub holds_before :
     HoldsFrom
-    (held_of plain 1 (modelStart 1 dark) (drop (needed 1) pyramid) (drop (cellCount 1) sheet) (drop (cellCount 1) sheet))
+    (held_of plain 1 (model_start 1 dark) (drop (needed 1) pyramid) (drop (cell_count 1) sheet) (drop (cell_count 1) sheet))
     plain 1 dark pyramid sheet sheet calls
-holds-before =
-    loaded-before 1 plain (omega arith) (omega arith) (omega arith) dark
+holds_before =
+    loaded_before 1 plain (omega arith) (omega arith) (omega arith) dark
     (omega arith, (omega arith, (omega arith, (omega arith, tt)))) pyramid sheet sheet calls
 
 -- what the calls reply on either cloth, by computing: more; refused, 3; more; finished
@@ -118,15 +118,15 @@ replies knit = reply knit 0 0 more ∷ reply knit 0 0 (refused 3) ∷ reply knit
     ∷ []
 
 abbrev given : ℕ → List Reply
-given knit = repliesOf (heldAfterLoad 2 knit greys pyramid sheet sheet) calls
+given knit = replies_of (held_after_load 2 knit greys pyramid sheet sheet) calls
 
-pub replies-here : (given plain ≡ replies plain) × (given ribbed ≡ replies ribbed)
-unfolding sum_to allTo tabulateFrom eqZ start place_in row_at columnAt levelOf inLevel entry four coarser
-    pyramidOver greyAt burnt burntAt candidate firstOfEquals lastOfEquals ofEquals choice_of better largest
-    descend weightsOf placesInTurn kernelOf within onMap weightAt share diffuse top_of modelStart missing placeDot
-    step steps burntNear everyEntry fewDots numbered counted unused summed bounded owing isSound powerUpTo powerOf
-    lowest loadRefusal lowMap noneHigh loaded load_of dotsDue saidAt sheetIn advanceRefusal advanced advanceOf
-    heldAfterLoad call_of
-    heldAfter outcomesOf repliesOf interleaved row_of columnOf quarterEntry quarterLevel rows_from quartersFrom relaid
-    asRows asQuarters joined loadByQuarters advanceByQuarters
-replies-here = (refl, refl)
+pub replies_here : (given plain ≡ replies plain) × (given ribbed ≡ replies ribbed)
+unfolding sum_to all_to tabulate_from eq_z start place_in row_at column_at level_of in_level entry four coarser
+    pyramid_over grey_at burnt burnt_at candidate first_of_equals last_of_equals of_equals choice_of better largest
+    descend weights_of places_in_turn kernel_of within on_map weight_at share diffuse top_of model_start missing place_dot
+    step steps burnt_near every_entry few_dots numbered counted unused summed bounded owing is_sound power_up_to power_of
+    lowest load_refusal low_map none_high loaded load_of dots_due said_at sheet_in advance_refusal advanced advance_of
+    held_after_load call_of
+    held_after outcomes_of replies_of interleaved row_of column_of quarter_entry quarter_level rows_from quarters_from relaid
+    as_rows as_quarters joined load_by_quarters advance_by_quarters
+replies_here = (refl, refl)

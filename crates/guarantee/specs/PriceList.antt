@@ -2,25 +2,25 @@
 -- (`Accepted`). `Theorem` proves it, and `Clauses` says it again field by field.
 use Rattle.std.specs.Prelude.{◌≡◌, ◌≢◌, ◌↔◌, false, List, [], ◌∷◌, ℕ, ◌+◌, ◌*◌, ◌-◌, ◌^◌, ◌≤◌, ◌<◌, min, get_or, take, drop, ℤ, pos, ◌+ℤ◌, ◌<ℤ◌}
 use Rattle.definition.specs.Answers.{returned, finished}
-use Rattle.definition.specs.Pyramid.{oneDot, halfDot, needed, cellCount}
-use Rattle.definition.specs.Blocks.{blockSide, greySum, greyTotal, total_of, dotsIn, allDots}
-use Rattle.definition.specs.Diffusion.{kernelOf}
-use Rattle.definition.specs.Model.{Halftone, top_of, modelStart, steps}
-use Rattle.definition.specs.Refusals.{powerOf}
-use Rattle.definition.specs.Quarters.{quartersFrom}
-use Rattle.definition.specs.ByQuarters.{loadByQuarters}
+use Rattle.definition.specs.Pyramid.{one_dot, half_dot, needed, cell_count}
+use Rattle.definition.specs.Blocks.{block_side, grey_sum, grey_total, total_of, dots_in, all_dots}
+use Rattle.definition.specs.Diffusion.{kernel_of}
+use Rattle.definition.specs.Model.{Halftone, top_of, model_start, steps}
+use Rattle.definition.specs.Refusals.{power_of}
+use Rattle.definition.specs.Quarters.{quarters_from}
+use Rattle.definition.specs.ByQuarters.{load_by_quarters}
 use Rattle.definition.specs.Advance.{Reply, AdvanceOutcome}
 use Rattle.definition.specs.QuotePage.{Figure, figures}
 use Rattle.definition.specs.AdvanceList.{
   Call,
   Held,
-  heldAfterLoad,
-  outcomesOf,
-  heldAfterCalls,
-  repliesOf,
-  modelAfterCalls,
-  modelReplies,
-  isRefusal,
+  held_after_load,
+  outcomes_of,
+  held_after_calls,
+  replies_of,
+  model_after_calls,
+  model_replies,
+  is_refusal,
   granted,
 }
 
@@ -36,17 +36,17 @@ EachBlock r P = (k a b : ℕ) → k ≤ r → a < 2 ^ k → b < 2 ^ k → P k a 
 -- Where the promise starts: Load has accepted a side, a knit and greys that are bytes
 pub record Accepted (side knit : ℕ) (greys : List ℕ) (pyramid : List ℤ) (serials order : List ℕ) : Type 0 where
   pub bytes : Each (λ grey. grey ≤ 255) greys
-  pub said : (loadByQuarters side knit greys pyramid serials order).said ≡ returned []
+  pub said : (load_by_quarters side knit greys pyramid serials order).said ≡ returned []
 
 -- The holes of an aligned square of side s with grey sum g: the cap (S 15.4) ..
 abbrev pub UnderCap : ℕ → List ℕ → List ℕ → ℕ → ℕ → ℕ → Type 0
-UnderCap r greys serials k a b = 765 * dotsIn r serials k a b < 3 * greySum r greys k a b + 765 + 1020 * blockSide r k
+UnderCap r greys serials k a b = 765 * dots_in r serials k a b < 3 * grey_sum r greys k a b + 765 + 1020 * block_side r k
 
 -- .. and the floor, for a finished map (S 15.5): 510 × holes > 2 × g − 255 − 1,530 × k − 2,040 × (N − s), with what is
 -- taken away on the other side (s is at most N, so N − s is a natural number)
 abbrev pub OverFloor : ℕ → List ℕ → List ℕ → ℕ → ℕ → ℕ → Type 0
 OverFloor r greys serials k a b =
-    2 * greySum r greys k a b < 510 * dotsIn r serials k a b + 255 + 1530 * k + 2040 * (2 ^ r - blockSide r k)
+    2 * grey_sum r greys k a b < 510 * dots_in r serials k a b + 255 + 1530 * k + 2040 * (2 ^ r - block_side r k)
 
 -- .. and the quote page (S 8.4), of which a figure is a number with the width of its column. A figure has no more
 -- digits than places ..
@@ -64,41 +64,41 @@ pub record Quoted (r : ℕ) (greys serials : List ℕ) (k a b : ℕ) : Type 0 wh
 -- One call of the list (S 15.3): if it isn't refused, it says finished exactly when all holes then number the total.
 abbrev pub Ends : ℕ → ℕ → AdvanceOutcome → Type 0
 Ends r total out =
-    isRefusal out.reply.said ≡ false → (out.reply.said ≡ finished) ↔ (allDots r out.serials ≡ total)
+    is_refusal out.reply.said ≡ false → (out.reply.said ≡ finished) ↔ (all_dots r out.serials ≡ total)
 
 -- What holds after a list of calls: of the buffers as Load was lent them, of what the caller then holds, of the
 -- outcomes and replies of the calls, and of the model's state and replies. N = 2^r is the side, G the sum of the greys.
-pub record Holds (knit r G : ℕ) (greys : List ℕ) (lentPyramid : List ℤ) (lentSerials lentOrder : List ℕ)
+pub record Holds (knit r G : ℕ) (greys : List ℕ) (lent_pyramid : List ℤ) (lent_serials lent_order : List ℕ)
     (calls : List Call)
     (held : Held) (outcomes : List AdvanceOutcome) (replies : List Reply) (model : Halftone) (modelled : List Reply) :
     Type 0 where
   -- what is needed of each buffer is the model's, the pyramid's written by quarters; so is the record (S 15.2, S 2.8)
-  pub pyramid : take (needed r) held.pyramid ≡ quartersFrom r model.pyramid
-  pub serials : take (cellCount r) held.serials ≡ model.serials
-  pub order : take (cellCount r) held.order ≡ model.order
+  pub pyramid : take (needed r) held.pyramid ≡ quarters_from r model.pyramid
+  pub serials : take (cell_count r) held.serials ≡ model.serials
+  pub order : take (cell_count r) held.order ≡ model.order
   pub progress : held.progress ≡ record { side = 2 ^ r; dots = model.dots; knit = knit }
   -- each call, also a refused one, answers as the model does (S 15.2)
   pub answered : replies ≡ modelled
   -- what lies past the needed lengths plays no part and stays (S 2.9)
-  pub pyramid-rest : drop (needed r) held.pyramid ≡ drop (needed r) lentPyramid
-  pub serials-rest : drop (cellCount r) held.serials ≡ drop (cellCount r) lentSerials
-  pub order-rest : drop (cellCount r) held.order ≡ drop (cellCount r) lentOrder
+  pub pyramid_rest : drop (needed r) held.pyramid ≡ drop (needed r) lent_pyramid
+  pub serials_rest : drop (cell_count r) held.serials ≡ drop (cell_count r) lent_serials
+  pub order_rest : drop (cell_count r) held.order ≡ drop (cell_count r) lent_order
   -- the holes and their order are the first ones that the model makes for that map (S 15.2)
-  pub first-dots : model ≡ steps (kernelOf knit) r held.progress.dots (modelStart r greys)
+  pub first_dots : model ≡ steps (kernel_of knit) r held.progress.dots (model_start r greys)
   -- the holes of the whole map, counted as Tally counts; they number the smaller of the total and the sum of the
   -- budgets of the calls not refused (S 15.3)
-  pub all-dots : allDots r held.serials ≡ held.progress.dots
+  pub all_dots_lem : all_dots r held.serials ≡ held.progress.dots
   pub number : held.progress.dots ≡ min (total_of G) (granted calls replies)
   -- no cell is burnt twice: the order list's first places, one for each hole, are all different (S 15.6)
   pub once : (i j : ℕ) → i < j → j < held.progress.dots → get_or held.order i 0 ≢ get_or held.order j 0
   -- the cap of every aligned square (S 15.4), and, once the map is finished, the top being below 32,640, its floor
   -- (S 15.5)
   pub cap : EachBlock r (UnderCap r greys held.serials)
-  pub floor : top_of held.pyramid <ℤ pos halfDot → EachBlock r (OverFloor r greys held.serials)
+  pub floor : top_of held.pyramid <ℤ pos half_dot → EachBlock r (OverFloor r greys held.serials)
   -- the quote page of every level (S 15.4)
   pub quotes : EachBlock r (Quoted r greys held.serials)
   -- the debt still stored at the top (S 15.7)
-  pub debt : pos (oneDot * held.progress.dots) +ℤ top_of held.pyramid ≡ pos (256 * G)
+  pub debt : pos (one_dot * held.progress.dots) +ℤ top_of held.pyramid ≡ pos (256 * G)
   -- each call says finished where it should, and else doesn't (S 15.3)
   pub ends : Each (Ends r (total_of G)) outcomes
 
@@ -106,13 +106,13 @@ pub record Holds (knit r G : ℕ) (greys : List ℕ) (lentPyramid : List ℤ) (l
 -- greys.
 abbrev pub HoldsFrom : Held → ℕ → ℕ → List ℕ → List ℤ → List ℕ → List ℕ → List Call → Type 0
 HoldsFrom fresh knit r greys pyramid serials order calls =
-    let model = modelStart r greys in
-    Holds knit r (greyTotal r greys) greys pyramid serials order calls
-    (heldAfterCalls fresh calls) (outcomesOf fresh calls) (repliesOf fresh calls)
-    (modelAfterCalls knit r model calls) (modelReplies knit r model calls)
+    let model = model_start r greys in
+    Holds knit r (grey_total r greys) greys pyramid serials order calls
+    (held_after_calls fresh calls) (outcomes_of fresh calls) (replies_of fresh calls)
+    (model_after_calls knit r model calls) (model_replies knit r model calls)
 
 -- The price list of one list of calls on the buffers that Load was lent.
 abbrev pub PriceList : ℕ → ℕ → List ℕ → List ℤ → List ℕ → List ℕ → List Call → Type 0
 PriceList side knit greys pyramid serials order calls =
-    HoldsFrom (heldAfterLoad side knit greys pyramid serials order) knit (powerOf side)
+    HoldsFrom (held_after_load side knit greys pyramid serials order) knit (power_of side)
     greys pyramid serials order calls

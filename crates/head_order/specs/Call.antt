@@ -1,58 +1,58 @@
--- The call with two heads, where it is accepted (`HeadsHold`, `heads-hold`): what it gives back and leaves in every
+-- The call with two heads, where it is accepted (`HeadsHold`, `heads_hold`): what it gives back and leaves in every
 -- buffer, holes and debt, that Drill List prints the sheet, and that the order within a round does not matter.
 use Rattle.std.specs.Prelude.{◌≡◌, refl, List, [], ◌++◌, ℕ, zero, suc, ◌^◌, ◌≤◌, ◌<◌, length, get_or, drop, ℤ, pos}
 use Rattle.std.proofs.Common.{sym, ap, ◌∙◌, pow_pos, take_at, drop_at}
 use native.Mathlib.Omega.{arith}
 use Rattle.std.proofs.Math.ListN.{get_or-append}
 use Rattle.definition.specs.Answers.{returned, refused}
-use Rattle.definition.specs.Pyramid.{needed, cellCount}
-use Rattle.definition.specs.Diffusion.{kernelOf}
+use Rattle.definition.specs.Pyramid.{needed, cell_count}
+use Rattle.definition.specs.Diffusion.{kernel_of}
 use Rattle.definition.specs.Model.{Halftone, top_of}
-use Rattle.definition.specs.Refusals.{powerOf}
-use Rattle.definition.specs.Load.{lowMap}
-use Rattle.definition.specs.Quarters.{quartersFrom, asRows, asQuarters}
-use Rattle.heads.specs.TwoHeads.{twoHeads, TwoHeadsOutcome, twoHeadsRefusal, twoHeadsOf, twoHeadsByQuarters}
-use Rattle.refusals.specs.Lowest.{load-none}
-use Rattle.refusals.specs.Powers.{side-pow}
-use Rattle.quadtree.specs.Levels.{start-suc, cell-lt}
-use Rattle.layouts.specs.Relaid.{length-quarters, quarters-top}
-use Rattle.layouts.specs.Lent.{rows-length, rows_drop, as-quarters-part, quarters-rows}
-use Rattle.shares.specs.Kernels.{knit-fit}
+use Rattle.definition.specs.Refusals.{power_of}
+use Rattle.definition.specs.Load.{low_map}
+use Rattle.definition.specs.Quarters.{quarters_from, as_rows, as_quarters}
+use Rattle.heads.specs.TwoHeads.{two_heads, TwoHeadsOutcome, two_heads_refusal, two_heads_of, two_heads_by_quarters}
+use Rattle.refusals.specs.Lowest.{load_none}
+use Rattle.refusals.specs.Powers.{side_pow}
+use Rattle.quadtree.specs.Levels.{start_suc, cell_lt}
+use Rattle.layouts.specs.Relaid.{length_quarters, quarters_top}
+use Rattle.layouts.specs.Lent.{rows_length, rows_drop, as_quarters_part, quarters_rows}
+use Rattle.shares.specs.Kernels.{knit_fit}
 use Rattle.dots.specs.Steps.{Sheet}
 use Rattle.guarantee.specs.PriceList.{Each}
-use Rattle.guarantee.specs.Theorem.{all-dots-is}
+use Rattle.guarantee.specs.Theorem.{all_dots_is}
 use Rattle.head_order.specs.Promise.{TwoHeads, HeadsAccepted, HeadsHold}
-use Rattle.head_order.specs.Run.{run-sheet, two-heads}
-use Rattle.head_order.specs.Checks.{heads-none}
+use Rattle.head_order.specs.Run.{run_sheet, two_heads_lem}
+use Rattle.head_order.specs.Checks.{heads_none}
 use Rattle.guarantee.specs.Listed.{lists}
 
 -- ---- the call
 module _ (side knit : ℕ) (greys : List ℕ) (pyramid : List ℤ) (serials order : List ℕ) where
   abbrev r : ℕ
-  r = powerOf side
+  r = power_of side
 
   abbrev refusal : ℕ
   refusal =
-      twoHeadsRefusal side knit (length greys) (length pyramid) (length serials) (length order)
-      (lowMap r greys)
+      two_heads_refusal side knit (length greys) (length pyramid) (length serials) (length order)
+      (low_map r greys)
 
   abbrev out : TwoHeadsOutcome
-  out = twoHeadsByQuarters side knit greys pyramid serials order
+  out = two_heads_by_quarters side knit greys pyramid serials order
 
   abbrev run : Halftone
-  run = twoHeads (kernelOf knit) r greys
+  run = two_heads (kernel_of knit) r greys
 
   abbrev p : List ℤ
   p = drop (needed r) pyramid
 
   abbrev s : List ℕ
-  s = drop (cellCount r) serials
+  s = drop (cell_count r) serials
 
   abbrev o : List ℕ
-  o = drop (cellCount r) order
+  o = drop (cell_count r) order
 
   -- refused, it leaves every buffer as it was
-  pub out-refused : (n : ℕ) → refusal ≡ suc n
+  pub out_refused : (n : ℕ) → refusal ≡ suc n
       → out ≡ record {
         progress = record { side = 0; dots = 0; knit = 0 };
         made = 0;
@@ -62,22 +62,22 @@ module _ (side knit : ℕ) (greys : List ℕ) (pyramid : List ℤ) (serials orde
         serials = serials;
         order = order;
       }
-  unfolding twoHeadsByQuarters twoHeadsOf
-  out-refused n e = rw (rows-length r pyramid, e, twoHeadsOf, quarters-rows r pyramid)
+  unfolding two_heads_by_quarters two_heads_of
+  out_refused n e = rw (rows_length r pyramid, e, two_heads_of, quarters_rows r pyramid)
 
-  said-no : (n : ℕ) → refusal ≡ suc n → out.said ≡ refused (suc n)
-  said-no n e = ap (λ (o : TwoHeadsOutcome). o.said) (out-refused n e)
+  said_no : (n : ℕ) → refusal ≡ suc n → out.said ≡ refused (suc n)
+  said_no n e = ap (λ (o : TwoHeadsOutcome). o.said) (out_refused n e)
 
-  pub accepted-none : out.said ≡ returned [] → refusal ≡ 0
-  accepted-none t = go refusal refl
+  pub accepted_none : out.said ≡ returned [] → refusal ≡ 0
+  accepted_none t = go refusal refl
     where
       go : (k : ℕ) → refusal ≡ k → refusal ≡ 0
       go zero e = e
-      go (suc n) e = let s = said-no n e in let z : ◌≡◌ {A = ℕ} 0 1 = cc in absurd (omega arith)
+      go (suc n) e = let s = said_no n e in let z : ◌≡◌ {A = ℕ} 0 1 = cc in absurd (omega arith)
 
-  pub none-accepted : refusal ≡ 0 → out.said ≡ returned []
-  unfolding twoHeadsByQuarters twoHeadsOf
-  none-accepted e = rw (rows-length r pyramid, e, twoHeadsOf)
+  pub none_accepted : refusal ≡ 0 → out.said ≡ returned []
+  unfolding two_heads_by_quarters two_heads_of
+  none_accepted e = rw (rows_length r pyramid, e, two_heads_of)
 
   -- accepted, it leaves the run in front of what lay past the needed lengths
   abbrev pub expected : TwoHeadsOutcome
@@ -86,66 +86,66 @@ module _ (side knit : ℕ) (greys : List ℕ) (pyramid : List ℤ) (serials orde
     made = run.dots;
     debt = top_of run.pyramid;
     said = returned [];
-    pyramid = quartersFrom r run.pyramid ++ p;
+    pyramid = quarters_from r run.pyramid ++ p;
     serials = run.serials ++ s;
     order = run.order ++ o;
   }
 
-  module _ (bytes : Each (λ grey. grey ≤ 255) greys) (four≤ : 4 ≤ powerOf side) where
+  module _ (bytes : Each (λ grey. grey ≤ 255) greys) (four≤ : 4 ≤ power_of side) where
     sheet : Sheet r run
-    sheet = run-sheet (kernelOf knit) (knit-fit knit) r four≤ greys bytes
+    sheet = run_sheet (kernel_of knit) (knit_fit knit) r four≤ greys bytes
 
-    all : TwoHeads (kernelOf knit) r greys run
-    all = two-heads (kernelOf knit) (knit-fit knit) r four≤ greys bytes
+    all : TwoHeads (kernel_of knit) r greys run
+    all = two_heads_lem (kernel_of knit) (knit_fit knit) r four≤ greys bytes
 
-    by-quarters : asQuarters r (run.pyramid ++ drop (needed r) (asRows r pyramid))
-        ≡ quartersFrom r run.pyramid ++ p
-    by-quarters =
-        ap (λ (l : List ℤ). asQuarters r (run.pyramid ++ l)) (rows_drop r pyramid)
-        ∙ as-quarters-part r run.pyramid p sheet.sized.pyramid
+    by_quarters : as_quarters r (run.pyramid ++ drop (needed r) (as_rows r pyramid))
+        ≡ quarters_from r run.pyramid ++ p
+    by_quarters =
+        ap (λ (l : List ℤ). as_quarters r (run.pyramid ++ l)) (rows_drop r pyramid)
+        ∙ as_quarters_part r run.pyramid p sheet.sized.pyramid
 
-    pub out-is : refusal ≡ 0 → out ≡ expected
-    unfolding twoHeadsByQuarters twoHeadsOf
-    out-is e = rw (rows-length r pyramid, e, twoHeadsOf, by-quarters)
+    pub out_is : refusal ≡ 0 → out ≡ expected
+    unfolding two_heads_by_quarters two_heads_of
+    out_is e = rw (rows_length r pyramid, e, two_heads_of, by_quarters)
 
-    at-order : (i : ℕ) → i < run.dots → get_or (run.order ++ o) i 0 ≡ get_or run.order i 0
-    at-order i h = get_or-append run.order o 0 i (omega (arith, sheet.sized.order, sheet.sound.few-dots))
+    at_order : (i : ℕ) → i < run.dots → get_or (run.order ++ o) i 0 ≡ get_or run.order i 0
+    at_order i h = get_or-append run.order o 0 i (omega (arith, sheet.sized.order, sheet.sound.few_dots_lem))
 
-    at_top : top_of (quartersFrom r run.pyramid ++ p) ≡ top_of run.pyramid
+    at_top : top_of (quarters_from r run.pyramid ++ p) ≡ top_of run.pyramid
     unfolding top_of
     at_top =
-        get_or-append (quartersFrom r run.pyramid) p (pos 0) 0
+        get_or-append (quarters_from r run.pyramid) p (pos 0) 0
         (omega (
           arith,
-          length-quarters r run.pyramid,
-          start-suc r,
-          cell-lt (2 ^ r) 0 0 (pow_pos r) (pow_pos r),
+          length_quarters r run.pyramid,
+          start_suc r,
+          cell_lt (2 ^ r) 0 0 (pow_pos r) (pow_pos r),
         ))
-        ∙ quarters-top r run.pyramid
+        ∙ quarters_top r run.pyramid
 
-    expected-hold : knit ≤ 1
+    expected_hold : knit ≤ 1
         → HeadsHold side knit r greys pyramid serials order expected run
-    expected-hold known =
+    expected_hold known =
         record {
           power = four≤;
-          side-is = side-pow side (omega arith);
+          side_is = side_pow side (omega arith);
           known = known;
           progress = refl;
           made = refl;
           top = sym at_top;
           pyramid =
-              take_at (quartersFrom r run.pyramid) p (needed r)
-              (length-quarters r run.pyramid);
-          serials = take_at run.serials s (cellCount r) sheet.sized.serials;
-          order = take_at run.order o (cellCount r) sheet.sized.order;
-          pyramid-rest =
-              drop_at (quartersFrom r run.pyramid) p (needed r)
-              (length-quarters r run.pyramid);
-          serials-rest = drop_at run.serials s (cellCount r) sheet.sized.serials;
-          order-rest = drop_at run.order o (cellCount r) sheet.sized.order;
+              take_at (quarters_from r run.pyramid) p (needed r)
+              (length_quarters r run.pyramid);
+          serials = take_at run.serials s (cell_count r) sheet.sized.serials;
+          order = take_at run.order o (cell_count r) sheet.sized.order;
+          pyramid_rest =
+              drop_at (quarters_from r run.pyramid) p (needed r)
+              (length_quarters r run.pyramid);
+          serials_rest = drop_at run.serials s (cell_count r) sheet.sized.serials;
+          order_rest = drop_at run.order o (cell_count r) sheet.sized.order;
           debt = all.debt;
-          once = λ i j h k e. all.once i j h k (sym (at-order i (omega arith)) ∙ e ∙ at-order j k);
-          all-dots = all-dots-is r run sheet s;
+          once = λ i j h k e. all.once i j h k (sym (at_order i (omega arith)) ∙ e ∙ at_order j k);
+          all_dots_lem = all_dots_is r run sheet s;
           stopped = all.stopped;
           any_order = all.any_order;
           sound = all.sound;
@@ -153,12 +153,12 @@ module _ (side knit : ℕ) (greys : List ℕ) (pyramid : List ℤ) (serials orde
         }
 
   -- what the call promises (S 13.5, S 15.15)
-  pub heads-hold : HeadsAccepted side knit greys pyramid serials order
+  pub heads_hold : HeadsAccepted side knit greys pyramid serials order
       → HeadsHold side knit r greys pyramid serials order out run
-  heads-hold h =
-      let none = accepted-none h.said in
-      let low = lowMap r greys in
-      let is = (heads-none side knit (length greys) (length pyramid) (length serials) (length order) low).0 none in
-      let lent = (load-none r knit (length greys) (length pyramid) (length serials) (length order) low).0
+  heads_hold h =
+      let none = accepted_none h.said in
+      let low = low_map r greys in
+      let is = (heads_none side knit (length greys) (length pyramid) (length serials) (length order) low).0 none in
+      let lent = (load_none r knit (length greys) (length pyramid) (length serials) (length order) low).0
       is.1 in
-      rw (out-is h.bytes is.0 none) (expected-hold h.bytes is.0 lent.0.known)
+      rw (out_is h.bytes is.0 none) (expected_hold h.bytes is.0 lent.0.known)

@@ -1,60 +1,60 @@
 -- An instance, so that `HeadsHold` is seen to speak of something: side 16 on plain cloth, dark in the cells (1, 1) and
 -- (1, 9), which lie in two macroblocks of the first round. The buffers are one place longer than needed. Worked the
--- other way round, the two holes swap their serials (`serials-differ`): only the cells are the same in every order.
+-- other way round, the two holes swap their serials (`serials_differ`): only the cells are the same in every order.
 use Rattle.std.specs.Prelude.{◌≡◌, refl, ◌≢◌, true, List, [], ◌∷◌, ◌++◌, ℕ, zero, suc, ◌≤◌, length, get_or, replicate, ℤ, pos}
 use Rattle.std.proofs.Common.{ap, arith}
-use Rattle.definition.specs.Lists.{sum_to, tabulateFrom}
+use Rattle.definition.specs.Lists.{sum_to, tabulate_from}
 use Rattle.definition.specs.Pyramid.{
   start,
   place_in,
   row_at,
-  columnAt,
-  levelOf,
-  inLevel,
+  column_at,
+  level_of,
+  in_level,
   entry,
   four,
   coarser,
-  pyramidOver,
+  pyramid_over,
 }
-use Rattle.definition.specs.Blocks.{greyAt}
-use Rattle.definition.specs.Descent.{candidate, firstOfEquals, better, largest, descend}
+use Rattle.definition.specs.Blocks.{grey_at}
+use Rattle.definition.specs.Descent.{candidate, first_of_equals, better, largest, descend}
 use Rattle.definition.specs.Diffusion.{
   plain,
-  weightsOf,
-  placesInTurn,
-  kernelOf,
+  weights_of,
+  places_in_turn,
+  kernel_of,
   within,
-  onMap,
-  weightAt,
+  on_map,
+  weight_at,
   share,
   diffuse,
 }
-use Rattle.definition.specs.Model.{modelStart, missing, placeDot}
-use Rattle.definition.specs.Refusals.{powerUpTo, powerOf, lowest}
-use Rattle.definition.specs.Lowering.{noneHigh}
-use Rattle.definition.specs.Load.{lowMap}
+use Rattle.definition.specs.Model.{model_start, missing, place_dot}
+use Rattle.definition.specs.Refusals.{power_up_to, power_of, lowest}
+use Rattle.definition.specs.Lowering.{none_high}
+use Rattle.definition.specs.Load.{low_map}
 use Rattle.heads.specs.TwoHeads.{
   Macroblock,
-  blockSums,
-  macroblockSum,
+  block_sums,
+  macroblock_sum,
   wanted,
   clear,
   burns,
   work,
-  workAll,
+  work_all,
   macroblocks,
   rounds,
-  mostRounds,
-  twoHeadsIn,
-  twoHeads,
-  twoHeadsRefusal,
-  twoHeadsByQuarters,
+  most_rounds,
+  two_heads_in,
+  two_heads,
+  two_heads_refusal,
+  two_heads_by_quarters,
 }
 use Rattle.guarantee.specs.PriceList.{Each}
-use Rattle.guarantee.specs.Start.{each_of, low-map-at}
+use Rattle.guarantee.specs.Start.{each_of, low_map_at}
 use Rattle.head_order.specs.Promise.{Reordered, HeadsAccepted, HeadsHold}
-use Rattle.head_order.specs.Orders.{reordered-refl}
-use Rattle.head_order.specs.Call.{none-accepted, heads-hold}
+use Rattle.head_order.specs.Orders.{reordered_refl}
+use Rattle.head_order.specs.Call.{none_accepted, heads_hold}
 
 abbrev greys : List ℕ
 greys = replicate 17 0 ++ (240 ∷ (replicate 7 0 ++ (240 ∷ replicate 230 0)))
@@ -65,58 +65,58 @@ pyramid = replicate 342 (pos 9)
 abbrev sheet : List ℕ
 sheet = replicate 257 9
 
-low : lowMap 4 greys ≡ true
-unfolding lowMap noneHigh
+low : low_map 4 greys ≡ true
+unfolding low_map none_high
 low = refl
 
 bytes : Each (λ grey. grey ≤ 255) greys
-bytes = each_of (λ grey. grey ≤ 255) greys 0 (λ i h. omega (arith, low-map-at 4 greys low (omega arith) i h))
+bytes = each_of (λ grey. grey ≤ 255) greys 0 (λ i h. omega (arith, low_map_at 4 greys low (omega arith) i h))
 
-none : twoHeadsRefusal 16 plain (length greys) (length pyramid) (length sheet) (length sheet)
-    (lowMap (powerOf 16) greys) ≡ 0
-unfolding twoHeadsRefusal lowest powerOf powerUpTo lowMap noneHigh start
+none : two_heads_refusal 16 plain (length greys) (length pyramid) (length sheet) (length sheet)
+    (low_map (power_of 16) greys) ≡ 0
+unfolding two_heads_refusal lowest power_of power_up_to low_map none_high start
 none = refl
 
 accepted : HeadsAccepted 16 plain greys pyramid sheet sheet
-accepted = record { bytes = bytes; said = none-accepted 16 plain greys pyramid sheet sheet none }
+accepted = record { bytes = bytes; said = none_accepted 16 plain greys pyramid sheet sheet none }
 
-pub holds-here :
-    HeadsHold 16 plain (powerOf 16) greys pyramid sheet sheet
-    (twoHeadsByQuarters 16 plain greys pyramid sheet sheet) (twoHeads (kernelOf plain) (powerOf 16) greys)
-holds-here = heads-hold 16 plain greys pyramid sheet sheet accepted
+pub holds_here :
+    HeadsHold 16 plain (power_of 16) greys pyramid sheet sheet
+    (two_heads_by_quarters 16 plain greys pyramid sheet sheet) (two_heads (kernel_of plain) (power_of 16) greys)
+holds_here = heads_hold 16 plain greys pyramid sheet sheet accepted
 
 -- the first round with its first two macroblocks swapped
 unfoldable pub swapped : ℕ → List Macroblock
 swapped zero = (0, 2) ∷ (0, 0) ∷ (2, 0) ∷ (2, 2) ∷ []
 swapped (suc t) = macroblocks 4 (suc t)
 
-pub swapped-is : (t : ℕ) → Reordered (macroblocks 4 t) (swapped t)
-unfolding swapped macroblocks tabulateFrom
-swapped-is zero =
+pub swapped_is : (t : ℕ) → Reordered (macroblocks 4 t) (swapped t)
+unfolding swapped macroblocks tabulate_from
+swapped_is zero =
     record {
       before = (0, 2) ∷ [];
       after = (2, 0) ∷ (2, 2) ∷ [];
       is = refl;
-      rest = reordered-refl ((0, 2) ∷ (2, 0) ∷ (2, 2) ∷ []);
+      rest = reordered_refl ((0, 2) ∷ (2, 0) ∷ (2, 2) ∷ []);
     }
-swapped-is (suc t) = reordered-refl (macroblocks 4 (suc t))
+swapped_is (suc t) = reordered_refl (macroblocks 4 (suc t))
 
 -- cell (1, 1) has number 17
-serial-here : get_or (twoHeads (kernelOf plain) 4 greys).serials 17 0 ≡ 1
-unfolding sum_to tabulateFrom start place_in row_at columnAt levelOf inLevel entry four coarser pyramidOver greyAt
-    candidate firstOfEquals better largest descend weightsOf placesInTurn kernelOf within onMap weightAt share diffuse
-    modelStart missing placeDot blockSums macroblockSum wanted clear burns work workAll macroblocks rounds mostRounds
-    twoHeadsIn twoHeads
-serial-here = refl
+serial_here : get_or (two_heads (kernel_of plain) 4 greys).serials 17 0 ≡ 1
+unfolding sum_to tabulate_from start place_in row_at column_at level_of in_level entry four coarser pyramid_over grey_at
+    candidate first_of_equals better largest descend weights_of places_in_turn kernel_of within on_map weight_at share diffuse
+    model_start missing place_dot block_sums macroblock_sum wanted clear burns work work_all macroblocks rounds most_rounds
+    two_heads_in two_heads
+serial_here = refl
 
-serial-there : get_or (twoHeadsIn (kernelOf plain) 4 swapped greys).serials 17 0 ≡ 2
-unfolding sum_to tabulateFrom start place_in row_at columnAt levelOf inLevel entry four coarser pyramidOver greyAt
-    candidate firstOfEquals better largest descend weightsOf placesInTurn kernelOf within onMap weightAt share diffuse
-    modelStart missing placeDot blockSums macroblockSum wanted clear burns work workAll macroblocks rounds mostRounds
-    twoHeadsIn swapped
-serial-there = refl
+serial_there : get_or (two_heads_in (kernel_of plain) 4 swapped greys).serials 17 0 ≡ 2
+unfolding sum_to tabulate_from start place_in row_at column_at level_of in_level entry four coarser pyramid_over grey_at
+    candidate first_of_equals better largest descend weights_of places_in_turn kernel_of within on_map weight_at share diffuse
+    model_start missing place_dot block_sums macroblock_sum wanted clear burns work work_all macroblocks rounds most_rounds
+    two_heads_in swapped
+serial_there = refl
 
-pub serials-differ :
-    (twoHeadsIn (kernelOf plain) 4 swapped greys).serials ≢ (twoHeads (kernelOf plain) 4 greys).serials
-serials-differ e =
-    omega (arith, serial-here, serial-there, ap (λ (l : List ℕ). get_or l 17 0) e)
+pub serials_differ :
+    (two_heads_in (kernel_of plain) 4 swapped greys).serials ≢ (two_heads (kernel_of plain) 4 greys).serials
+serials_differ e =
+    omega (arith, serial_here, serial_there, ap (λ (l : List ℕ). get_or l 17 0) e)

@@ -3,24 +3,24 @@
 -- (`HeadsHold`).
 use Rattle.std.specs.Prelude.{◌≡◌, ◌≢◌, List, [], ◌∷◌, ◌++◌, ℕ, ◌+◌, ◌*◌, ◌-◌, ◌^◌, ◌≤◌, ◌<◌, length, get_or, take, drop, ℤ, pos, ◌+ℤ◌}
 use Rattle.definition.specs.Answers.{returned}
-use Rattle.definition.specs.Pyramid.{oneDot, needed, cellCount, entry}
-use Rattle.definition.specs.Blocks.{burntAt, greyTotal, allDots}
-use Rattle.definition.specs.Diffusion.{Kernel, kernelOf}
+use Rattle.definition.specs.Pyramid.{one_dot, needed, cell_count, entry}
+use Rattle.definition.specs.Blocks.{burnt_at, grey_total, all_dots}
+use Rattle.definition.specs.Diffusion.{Kernel, kernel_of}
 use Rattle.definition.specs.Model.{Halftone, top_of}
 use Rattle.definition.specs.Sound.{Sound}
-use Rattle.definition.specs.DrillList.{drillText}
-use Rattle.definition.specs.Quarters.{quartersFrom}
-use Rattle.definition.specs.ByQuarters.{drillListByQuarters}
+use Rattle.definition.specs.DrillList.{drill_text}
+use Rattle.definition.specs.Quarters.{quarters_from}
+use Rattle.definition.specs.ByQuarters.{drill_list_by_quarters}
 use Rattle.heads.specs.TwoHeads.{
   Macroblock,
   wanted,
   burns,
   work,
-  workAll,
+  work_all,
   macroblocks,
-  twoHeadsIn,
+  two_heads_in,
   TwoHeadsOutcome,
-  twoHeadsByQuarters,
+  two_heads_by_quarters,
 }
 use Rattle.quadtree.specs.Areas.{In}
 use Rattle.dots.specs.Steps.{Sheet}
@@ -53,11 +53,11 @@ pub record OwnCells (kernel : Kernel) (r : ℕ) (s : Halftone) (m : Macroblock) 
       → (burns r s.pyramid m ≡ burns r t.pyramid m) × (wanted r s.pyramid m ≡ wanted r t.pyramid m)
   pub leaves : (t : Halftone) → Sheet r t → Agree r m s t → Agree r m (work kernel r s m) (work kernel r t m)
   pub marks : (t : Halftone) → Sheet r t → Agree r m s t → (x y : ℕ) → Has m x y
-      → burntAt r s.serials x y ≡ burntAt r t.serials x y
-      → burntAt r (work kernel r s m).serials x y ≡ burntAt r (work kernel r t m).serials x y
+      → burnt_at r s.serials x y ≡ burnt_at r t.serials x y
+      → burnt_at r (work kernel r s m).serials x y ≡ burnt_at r (work kernel r t m).serials x y
   pub writes : (x y : ℕ) → x < 2 ^ r → y < 2 ^ r → (Has m x y → ⊥)
       → (entry (work kernel r s m).pyramid r x y ≡ entry s.pyramid r x y)
-      × (burntAt r (work kernel r s m).serials x y ≡ burntAt r s.serials x y)
+      × (burnt_at r (work kernel r s m).serials x y ≡ burnt_at r s.serials x y)
 
 -- ---- a run
 -- the same elements in another order: the first one stands somewhere, and what is left there are the others
@@ -74,7 +74,7 @@ Reordered {A = A} (x ∷ xs) ys = record {
 pub record SameBurnt (r : ℕ) (s t : Halftone) : Type 0 where
   pub pyramid : s.pyramid ≡ t.pyramid
   pub cells : (row column : ℕ) → row < 2 ^ r → column < 2 ^ r
-      → burntAt r s.serials row column ≡ burntAt r t.serials row column
+      → burnt_at r s.serials row column ≡ burnt_at r t.serials row column
 
 pub record TwoHeads (kernel : Kernel) (r : ℕ) (greys : List ℕ) (run : Halftone) : Type 0 where
   -- a sheet that Drill List takes
@@ -82,50 +82,50 @@ pub record TwoHeads (kernel : Kernel) (r : ℕ) (greys : List ℕ) (run : Halfto
   -- no cell is burnt twice: the places of the order list that are used are all different
   pub once : (i j : ℕ) → i < j → j < run.dots → get_or run.order i 0 ≢ get_or run.order j 0
   -- 65,280 for each hole, and the debt at the top, are 256 times the sum of the greys
-  pub debt : pos (oneDot * run.dots) +ℤ top_of run.pyramid ≡ pos (256 * greyTotal r greys)
+  pub debt : pos (one_dot * run.dots) +ℤ top_of run.pyramid ≡ pos (256 * grey_total r greys)
   -- it has stopped: no round, of whatever offset, makes a hole
-  pub stopped : (t : ℕ) → workAll kernel r run (macroblocks r t) ≡ run
+  pub stopped : (t : ℕ) → work_all kernel r run (macroblocks r t) ≡ run
   -- each round may be worked in an order of its own
   pub any_order : (order : ℕ → List Macroblock) → ((t : ℕ) → Reordered (macroblocks r t) (order t))
-      → SameBurnt r (twoHeadsIn kernel r order greys) run
+      → SameBurnt r (two_heads_in kernel r order greys) run
 
 -- ---- the call
 -- greys that are bytes, and a call that is not refused
 pub record HeadsAccepted (side knit : ℕ) (greys : List ℕ) (pyramid : List ℤ) (serials order : List ℕ) : Type 0 where
   pub bytes : Each (λ grey. grey ≤ 255) greys
-  pub said : (twoHeadsByQuarters side knit greys pyramid serials order).said ≡ returned []
+  pub said : (two_heads_by_quarters side knit greys pyramid serials order).said ≡ returned []
 
 -- Of the buffers as they were lent, of what comes back, and of the run that the definition makes of the greys: r is the
 -- power of the side.
-pub record HeadsHold (side knit r : ℕ) (greys : List ℕ) (lentPyramid : List ℤ) (lentSerials lentOrder : List ℕ)
+pub record HeadsHold (side knit r : ℕ) (greys : List ℕ) (lent_pyramid : List ℤ) (lent_serials lent_order : List ℕ)
     (out : TwoHeadsOutcome) (run : Halftone) : Type 0 where
   -- a side from 16 on, and one of the two knits
   pub power : 4 ≤ r
-  pub side-is : side ≡ 2 ^ r
+  pub side_is : side ≡ 2 ^ r
   pub known : knit ≤ 1
   -- the record, the holes and the debt (S 13.5)
   pub progress : out.progress ≡ record { side = side; dots = out.made; knit = knit }
   pub made : out.made ≡ run.dots
   pub top : out.debt ≡ top_of out.pyramid
   -- what is needed of each buffer is the run's, the pyramid's written by quarters (S 13.5)
-  pub pyramid : take (needed r) out.pyramid ≡ quartersFrom r run.pyramid
-  pub serials : take (cellCount r) out.serials ≡ run.serials
-  pub order : take (cellCount r) out.order ≡ run.order
+  pub pyramid : take (needed r) out.pyramid ≡ quarters_from r run.pyramid
+  pub serials : take (cell_count r) out.serials ≡ run.serials
+  pub order : take (cell_count r) out.order ≡ run.order
   -- and what lies past it is as it was lent (S 2.9)
-  pub pyramid-rest : drop (needed r) out.pyramid ≡ drop (needed r) lentPyramid
-  pub serials-rest : drop (cellCount r) out.serials ≡ drop (cellCount r) lentSerials
-  pub order-rest : drop (cellCount r) out.order ≡ drop (cellCount r) lentOrder
+  pub pyramid_rest : drop (needed r) out.pyramid ≡ drop (needed r) lent_pyramid
+  pub serials_rest : drop (cell_count r) out.serials ≡ drop (cell_count r) lent_serials
+  pub order_rest : drop (cell_count r) out.order ≡ drop (cell_count r) lent_order
   -- 65,280 for each hole, and the debt, are 256 times the sum of the greys (S 15.15)
-  pub debt : pos (oneDot * out.made) +ℤ out.debt ≡ pos (256 * greyTotal r greys)
+  pub debt : pos (one_dot * out.made) +ℤ out.debt ≡ pos (256 * grey_total r greys)
   -- no cell is burnt twice (S 15.15), and the burnt cells of the whole map are the holes
   pub once : (i j : ℕ) → i < j → j < out.made → get_or out.order i 0 ≢ get_or out.order j 0
-  pub all-dots : allDots r out.serials ≡ out.made
+  pub all_dots_lem : all_dots r out.serials ≡ out.made
   -- no round, of whatever offset, would make another hole (S 15.15)
-  pub stopped : (t : ℕ) → workAll (kernelOf knit) r run (macroblocks r t) ≡ run
+  pub stopped : (t : ℕ) → work_all (kernel_of knit) r run (macroblocks r t) ≡ run
   -- the same pyramid and the same burnt cells whatever the order within each round (S 15.15)
   pub any_order : (order : ℕ → List Macroblock) → ((t : ℕ) → Reordered (macroblocks r t) (order t))
-      → SameBurnt r (twoHeadsIn (kernelOf knit) r order greys) run
+      → SameBurnt r (two_heads_in (kernel_of knit) r order greys) run
   -- a sound sheet: Drill List prints it wherever there is room (S 15.15)
   pub sound : Sound r run
-  pub listed : (output : List ℕ) → length (drillText r run) ≤ length output
-      → drillListByQuarters out.progress out.pyramid out.serials out.order output ≡ listed_of r run output
+  pub listed : (output : List ℕ) → length (drill_text r run) ≤ length output
+      → drill_list_by_quarters out.progress out.pyramid out.serials out.order output ≡ listed_of r run output

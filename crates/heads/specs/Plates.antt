@@ -1,75 +1,75 @@
--- The plates of the laser with two heads, `headPlates`: a row for each sentence of its points, computed on the
+-- The plates of the laser with two heads, `head_plates`: a row for each sentence of its points, computed on the
 -- definitions; docs/TRUST.md says where the figures are from. The maps have side 16 and are 0 but for a few cells.
 use Rattle.std.specs.Prelude.{◌≡◌, refl, Bool, ◌&&◌, List, [], ◌∷◌, ◌++◌, map, ℕ, ◌+◌, ◌*◌, length, set, take, drop, replicate, ℤ, pos}
-use Rattle.definition.specs.Lists.{sum_to, allTo, tabulateFrom, joined, repeated, eqZ}
+use Rattle.definition.specs.Lists.{sum_to, all_to, tabulate_from, joined, repeated, eq_z}
 use Rattle.definition.specs.Pyramid.{
   start,
   place_in,
   row_at,
-  columnAt,
-  levelOf,
-  inLevel,
+  column_at,
+  level_of,
+  in_level,
   entry,
   four,
   coarser,
-  pyramidOver,
+  pyramid_over,
 }
-use Rattle.definition.specs.Blocks.{greyAt}
-use Rattle.definition.specs.Descent.{candidate, firstOfEquals, better, largest, descend}
+use Rattle.definition.specs.Blocks.{grey_at}
+use Rattle.definition.specs.Descent.{candidate, first_of_equals, better, largest, descend}
 use Rattle.definition.specs.Diffusion.{
   plain,
   ribbed,
-  weightsOf,
-  placesInTurn,
-  kernelOf,
+  weights_of,
+  places_in_turn,
+  kernel_of,
   within,
-  onMap,
-  weightAt,
+  on_map,
+  weight_at,
   share,
   diffuse,
 }
-use Rattle.definition.specs.Model.{top_of, modelStart, missing, placeDot}
-use Rattle.definition.specs.Refusals.{Row, powerUpTo, powerOf, lowest, greysRefusal}
-use Rattle.definition.specs.Lowering.{noneHigh}
-use Rattle.definition.specs.Load.{lowMap}
+use Rattle.definition.specs.Model.{top_of, model_start, missing, place_dot}
+use Rattle.definition.specs.Refusals.{Row, power_up_to, power_of, lowest, greys_refusal}
+use Rattle.definition.specs.Lowering.{none_high}
+use Rattle.definition.specs.Load.{low_map}
 use Rattle.definition.specs.Quarters.{
   interleaved,
   row_of,
-  columnOf,
-  quarterEntry,
-  quarterLevel,
+  column_of,
+  quarter_entry,
+  quarter_level,
   rows_from,
-  quartersFrom,
+  quarters_from,
   relaid,
-  asRows,
-  asQuarters,
+  as_rows,
+  as_quarters,
 }
-use Rattle.definition.specs.Text.{digitsUpTo, decimal, line, lineEnds, isDigit, digitsThen, field_of}
-use Rattle.definition.specs.MapText.{rowsText, mapText, values_of, readNumbers, readText, readLow}
-use Rattle.definition.specs.DrillList.{dotLines, drillText}
-use Rattle.definition.specs.Plate.{refusedText}
-use Rattle.definition.specs.PlateTools.{same, sameZ, saidAs, refuses, says, minus}
-use Rattle.definition.specs.Plates.{firstFailing}
+use Rattle.definition.specs.Text.{digits_up_to, decimal, line, line_ends, is_digit, digits_then, field_of}
+use Rattle.definition.specs.MapText.{rows_text, map_text, values_of, read_numbers, read_text, read_low}
+use Rattle.definition.specs.DrillList.{dot_lines, drill_text}
+use Rattle.definition.specs.Plate.{refused_text}
+use Rattle.definition.specs.PlateTools.{same, same_z, said_as, refuses, says, minus}
+use Rattle.definition.specs.Plates.{first_failing}
 use Rattle.heads.specs.TwoHeads.{
   Macroblock,
-  blockSums,
-  macroblockSum,
+  block_sums,
+  macroblock_sum,
   wanted,
   clear,
   burns,
   work,
-  workAll,
+  work_all,
   macroblocks,
   rounds,
-  mostRounds,
-  twoHeadsIn,
-  twoHeads,
+  most_rounds,
+  two_heads_in,
+  two_heads,
   TwoHeadsOutcome,
-  twoHeadsRefusal,
-  twoHeadsOf,
-  twoHeadsByQuarters,
-  twoHeadsList,
-  twoHeadsText,
+  two_heads_refusal,
+  two_heads_of,
+  two_heads_by_quarters,
+  two_heads_list,
+  two_heads_text,
 }
 
 -- a cell of a map of side 16, and its grey
@@ -82,15 +82,15 @@ abbrev pub at : ℕ → ℕ → ℕ → Grey
 at row column grey = record { row = row; column = column; grey = grey }
 
 -- the map with these greys, and 0 elsewhere
-unfoldable pub mapOf : List Grey → List ℕ
-mapOf [] = replicate 256 0
-mapOf (g ∷ gs) = set (mapOf gs) (16 * g.row + g.column) g.grey
+unfoldable pub map_of : List Grey → List ℕ
+map_of [] = replicate 256 0
+map_of (g ∷ gs) = set (map_of gs) (16 * g.row + g.column) g.grey
 
 -- the run of such a map burns these cells in this order, and leaves this debt
 unfoldable pub runs : ℕ → List Grey → List ℕ → ℤ → Bool
 runs knit greys order debt =
-    let run = twoHeads (kernelOf knit) 4 (mapOf greys) in
-    same (take run.dots run.order) order && eqZ (top_of run.pyramid) debt
+    let run = two_heads (kernel_of knit) 4 (map_of greys) in
+    same (take run.dots run.order) order && eq_z (top_of run.pyramid) debt
 
 -- and these cells, by rows and columns, are then below 0 by so much; all others are at 0
 unfoldable pub below : List Grey → List ℤ
@@ -98,55 +98,55 @@ below [] = replicate 256 (pos 0)
 below (g ∷ gs) = set (below gs) (16 * g.row + g.column) (minus g.grey)
 
 unfoldable pub leaves : ℕ → List Grey → List Grey → Bool
-leaves knit greys debts = sameZ (drop (start 4) (twoHeads (kernelOf knit) 4 (mapOf greys)).pyramid) (below debts)
+leaves knit greys debts = same_z (drop (start 4) (two_heads (kernel_of knit) 4 (map_of greys)).pyramid) (below debts)
 
 -- the macroblocks of a round as a list of rows and columns, in cells
-unfoldable pub cornersOf : List Macroblock → List ℕ
-cornersOf [] = []
-cornersOf (m ∷ ms) = 4 * m.0 ∷ 4 * m.1 ∷ cornersOf ms
+unfoldable pub corners_of : List Macroblock → List ℕ
+corners_of [] = []
+corners_of (m ∷ ms) = 4 * m.0 ∷ 4 * m.1 ∷ corners_of ms
 
 unfoldable pub corners : ℕ → List ℕ
-corners t = cornersOf (macroblocks 4 t)
+corners t = corners_of (macroblocks 4 t)
 
 -- the call with zeros for greys, of which one may be another number, and with buffers of these lengths, with 9s
 unfoldable pub call_of : ℕ → ℕ → List ℕ → ℕ → ℕ → ℕ → TwoHeadsOutcome
 call_of side knit greys p s o =
-    twoHeadsByQuarters side knit greys (replicate p (pos 9)) (replicate s 9) (replicate o 9)
+    two_heads_by_quarters side knit greys (replicate p (pos 9)) (replicate s 9) (replicate o 9)
 
 -- it is refused, with zeros for an answer and nothing changed
-unfoldable pub callRefuses : ℕ → ℕ → List ℕ → ℕ → ℕ → ℕ → ℕ → Bool
-callRefuses side knit greys p s o n =
+unfoldable pub call_refuses : ℕ → ℕ → List ℕ → ℕ → ℕ → ℕ → ℕ → Bool
+call_refuses side knit greys p s o n =
     let out = call_of side knit greys p s o in
     refuses out.said n
     && same (out.progress.side ∷ out.progress.dots ∷ out.progress.knit ∷ out.made ∷ []) (replicate 4 0)
-    && eqZ out.debt (pos 0) && sameZ out.pyramid (replicate p (pos 9)) && same out.serials (replicate s 9)
+    && eq_z out.debt (pos 0) && same_z out.pyramid (replicate p (pos 9)) && same out.serials (replicate s 9)
     && same out.order (replicate o 9)
 
 -- it is not: the answer, and what the run leaves, with a 9 behind it in each buffer
-unfoldable pub callRuns : ℕ → List Grey → ℕ → ℤ → Bool
-callRuns knit greys made debt =
-    let run = twoHeads (kernelOf knit) 4 (mapOf greys) in
-    let out = call_of 16 knit (mapOf greys ++ 241 ∷ []) 342 257 257 in
+unfoldable pub call_runs : ℕ → List Grey → ℕ → ℤ → Bool
+call_runs knit greys made debt =
+    let run = two_heads (kernel_of knit) 4 (map_of greys) in
+    let out = call_of 16 knit (map_of greys ++ 241 ∷ []) 342 257 257 in
     says out.said []
     && same (out.progress.side ∷ out.progress.dots ∷ out.progress.knit ∷ out.made ∷ [])
     (16 ∷ made ∷ knit ∷ made ∷ [])
-    && eqZ out.debt debt && sameZ (asRows 4 out.pyramid) (run.pyramid ++ pos 9 ∷ [])
+    && eq_z out.debt debt && same_z (as_rows 4 out.pyramid) (run.pyramid ++ pos 9 ∷ [])
     && same out.serials (run.serials ++ 9 ∷ []) && same out.order (run.order ++ 9 ∷ [])
 
 -- the map text of such a map, and "refused,n", with the digits of n
 unfoldable pub text_of : List Grey → List ℕ
-text_of greys = mapText 16 (mapOf greys)
+text_of greys = map_text 16 (map_of greys)
 
-unfoldable pub textRefuses : List ℕ → List ℕ → Bool
-textRefuses input digits =
-    same (twoHeadsText input) ((114 ∷ 101 ∷ 102 ∷ 117 ∷ 115 ∷ 101 ∷ 100 ∷ 44 ∷ digits) ++ 10 ∷ [])
+unfoldable pub text_refuses : List ℕ → List ℕ → Bool
+text_refuses input digits =
+    same (two_heads_text input) ((114 ∷ 101 ∷ 102 ∷ 117 ∷ 115 ∷ 101 ∷ 100 ∷ 44 ∷ digits) ++ 10 ∷ [])
 
 -- "1,16", "1,0,3"
-unfoldable pub listOne : List ℕ
-listOne = 49 ∷ 44 ∷ 49 ∷ 54 ∷ 10 ∷ 49 ∷ 44 ∷ 48 ∷ 44 ∷ 51 ∷ 10 ∷ []
+unfoldable pub list_one : List ℕ
+list_one = 49 ∷ 44 ∷ 49 ∷ 54 ∷ 10 ∷ 49 ∷ 44 ∷ 48 ∷ 44 ∷ 51 ∷ 10 ∷ []
 
-unfoldable pub headPlates : List Row
-headPlates =
+unfoldable pub head_plates : List Row
+head_plates =
     -- the macroblocks of the four rounds, by row then column, none partly off the map; then again; side 32, counted
     -- (S 13.1)
     (140, same (corners 0) (0 ∷ 0 ∷ 0 ∷ 8 ∷ 8 ∷ 0 ∷ 8 ∷ 8 ∷ []) && same (corners 1) (0 ∷ 4 ∷ 8 ∷ 4 ∷ []))
@@ -196,38 +196,38 @@ headPlates =
           ∷ at 5 2 7872 ∷ at 6 1 7872 ∷ at 6 3 7872 ∷ at 7 2 7872 ∷ []),
     )
     -- the call, and a grey past the map that is not looked at; a debt above 0, and one below (S 13.5)
-    ∷ (147, callRuns plain (at 2 7 239 ∷ at 7 2 240 ∷ []) 2 (minus 7936))
-    ∷ (147, callRuns ribbed (at 3 3 127 ∷ []) 0 (pos 32512))
+    ∷ (147, call_runs plain (at 2 7 239 ∷ at 7 2 240 ∷ []) 2 (minus 7936))
+    ∷ (147, call_runs ribbed (at 3 3 127 ∷ []) 0 (pos 32512))
     -- its refusals in turn, each with all behind it bad too; 16 is not too small (S 5.2, S 13.5)
-    ∷ (148, callRefuses 3 2 [] 0 0 0 1 && callRefuses 8 2 [] 0 0 0 14 && callRefuses 2 2 [] 0 0 0 14)
-    ∷ (148, callRefuses 16 2 (241 ∷ replicate 254 0) 340 255 255 11)
-    ∷ (148, callRefuses 16 1 (241 ∷ replicate 254 0) 340 255 255 2)
-    ∷ (148, callRefuses 16 1 (241 ∷ replicate 255 0) 340 255 255 3)
-    ∷ (148, callRefuses 16 1 (241 ∷ replicate 255 0) 341 255 255 4)
-    ∷ (148, callRefuses 16 1 (241 ∷ replicate 255 0) 341 256 255 4)
-    ∷ (148, callRefuses 16 1 (replicate 255 0 ++ 241 ∷ []) 341 256 256 12)
+    ∷ (148, call_refuses 3 2 [] 0 0 0 1 && call_refuses 8 2 [] 0 0 0 14 && call_refuses 2 2 [] 0 0 0 14)
+    ∷ (148, call_refuses 16 2 (241 ∷ replicate 254 0) 340 255 255 11)
+    ∷ (148, call_refuses 16 1 (241 ∷ replicate 254 0) 340 255 255 2)
+    ∷ (148, call_refuses 16 1 (241 ∷ replicate 255 0) 340 255 255 3)
+    ∷ (148, call_refuses 16 1 (241 ∷ replicate 255 0) 341 255 255 4)
+    ∷ (148, call_refuses 16 1 (241 ∷ replicate 255 0) 341 256 255 4)
+    ∷ (148, call_refuses 16 1 (replicate 255 0 ++ 241 ∷ []) 341 256 256 12)
     -- the program: a list; an input that is too long, one that is no map text, sides 3, 64 and 8, and a high grey
     -- (S 14.6)
-    ∷ (149, same (twoHeadsText (text_of (at 0 3 240 ∷ []))) listOne)
-    ∷ (149, textRefuses (replicate 4100 48) (57 ∷ []) && textRefuses (replicate 4099 48) (55 ∷ []))
-    ∷ (149, textRefuses (51 ∷ 10 ∷ []) (49 ∷ []) && textRefuses (54 ∷ 52 ∷ 10 ∷ []) (50 ∷ []))
-    ∷ (149, textRefuses (mapText 8 (replicate 64 0)) (49 ∷ 52 ∷ []))
-    ∷ (149, textRefuses (text_of (at 15 15 241 ∷ [])) (49 ∷ 50 ∷ []))
+    ∷ (149, same (two_heads_text (text_of (at 0 3 240 ∷ []))) list_one)
+    ∷ (149, text_refuses (replicate 4100 48) (57 ∷ []) && text_refuses (replicate 4099 48) (55 ∷ []))
+    ∷ (149, text_refuses (51 ∷ 10 ∷ []) (49 ∷ []) && text_refuses (54 ∷ 52 ∷ 10 ∷ []) (50 ∷ []))
+    ∷ (149, text_refuses (map_text 8 (replicate 64 0)) (49 ∷ 52 ∷ []))
+    ∷ (149, text_refuses (text_of (at 15 15 241 ∷ [])) (49 ∷ 50 ∷ []))
     ∷ []
 
 -- no row is lost
-pub head-plates-there : length headPlates ≡ 37
-unfolding headPlates
-head-plates-there = refl
+pub head_plates_there : length head_plates ≡ 37
+unfolding head_plates
+head_plates_there = refl
 
-pub head-plates-hold : firstFailing headPlates ≡ 0
-unfolding sum_to allTo tabulateFrom joined repeated eqZ start place_in row_at columnAt levelOf inLevel entry four coarser
-    pyramidOver greyAt candidate firstOfEquals better largest descend weightsOf placesInTurn kernelOf within onMap
-    weightAt share diffuse top_of modelStart missing placeDot powerUpTo powerOf lowest greysRefusal noneHigh lowMap
-    interleaved row_of columnOf quarterEntry quarterLevel rows_from quartersFrom relaid asRows asQuarters digitsUpTo
-    decimal line lineEnds isDigit digitsThen field_of rowsText mapText values_of readNumbers readText readLow dotLines
-    drillText refusedText same sameZ saidAs refuses says firstFailing blockSums macroblockSum wanted clear burns work
-    workAll macroblocks rounds mostRounds twoHeadsIn twoHeads twoHeadsRefusal twoHeadsOf twoHeadsByQuarters
-    twoHeadsList twoHeadsText mapOf runs below leaves cornersOf corners call_of callRefuses callRuns text_of textRefuses
-    listOne headPlates
-head-plates-hold = refl
+pub head_plates_hold : first_failing head_plates ≡ 0
+unfolding sum_to all_to tabulate_from joined repeated eq_z start place_in row_at column_at level_of in_level entry four coarser
+    pyramid_over grey_at candidate first_of_equals better largest descend weights_of places_in_turn kernel_of within on_map
+    weight_at share diffuse top_of model_start missing place_dot power_up_to power_of lowest greys_refusal none_high low_map
+    interleaved row_of column_of quarter_entry quarter_level rows_from quarters_from relaid as_rows as_quarters digits_up_to
+    decimal line line_ends is_digit digits_then field_of rows_text map_text values_of read_numbers read_text read_low dot_lines
+    drill_text refused_text same same_z said_as refuses says first_failing block_sums macroblock_sum wanted clear burns work
+    work_all macroblocks rounds most_rounds two_heads_in two_heads two_heads_refusal two_heads_of two_heads_by_quarters
+    two_heads_list two_heads_text map_of runs below leaves corners_of corners call_of call_refuses call_runs text_of text_refuses
+    list_one head_plates
+head_plates_hold = refl

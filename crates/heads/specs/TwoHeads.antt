@@ -1,30 +1,30 @@
 -- The laser with two heads: one macroblock worked (`work`), the macroblocks of a round (`macroblocks`), the rounds to
--- their end (`rounds`, `twoHeads`), the call (`twoHeadsByQuarters`) and the program (`twoHeadsText`). Equal entries do
+-- their end (`rounds`, `two_heads`), the call (`two_heads_by_quarters`) and the program (`two_heads_text`). Equal entries do
 -- not take turns here: it is always the first.
 use Rattle.std.specs.Prelude.{Bool, true, false, cond, not, ◌&&◌, ◌||◌, List, [], ◌∷◌, ◌++◌, ℕ, zero, suc, ◌+◌, ◌*◌, ◌-◌, ◌/◌, ◌%◌, ◌^◌, leb, ltb, eqb, length, drop, ℤ, pos}
 use Rattle.std.specs.Int.Signed.{le_z}
 use Rattle.definition.specs.Lists.{tabulate}
 use Rattle.definition.specs.Answers.{Said, returned, refused}
-use Rattle.definition.specs.Pyramid.{halfDot, needed, cellCount, entry, four}
-use Rattle.definition.specs.Descent.{firstOfEquals, largest, descend}
-use Rattle.definition.specs.Diffusion.{Kernel, plain, kernelOf}
-use Rattle.definition.specs.Model.{Halftone, top_of, modelStart, placeDot}
-use Rattle.definition.specs.Quarters.{asRows, asQuarters}
+use Rattle.definition.specs.Pyramid.{half_dot, needed, cell_count, entry, four}
+use Rattle.definition.specs.Descent.{first_of_equals, largest, descend}
+use Rattle.definition.specs.Diffusion.{Kernel, plain, kernel_of}
+use Rattle.definition.specs.Model.{Halftone, top_of, model_start, place_dot}
+use Rattle.definition.specs.Quarters.{as_rows, as_quarters}
 use Rattle.definition.specs.Refusals.{
-  powerOf,
-  sideUnknown,
-  sideSmall,
-  knitUnknown,
-  greysShort,
-  pyramidShort,
-  sheetShort,
-  greyHigh,
+  power_of,
+  side_unknown,
+  side_small,
+  knit_unknown,
+  greys_short,
+  pyramid_short,
+  sheet_short,
+  grey_high,
   lowest,
 }
-use Rattle.definition.specs.Load.{lowMap}
-use Rattle.definition.specs.MapText.{accepted, rejected, readLow}
-use Rattle.definition.specs.DrillList.{drillText}
-use Rattle.definition.specs.Plate.{refusedText}
+use Rattle.definition.specs.Load.{low_map}
+use Rattle.definition.specs.MapText.{accepted, rejected, read_low}
+use Rattle.definition.specs.DrillList.{drill_text}
+use Rattle.definition.specs.Plate.{refused_text}
 use Rattle.definition.specs.declared.Progress.{Progress}
 
 -- ---- one macroblock
@@ -34,18 +34,18 @@ abbrev pub Macroblock : Type 0
 Macroblock = ℕ × ℕ
 
 -- the sums of its four blocks, by row and column, each 0 or 1 (S 13.2)
-unfoldable pub blockSums : ℕ → List ℤ → Macroblock → ℕ → ℕ → ℤ
-blockSums r pyramid m i j = entry pyramid (r - 2) (m.0 + i) (m.1 + j)
+unfoldable pub block_sums : ℕ → List ℤ → Macroblock → ℕ → ℕ → ℤ
+block_sums r pyramid m i j = entry pyramid (r - 2) (m.0 + i) (m.1 + j)
 
 -- its own sum (S 13.2)
-unfoldable pub macroblockSum : ℕ → List ℤ → Macroblock → ℤ
-macroblockSum r pyramid m = four (blockSums r pyramid m) 0 0
+unfoldable pub macroblock_sum : ℕ → List ℤ → Macroblock → ℤ
+macroblock_sum r pyramid m = four (block_sums r pyramid m) 0 0
 
 -- the cell that it comes to: down from the block with the largest sum, of equals always the first (S 13.2)
 unfoldable pub wanted : ℕ → List ℤ → Macroblock → ℕ × ℕ
 wanted r pyramid m =
-    let best = largest firstOfEquals (blockSums r pyramid m) 0 0 in
-    descend firstOfEquals pyramid 2 (r - 2) (m.0 + best.row) (m.1 + best.column)
+    let best = largest first_of_equals (block_sums r pyramid m) 0 0 in
+    descend first_of_equals pyramid 2 (r - 2) (m.0 + best.row) (m.1 + best.column)
 
 -- Of rows, and so of columns: x is none of the two rim rows of a macroblock, whose first is row 4a and whose last is
 -- row 4a + 7, unless that side of the rim is the map's edge (S 13.3).
@@ -56,26 +56,26 @@ clear r a x = (not (eqb x (4 * a)) || eqb a 0) && (not (eqb x (4 * a + 7)) || eq
 unfoldable pub burns : ℕ → List ℤ → Macroblock → Bool
 burns r pyramid m =
     let cell = wanted r pyramid m in
-    le_z (pos halfDot) (macroblockSum r pyramid m) && clear r m.0 cell.0 && clear r m.1 cell.1
+    le_z (pos half_dot) (macroblock_sum r pyramid m) && clear r m.0 cell.0 && clear r m.1 cell.1
 
 -- A macroblock worked: the cell is burnt and what it lacked spread as the engine does it, or nothing is done (S 13.3).
 unfoldable pub work : Kernel → ℕ → Halftone → Macroblock → Halftone
 work kernel r s m =
-    elim (burns r s.pyramid m) [ true ↦ placeDot kernel r s (wanted r s.pyramid m) | false ↦ s ]
+    elim (burns r s.pyramid m) [ true ↦ place_dot kernel r s (wanted r s.pyramid m) | false ↦ s ]
 
 -- macroblocks worked one after the other; so their serials go by this order (S 13.4)
-unfoldable pub workAll : Kernel → ℕ → Halftone → List Macroblock → Halftone
-workAll kernel r s [] = s
-workAll kernel r s (m ∷ ms) = workAll kernel r (work kernel r s m) ms
+unfoldable pub work_all : Kernel → ℕ → Halftone → List Macroblock → Halftone
+work_all kernel r s [] = s
+work_all kernel r s (m ∷ ms) = work_all kernel r (work kernel r s m) ms
 
 -- ---- rounds
 -- where the macroblocks of round t, which counts from 0, begin, counted in blocks from the map's corner: in it, one to
 -- the right, one down, then both, and so on in turn (S 13.1)
-abbrev pub rowOffset : ℕ → ℕ
-rowOffset t = t % 4 / 2
+abbrev pub row_offset : ℕ → ℕ
+row_offset t = t % 4 / 2
 
-abbrev pub columnOffset : ℕ → ℕ
-columnOffset t = t % 2
+abbrev pub column_offset : ℕ → ℕ
+column_offset t = t % 2
 
 -- how many macroblocks lie wholly on the map, one beside the other, from an offset on (S 13.1)
 abbrev pub across : ℕ → ℕ → ℕ
@@ -84,8 +84,8 @@ across r offset = (2 ^ (r - 2) - offset) / 2
 -- the macroblocks of round t, by row then column (S 13.1)
 unfoldable pub macroblocks : ℕ → ℕ → List Macroblock
 macroblocks r t =
-    let n = across r (columnOffset t) in
-    tabulate (across r (rowOffset t) * n) (λ i. (rowOffset t + 2 * (i / n), columnOffset t + 2 * (i % n)))
+    let n = across r (column_offset t) in
+    tabulate (across r (row_offset t) * n) (λ i. (row_offset t + 2 * (i / n), column_offset t + 2 * (i % n)))
 
 -- Rounds, until four in a row have made no hole, but at most `fuel`: t have been made, the last `idle` of them without
 -- a hole. Round t works the macroblocks that `order` names, in that order (S 13.4).
@@ -95,21 +95,21 @@ rounds kernel r order (suc fuel) t idle s =
     elim (leb 4 idle) [
       | true ↦ s
       | false ↦
-          let after = workAll kernel r s (order t) in
+          let after = work_all kernel r s (order t) in
           rounds kernel r order fuel (suc t) (cond (eqb after.dots s.dots) (suc idle) 0) after
     ]
 
 -- Each hole costs at most four rounds, and four more end the run: more than these are never made.
-unfoldable pub mostRounds : ℕ → ℕ
-mostRounds r = 4 * cellCount r + 4
+unfoldable pub most_rounds : ℕ → ℕ
+most_rounds r = 4 * cell_count r + 4
 
 -- a map run to the end, each round in an order of its own (S 13.4, S 15.15)
-unfoldable pub twoHeadsIn : Kernel → ℕ → (ℕ → List Macroblock) → List ℕ → Halftone
-twoHeadsIn kernel r order greys = rounds kernel r order (mostRounds r) 0 0 (modelStart r greys)
+unfoldable pub two_heads_in : Kernel → ℕ → (ℕ → List Macroblock) → List ℕ → Halftone
+two_heads_in kernel r order greys = rounds kernel r order (most_rounds r) 0 0 (model_start r greys)
 
 -- and by row then column (S 13.5)
-unfoldable pub twoHeads : Kernel → ℕ → List ℕ → Halftone
-twoHeads kernel r greys = twoHeadsIn kernel r (macroblocks r) greys
+unfoldable pub two_heads : Kernel → ℕ → List ℕ → Halftone
+two_heads kernel r greys = two_heads_in kernel r (macroblocks r) greys
 
 -- ---- the call
 -- what is answered and said, and the three buffers afterwards
@@ -123,21 +123,21 @@ pub record TwoHeadsOutcome : Type 0 where
   pub order : List ℕ
 
 -- its checks, 1, 14, 11, 2, 3, 4, 4, 12: those of Load, with 14 behind 1 (S 5.2)
-unfoldable pub twoHeadsRefusal : ℕ → ℕ → ℕ → ℕ → ℕ → ℕ → Bool → ℕ
-twoHeadsRefusal side knit greys pyramid serials order low =
-    let r = powerOf side in
+unfoldable pub two_heads_refusal : ℕ → ℕ → ℕ → ℕ → ℕ → ℕ → Bool → ℕ
+two_heads_refusal side knit greys pyramid serials order low =
+    let r = power_of side in
     lowest
-    (sideUnknown r ∷ sideSmall side ∷ knitUnknown knit ∷ greysShort r greys ∷ pyramidShort r pyramid
-    ∷ sheetShort r serials ∷ sheetShort r order ∷ greyHigh low ∷ [])
+    (side_unknown r ∷ side_small side ∷ knit_unknown knit ∷ greys_short r greys ∷ pyramid_short r pyramid
+    ∷ sheet_short r serials ∷ sheet_short r order ∷ grey_high low ∷ [])
 
 -- The buffers as the run leaves them over their needed lengths, the record (side, holes, knit), the holes, and the top
 -- as the debt. A refusal leaves every buffer unchanged and gives zeros beside its number (S 13.5).
-unfoldable pub twoHeadsOf : ℕ → ℕ → List ℕ → List ℤ → List ℕ → List ℕ → TwoHeadsOutcome
-twoHeadsOf side knit greys pyramid serials order =
-    let r = powerOf side in
-    let low = lowMap r greys in
-    let run = twoHeads (kernelOf knit) r greys in
-    elim (twoHeadsRefusal side knit (length greys) (length pyramid) (length serials) (length order) low) [
+unfoldable pub two_heads_of : ℕ → ℕ → List ℕ → List ℤ → List ℕ → List ℕ → TwoHeadsOutcome
+two_heads_of side knit greys pyramid serials order =
+    let r = power_of side in
+    let low = low_map r greys in
+    let run = two_heads (kernel_of knit) r greys in
+    elim (two_heads_refusal side knit (length greys) (length pyramid) (length serials) (length order) low) [
       | zero ↦
           record {
             progress = record { side = side; dots = run.dots; knit = knit };
@@ -145,8 +145,8 @@ twoHeadsOf side knit greys pyramid serials order =
             debt = top_of run.pyramid;
             said = returned [];
             pyramid = run.pyramid ++ drop (needed r) pyramid;
-            serials = run.serials ++ drop (cellCount r) serials;
-            order = run.order ++ drop (cellCount r) order;
+            serials = run.serials ++ drop (cell_count r) serials;
+            order = run.order ++ drop (cell_count r) order;
           }
       | suc n ↦
           record {
@@ -161,35 +161,35 @@ twoHeadsOf side knit greys pyramid serials order =
     ]
 
 -- the same on a pyramid by quarters, as the engine's calls are (`ByQuarters`) (S 13.5)
-unfoldable pub twoHeadsByQuarters : ℕ → ℕ → List ℕ → List ℤ → List ℕ → List ℕ → TwoHeadsOutcome
-twoHeadsByQuarters side knit greys pyramid serials order =
-    let r = powerOf side in
-    let out = twoHeadsOf side knit greys (asRows r pyramid) serials order in
+unfoldable pub two_heads_by_quarters : ℕ → ℕ → List ℕ → List ℤ → List ℕ → List ℕ → TwoHeadsOutcome
+two_heads_by_quarters side knit greys pyramid serials order =
+    let r = power_of side in
+    let out = two_heads_of side knit greys (as_rows r pyramid) serials order in
     record {
       progress = out.progress;
       made = out.made;
       debt = out.debt;
       said = out.said;
-      pyramid = asQuarters r out.pyramid;
+      pyramid = as_quarters r out.pyramid;
       serials = out.serials;
       order = out.order;
     }
 
 -- ---- the program
 -- what `two_heads` prints for a map on plain cloth: its drill list, or the refusal of a side that is too small (S 14.6)
-unfoldable pub twoHeadsList : ℕ → List ℕ → List ℕ
-twoHeadsList side greys =
-    let r = powerOf side in
-    elim (ltb side 16) [ true ↦ refusedText 14 | false ↦ drillText r (twoHeads (kernelOf plain) r greys) ]
+unfoldable pub two_heads_list : ℕ → List ℕ → List ℕ
+two_heads_list side greys =
+    let r = power_of side in
+    elim (ltb side 16) [ true ↦ refused_text 14 | false ↦ drill_text r (two_heads (kernel_of plain) r greys) ]
 
 -- and for an input: with `plate`'s limits, that of the map read, or the refusal (S 14.6)
-unfoldable pub twoHeadsText : List ℕ → List ℕ
-twoHeadsText input =
+unfoldable pub two_heads_text : List ℕ → List ℕ
+two_heads_text input =
     elim (ltb 4099 (length input)) [
-      | true ↦ refusedText 9
+      | true ↦ refused_text 9
       | false ↦
-          elim (readLow input 1024) [
-            | accepted side greys ↦ twoHeadsList side greys
-            | rejected n ↦ refusedText n
+          elim (read_low input 1024) [
+            | accepted side greys ↦ two_heads_list side greys
+            | rejected n ↦ refused_text n
           ]
     ]

@@ -1,75 +1,75 @@
--- The call's ways out: refused before Load (`refused-early`) or by Load (`refused-late`), with nothing changed, and run
--- to the end (`ran-all`).
+-- The call's ways out: refused before Load (`refused_early`) or by Load (`refused_late`), with nothing changed, and run
+-- to the end (`ran_all`).
 use Rattle.std.specs.Prelude.{◌≡◌, Bool, List, [], ◌∷◌, ◌++◌, ℕ, zero, suc, ◌-◌, ◌≤◌, ◌<◌, ltb, eqb, length, get_or, take, drop, ℤ, pos}
 use Rattle.std.proofs.Math.Path.{refl, ap}
 use Rattle.std.proofs.Common.{sym, ◌∙◌, inr, arith, length-append, take_at, drop_at}
 use borrow.Author.Tests.{lt-ltb, le-ltb, ltb-false, eqb-false, eq-eqb, ne_eqb}
-use Rattle.definition.specs.Answers.{returned, loadSays, twoHeadsSays, number_of}
+use Rattle.definition.specs.Answers.{returned, load_says, two_heads_says, number_of}
 use Rattle.definition.specs.Answers as Answers
-use Rattle.definition.specs.Pyramid.{needed, cellCount}
-use Rattle.definition.specs.Quarters.{rows_from, quartersFrom}
-use Rattle.definition.specs.Model.{Halftone, modelStart}
-use Rattle.definition.specs.Refusals.{powerOf, sideUnknown, sideSmall, knitUnknown, lowest}
-use Rattle.definition.specs.Load.{LoadOutcome, lowMap, loadRefusal, loaded, load_of}
-use Rattle.definition.specs.ByQuarters.{loadByQuarters}
-use Rattle.definition.specs.AdvanceList.{Held, heldAfterLoad}
+use Rattle.definition.specs.Pyramid.{needed, cell_count}
+use Rattle.definition.specs.Quarters.{rows_from, quarters_from}
+use Rattle.definition.specs.Model.{Halftone, model_start}
+use Rattle.definition.specs.Refusals.{power_of, side_unknown, side_small, knit_unknown, lowest}
+use Rattle.definition.specs.Load.{LoadOutcome, low_map, load_refusal, loaded, load_of}
+use Rattle.definition.specs.ByQuarters.{load_by_quarters}
+use Rattle.definition.specs.AdvanceList.{Held, held_after_load}
 use Rattle.definition.specs.declared.Refusal.{Refusal}
 use Rattle.definition.specs.declared.Refusal.TheVariants.{SideUnknown, SideSmall, KnitUnknown}
 use Rattle.definition.specs.declared.LoadAnswer.{LoadAnswer}
 use Rattle.definition.specs.declared.LoadStatus.TheVariants as Load
 use Rattle.definition.specs.declared.TwoHeadsAnswer.{TwoHeadsAnswer}
 use Rattle.definition.specs.declared.TwoHeadsStatus.TheVariants.{Refused}
-use Rattle.refusals.specs.Numbers.{number-positive}
+use Rattle.refusals.specs.Numbers.{number_positive}
 use Rattle.refusals.specs.Powers.{power_small}
-use Rattle.refusals.specs.Lowest.{lowest-none, lowest-before}
-use Rattle.layouts.specs.Relaid.{length-quarters, rows_back}
-use Rattle.layouts.specs.Lent.{rows-length, rows_taken, quarters-rows}
+use Rattle.refusals.specs.Lowest.{lowest_none, lowest_before}
+use Rattle.layouts.specs.Relaid.{length_quarters, rows_back}
+use Rattle.layouts.specs.Lent.{rows_length, rows_taken, quarters_rows}
 use Rattle.dots.specs.Steps.{Sheet}
 use Rattle.guarantee.specs.PriceList.{Each}
 use Rattle.guarantee.specs.Lent.{held_of}
-use Rattle.guarantee.specs.Start.{each_of, start-sheet, Loaded, accepted-loaded, loaded-held}
-use Rattle.checks.specs.Checks.{checked, passed_none, failed-number}
+use Rattle.guarantee.specs.Start.{each_of, start_sheet, Loaded, accepted_loaded, loaded_held}
+use Rattle.checks.specs.Checks.{checked, passed_none, failed_number}
 use Rattle.checks.specs.declared.Check.{Check}
 use Rattle.checks.specs.declared.Check.TheVariants.{Passed, Failed}
-use Rattle.heads.specs.TwoHeads.{twoHeadsRefusal, TwoHeadsOutcome, twoHeadsByQuarters, twoHeadsIn, twoHeads}
-use Rattle.head_order.specs.Checks.{power-large, heads-load}
-use Rattle.head_order.specs.Call.{out-refused, out-is, expected}
-use Rattle.laser.specs.SheetLent.{sheetOf, SheetLent, ranOf}
+use Rattle.heads.specs.TwoHeads.{two_heads_refusal, TwoHeadsOutcome, two_heads_by_quarters, two_heads_in, two_heads}
+use Rattle.head_order.specs.Checks.{power_large, heads_load}
+use Rattle.head_order.specs.Call.{out_refused, out_is, expected}
+use Rattle.laser.specs.SheetLent.{sheet_of, SheetLent, ran_of}
 
 -- ---- the checks up to the knit
 module _ (r side knit : ℕ) where
   abbrev first : ℕ
-  first = lowest (sideUnknown r ∷ sideSmall side ∷ knitUnknown knit ∷ [])
+  first = lowest (side_unknown r ∷ side_small side ∷ knit_unknown knit ∷ [])
 
-  pub side-fails : r ≡ 0 → checked (Failed SideUnknown) ≡ first
+  pub side_fails : r ≡ 0 → checked (Failed SideUnknown) ≡ first
   unfolding checked number_of lowest
-  side-fails e = rw (eq-eqb r 0 e)
+  side_fails e = rw (eq-eqb r 0 e)
 
   module _ (some : r ≡ 0 → ⊥) where
-    pub small-fails : side < 16 → checked (Failed SideSmall) ≡ first
+    pub small_fails : side < 16 → checked (Failed SideSmall) ≡ first
     unfolding checked number_of lowest
-    small-fails h = rw (ne_eqb r 0 some, lt-ltb side 16 h)
+    small_fails h = rw (ne_eqb r 0 some, lt-ltb side 16 h)
 
     module _ (large : 16 ≤ side) where
-      pub knit-fails : 1 < knit → checked (Failed KnitUnknown) ≡ first
+      pub knit_fails : 1 < knit → checked (Failed KnitUnknown) ≡ first
       unfolding checked number_of lowest
-      knit-fails h = rw (ne_eqb r 0 some, le-ltb side 16 large, lt-ltb 1 knit h)
+      knit_fails h = rw (ne_eqb r 0 some, le-ltb side 16 large, lt-ltb 1 knit h)
 
-      pub none-fails : knit ≤ 1 → checked Passed ≡ first
+      pub none_fails : knit ≤ 1 → checked Passed ≡ first
       unfolding checked lowest
-      none-fails h = rw (ne_eqb r 0 some, le-ltb side 16 large, le-ltb 1 knit h)
+      none_fails h = rw (ne_eqb r 0 some, le-ltb side 16 large, le-ltb 1 knit h)
 
 -- ---- the call: greys that are bytes, and what the check has said
-module _ (side knit : ℕ) {r : ℕ} (er : r ≡ powerOf side) (g : List ℕ) (p : List ℤ) (s o : List ℕ)
-    (check : Check) (e : checked check ≡ lowest (sideUnknown r ∷ sideSmall side ∷ knitUnknown knit ∷ [])) where
+module _ (side knit : ℕ) {r : ℕ} (er : r ≡ power_of side) (g : List ℕ) (p : List ℤ) (s o : List ℕ)
+    (check : Check) (e : checked check ≡ lowest (side_unknown r ∷ side_small side ∷ knit_unknown knit ∷ [])) where
   abbrev low : Bool
-  low = lowMap (powerOf side) g
+  low = low_map (power_of side) g
 
   abbrev heads : ℕ
-  heads = twoHeadsRefusal side knit (length g) (length p) (length s) (length o) low
+  heads = two_heads_refusal side knit (length g) (length p) (length s) (length o) low
 
   abbrev load : ℕ
-  load = loadRefusal (powerOf side) knit (length g) (length p) (length s) (length o) low
+  load = load_refusal (power_of side) knit (length g) (length p) (length s) (length o) low
 
   -- a refusal, which leaves the buffers as they were
   no_answer : (why : Refusal) → heads ≡ suc (number_of why - 1) → {a : TwoHeadsAnswer}
@@ -84,17 +84,17 @@ module _ (side knit : ℕ) {r : ℕ} (er : r ≡ powerOf side) (g : List ℕ) (p
         progress = a.progress;
         made = a.made;
         debt = a.debt;
-        said = twoHeadsSays a.status;
+        said = two_heads_says a.status;
         pyramid = p;
         serials = s;
         order = o;
       }
-      ≡ twoHeadsByQuarters side knit g p s o
-  unfolding twoHeadsSays
-  no_answer why n ea = rw (ea, out-refused side knit g p s o (number_of why - 1) n, ← number-positive why) refl
+      ≡ two_heads_by_quarters side knit g p s o
+  unfolding two_heads_says
+  no_answer why n ea = rw (ea, out_refused side knit g p s o (number_of why - 1) n, ← number_positive why) refl
 
   -- by the check
-  pub refused-early : {why : Refusal} {a : TwoHeadsAnswer} → check ≡ Failed why
+  pub refused_early : {why : Refusal} {a : TwoHeadsAnswer} → check ≡ Failed why
       → a
       ≡ record {
         progress = record { side = 0; dots = 0; knit = 0 };
@@ -106,39 +106,39 @@ module _ (side knit : ℕ) {r : ℕ} (er : r ≡ powerOf side) (g : List ℕ) (p
         progress = a.progress;
         made = a.made;
         debt = a.debt;
-        said = twoHeadsSays a.status;
+        said = two_heads_says a.status;
         pyramid = p;
         serials = s;
         order = o;
       }
-      ≡ twoHeadsByQuarters side knit g p s o
-  refused-early {why} failed ea = no_answer why heads-is ea
+      ≡ two_heads_by_quarters side knit g p s o
+  refused_early {why} failed ea = no_answer why heads_is ea
     where
-      heads-is : heads ≡ suc (number_of why - 1)
-      heads-is =
-          let n = rw er at (failed-number check e why failed) in
-          unfold twoHeadsRefusal in
-          lowest-before (sideUnknown (powerOf side) ∷ sideSmall side ∷ knitUnknown knit ∷ []) _ (number_of why - 1) n
+      heads_is : heads ≡ suc (number_of why - 1)
+      heads_is =
+          let n = rw er at (failed_number check e why failed) in
+          unfold two_heads_refusal in
+          lowest_before (side_unknown (power_of side) ∷ side_small side ∷ knit_unknown knit ∷ []) _ (number_of why - 1) n
 
   module _ (passed : check ≡ Passed) where
-    some-side : 0 < powerOf side
-    some-side =
+    some_side : 0 < power_of side
+    some_side =
         let n = passed_none check e passed in
-        let h = lowest-none 1 (eqb r 0) _ (omega arith) n in
+        let h = lowest_none 1 (eqb r 0) _ (omega arith) n in
         omega (arith, eqb-false r 0 h.0, er)
 
-    large-side : 16 ≤ side
-    large-side =
+    large_side : 16 ≤ side
+    large_side =
         let n = passed_none check e passed in
-        let h = lowest-none 1 (eqb r 0) _ (omega arith) n in
-        ltb-false side 16 (lowest-none 14 (ltb side 16) _ (omega arith) h.1).0
+        let h = lowest_none 1 (eqb r 0) _ (omega arith) n in
+        ltb-false side 16 (lowest_none 14 (ltb side 16) _ (omega arith) h.1).0
 
-    heads-is-load : heads ≡ load
-    heads-is-load = heads-load side knit (length g) (length p) (length s) (length o) low (inr large-side)
+    heads_is_load : heads ≡ load
+    heads_is_load = heads_load side knit (length g) (length p) (length s) (length o) low (inr large_side)
 
     -- a refused Load changes nothing
-    load-out : (n : ℕ) → load ≡ suc n
-        → loadByQuarters side knit g p s o
+    load_out : (n : ℕ) → load ≡ suc n
+        → load_by_quarters side knit g p s o
         ≡ record {
           progress = record { side = 0; dots = 0; knit = 0 };
           said = Answers.refused (suc n);
@@ -146,36 +146,36 @@ module _ (side knit : ℕ) {r : ℕ} (er : r ≡ powerOf side) (g : List ℕ) (p
           serials = s;
           order = o;
         }
-    unfolding loadByQuarters load_of
-    load-out n z = rw (rows-length (powerOf side) p, z, load_of, quarters-rows (powerOf side) p)
+    unfolding load_by_quarters load_of
+    load_out n z = rw (rows_length (power_of side) p, z, load_of, quarters_rows (power_of side) p)
 
-    load-none : load ≡ 0 → (loadByQuarters side knit g p s o).said ≡ returned []
-    unfolding loadByQuarters load_of loaded
-    load-none z = rw (rows-length (powerOf side) p, z, load_of)
+    load_none : load ≡ 0 → (load_by_quarters side knit g p s o).said ≡ returned []
+    unfolding load_by_quarters load_of loaded
+    load_none z = rw (rows_length (power_of side) p, z, load_of)
 
     -- the number that it says is the call's
-    load-number : (why : Refusal) → (loadByQuarters side knit g p s o).said ≡ Answers.refused (number_of why)
+    load_number : (why : Refusal) → (load_by_quarters side knit g p s o).said ≡ Answers.refused (number_of why)
         → load ≡ suc (number_of why - 1)
-    load-number why t = go load refl
+    load_number why t = go load refl
       where
         go : (k : ℕ) → load ≡ k → load ≡ suc (number_of why - 1)
-        go zero z = let u = load-none z in let w : ◌≡◌ {A = ℕ} 0 1 = cc in absurd (omega arith)
+        go zero z = let u = load_none z in let w : ◌≡◌ {A = ℕ} 0 1 = cc in absurd (omega arith)
         go (suc n) z =
-            let u = ap (λ (out : LoadOutcome). out.said) (load-out n z) in
+            let u = ap (λ (out : LoadOutcome). out.said) (load_out n z) in
             let w : suc n ≡ number_of why = cc in
-            z ∙ w ∙ number-positive why
+            z ∙ w ∙ number_positive why
 
     -- what Load has answered and left
     module _ {a : LoadAnswer} {p₁ : List ℤ} {s₁ o₁ : List ℕ}
-        (q : record { progress = a.progress; said = loadSays a.status; pyramid = p₁; serials = s₁; order = o₁ }
-        ≡ loadByQuarters side knit g p s o) where
+        (q : record { progress = a.progress; said = load_says a.status; pyramid = p₁; serials = s₁; order = o₁ }
+        ≡ load_by_quarters side knit g p s o) where
       -- it refuses
       module _ {why : Refusal} (refuses : a.status ≡ Load.Refused why) where
-        says-why : (loadByQuarters side knit g p s o).said ≡ Answers.refused (number_of why)
-        unfolding loadSays
-        says-why = ap (λ (out : LoadOutcome). out.said) (sym q) ∙ ap loadSays refuses
+        says_why : (load_by_quarters side knit g p s o).said ≡ Answers.refused (number_of why)
+        unfolding load_says
+        says_why = ap (λ (out : LoadOutcome). out.said) (sym q) ∙ ap load_says refuses
 
-        left : loadByQuarters side knit g p s o
+        left : load_by_quarters side knit g p s o
             ≡ record {
               progress = record { side = 0; dots = 0; knit = 0 };
               said = Answers.refused (suc (number_of why - 1));
@@ -183,18 +183,18 @@ module _ (side knit : ℕ) {r : ℕ} (er : r ≡ powerOf side) (g : List ℕ) (p
               serials = s;
               order = o;
             }
-        left = load-out (number_of why - 1) (load-number why says-why)
+        left = load_out (number_of why - 1) (load_number why says_why)
 
-        same-pyramid : p₁ ≡ p
-        same-pyramid = ap (λ (out : LoadOutcome). out.pyramid) (q ∙ left)
+        same_pyramid : p₁ ≡ p
+        same_pyramid = ap (λ (out : LoadOutcome). out.pyramid) (q ∙ left)
 
-        same-serials : s₁ ≡ s
-        same-serials = ap (λ (out : LoadOutcome). out.serials) (q ∙ left)
+        same_serials : s₁ ≡ s
+        same_serials = ap (λ (out : LoadOutcome). out.serials) (q ∙ left)
 
-        same-order : o₁ ≡ o
-        same-order = ap (λ (out : LoadOutcome). out.order) (q ∙ left)
+        same_order : o₁ ≡ o
+        same_order = ap (λ (out : LoadOutcome). out.order) (q ∙ left)
 
-        pub refused-late : {b : TwoHeadsAnswer}
+        pub refused_late : {b : TwoHeadsAnswer}
             → b
             ≡ record {
               progress = record { side = 0; dots = 0; knit = 0 };
@@ -206,125 +206,125 @@ module _ (side knit : ℕ) {r : ℕ} (er : r ≡ powerOf side) (g : List ℕ) (p
               progress = b.progress;
               made = b.made;
               debt = b.debt;
-              said = twoHeadsSays b.status;
+              said = two_heads_says b.status;
               pyramid = p₁;
               serials = s₁;
               order = o₁;
             }
-            ≡ twoHeadsByQuarters side knit g p s o
-        refused-late eb =
-            rw (same-pyramid, same-serials, same-order)
-            (no_answer why (heads-is-load ∙ load-number why says-why) eb)
+            ≡ two_heads_by_quarters side knit g p s o
+        refused_late eb =
+            rw (same_pyramid, same_serials, same_order)
+            (no_answer why (heads_is_load ∙ load_number why says_why) eb)
 
       -- it has loaded the map
       module _ (loads : a.status ≡ Load.Loaded) (bytes : (i : ℕ) → get_or g i 0 ≤ 255) where
-        each-byte : Each (λ grey. grey ≤ 255) g
-        each-byte = each_of (λ grey. grey ≤ 255) g 0 (λ i l. bytes i)
+        each_byte : Each (λ grey. grey ≤ 255) g
+        each_byte = each_of (λ grey. grey ≤ 255) g 0 (λ i l. bytes i)
 
-        says-loaded : (loadByQuarters side knit g p s o).said ≡ returned []
-        unfolding loadSays
-        says-loaded = ap (λ (out : LoadOutcome). out.said) (sym q) ∙ ap loadSays loads
+        says_loaded : (load_by_quarters side knit g p s o).said ≡ returned []
+        unfolding load_says
+        says_loaded = ap (λ (out : LoadOutcome). out.said) (sym q) ∙ ap load_says loads
 
         accepted : Loaded side knit g p s o
-        accepted = accepted-loaded side knit g p s o (record { bytes = each-byte; said = says-loaded })
+        accepted = accepted_loaded side knit g p s o (record { bytes = each_byte; said = says_loaded })
 
         abbrev fresh : Halftone
-        fresh = modelStart (powerOf side) g
+        fresh = model_start (power_of side) g
 
-        sheet : Sheet (powerOf side) (modelStart (powerOf side) g)
-        sheet = start-sheet (powerOf side) g each-byte
+        sheet : Sheet (power_of side) (model_start (power_of side) g)
+        sheet = start_sheet (power_of side) g each_byte
 
         held : record { progress = a.progress; pyramid = p₁; serials = s₁; order = o₁ }
-            ≡ held_of knit (powerOf side) (modelStart (powerOf side) g) (drop (needed (powerOf side)) p)
-            (drop (cellCount (powerOf side)) s) (drop (cellCount (powerOf side)) o)
-        held = after ∙ loaded-held side knit g p s o accepted
+            ≡ held_of knit (power_of side) (model_start (power_of side) g) (drop (needed (power_of side)) p)
+            (drop (cell_count (power_of side)) s) (drop (cell_count (power_of side)) o)
+        held = after ∙ loaded_held side knit g p s o accepted
           where
             after : record { progress = a.progress; pyramid = p₁; serials = s₁; order = o₁ }
-                ≡ heldAfterLoad side knit g p s o
-            after = unfold heldAfterLoad in rw (← q)
+                ≡ held_after_load side knit g p s o
+            after = unfold held_after_load in rw (← q)
 
-        pyramid-is : p₁ ≡ quartersFrom (powerOf side) fresh.pyramid ++ drop (needed (powerOf side)) p
-        pyramid-is = ap (λ (h : Held). h.pyramid) held
+        pyramid_is : p₁ ≡ quarters_from (power_of side) fresh.pyramid ++ drop (needed (power_of side)) p
+        pyramid_is = ap (λ (h : Held). h.pyramid) held
 
-        serials-is : s₁ ≡ fresh.serials ++ drop (cellCount (powerOf side)) s
-        serials-is = ap (λ (h : Held). h.serials) held
+        serials_is : s₁ ≡ fresh.serials ++ drop (cell_count (power_of side)) s
+        serials_is = ap (λ (h : Held). h.serials) held
 
-        order_is : o₁ ≡ fresh.order ++ drop (cellCount (powerOf side)) o
+        order_is : o₁ ≡ fresh.order ++ drop (cell_count (power_of side)) o
         order_is = ap (λ (h : Held). h.order) held
 
-        rows_are : rows_from (powerOf side) p₁ ≡ fresh.pyramid
+        rows_are : rows_from (power_of side) p₁ ≡ fresh.pyramid
         rows_are =
-            let quarters = quartersFrom (powerOf side) fresh.pyramid in
-            sym (rows_taken (powerOf side) p₁)
-            ∙ ap (λ (l : List ℤ). rows_from (powerOf side) (take (needed (powerOf side)) l)) pyramid-is
-            ∙ ap (rows_from (powerOf side))
-            (take_at quarters _ (needed (powerOf side)) (length-quarters (powerOf side) fresh.pyramid))
-            ∙ rows_back (powerOf side) fresh.pyramid sheet.sized.pyramid
+            let quarters = quarters_from (power_of side) fresh.pyramid in
+            sym (rows_taken (power_of side) p₁)
+            ∙ ap (λ (l : List ℤ). rows_from (power_of side) (take (needed (power_of side)) l)) pyramid_is
+            ∙ ap (rows_from (power_of side))
+            (take_at quarters _ (needed (power_of side)) (length_quarters (power_of side) fresh.pyramid))
+            ∙ rows_back (power_of side) fresh.pyramid sheet.sized.pyramid
 
-        serials-are : take (cellCount (powerOf side)) s₁ ≡ fresh.serials
-        serials-are = rw serials-is (take_at fresh.serials _ (cellCount (powerOf side)) sheet.sized.serials)
+        serials_are : take (cell_count (power_of side)) s₁ ≡ fresh.serials
+        serials_are = rw serials_is (take_at fresh.serials _ (cell_count (power_of side)) sheet.sized.serials)
 
-        order-are : take (cellCount (powerOf side)) o₁ ≡ fresh.order
-        order-are = rw order_is (take_at fresh.order _ (cellCount (powerOf side)) sheet.sized.order)
+        order_are : take (cell_count (power_of side)) o₁ ≡ fresh.order
+        order_are = rw order_is (take_at fresh.order _ (cell_count (power_of side)) sheet.sized.order)
 
-        sheet-is : sheetOf (powerOf side) p₁ s₁ o₁ ≡ modelStart (powerOf side) g
-        sheet-is = λ i.
-            record { pyramid = rows_are i; serials = serials-are i; order = order-are i; dots = no-dots i }
+        sheet_is : sheet_of (power_of side) p₁ s₁ o₁ ≡ model_start (power_of side) g
+        sheet_is = λ i.
+            record { pyramid = rows_are i; serials = serials_are i; order = order_are i; dots = no_dots i }
           where
-            no-dots : ◌≡◌ {A = ℕ} 0 (modelStart (powerOf side) g).dots
-            no-dots = unfold modelStart in refl
+            no_dots : ◌≡◌ {A = ℕ} 0 (model_start (power_of side) g).dots
+            no_dots = unfold model_start in refl
 
-        four≤ : 4 ≤ powerOf side
-        four≤ = power-large side some-side large-side
+        four≤ : 4 ≤ power_of side
+        four≤ = power_large side some_side large_side
 
-        long-pyramid : needed (powerOf side) ≤ length p₁
-        long-pyramid =
-            let quarters = quartersFrom (powerOf side) fresh.pyramid in
-            let rest = drop (needed (powerOf side)) p in
-            rw pyramid-is
-            (omega (arith, length-append quarters rest, length-quarters (powerOf side) fresh.pyramid))
+        long_pyramid : needed (power_of side) ≤ length p₁
+        long_pyramid =
+            let quarters = quarters_from (power_of side) fresh.pyramid in
+            let rest = drop (needed (power_of side)) p in
+            rw pyramid_is
+            (omega (arith, length-append quarters rest, length_quarters (power_of side) fresh.pyramid))
 
-        long-serials : cellCount (powerOf side) ≤ length s₁
-        long-serials =
-            let rest = drop (cellCount (powerOf side)) s in
-            rw serials-is (omega (arith, length-append fresh.serials rest, sheet.sized.serials))
+        long_serials : cell_count (power_of side) ≤ length s₁
+        long_serials =
+            let rest = drop (cell_count (power_of side)) s in
+            rw serials_is (omega (arith, length-append fresh.serials rest, sheet.sized.serials))
 
-        long_order : cellCount (powerOf side) ≤ length o₁
+        long_order : cell_count (power_of side) ≤ length o₁
         long_order =
-            let rest = drop (cellCount (powerOf side)) o in
+            let rest = drop (cell_count (power_of side)) o in
             rw order_is (omega (arith, length-append fresh.order rest, sheet.sized.order))
 
-        pub sheet-lent : SheetLent r p₁ s₁ o₁
-        sheet-lent =
+        pub sheet_lent : SheetLent r p₁ s₁ o₁
+        sheet_lent =
             rw er
             (record {
               least = four≤;
               most = power_small side refl;
-              pyramid-long = long-pyramid;
-              serials-long = long-serials;
-              order-long = long_order;
-              sheet = rw sheet-is sheet;
+              pyramid_long = long_pyramid;
+              serials_long = long_serials;
+              order_long = long_order;
+              sheet = rw sheet_is sheet;
             })
 
         -- the run of that sheet is the run of the map
-        rest-pyramid : drop (needed (powerOf side)) p₁ ≡ drop (needed (powerOf side)) p
-        rest-pyramid =
-            rw pyramid-is
-            (drop_at (quartersFrom (powerOf side) fresh.pyramid) _ (needed (powerOf side))
-            (length-quarters (powerOf side) fresh.pyramid))
+        rest_pyramid : drop (needed (power_of side)) p₁ ≡ drop (needed (power_of side)) p
+        rest_pyramid =
+            rw pyramid_is
+            (drop_at (quarters_from (power_of side) fresh.pyramid) _ (needed (power_of side))
+            (length_quarters (power_of side) fresh.pyramid))
 
-        rest-serials : drop (cellCount (powerOf side)) s₁ ≡ drop (cellCount (powerOf side)) s
-        rest-serials = rw serials-is (drop_at fresh.serials _ (cellCount (powerOf side)) sheet.sized.serials)
+        rest_serials : drop (cell_count (power_of side)) s₁ ≡ drop (cell_count (power_of side)) s
+        rest_serials = rw serials_is (drop_at fresh.serials _ (cell_count (power_of side)) sheet.sized.serials)
 
-        rest-order : drop (cellCount (powerOf side)) o₁ ≡ drop (cellCount (powerOf side)) o
-        rest-order = rw order_is (drop_at fresh.order _ (cellCount (powerOf side)) sheet.sized.order)
+        rest_order : drop (cell_count (power_of side)) o₁ ≡ drop (cell_count (power_of side)) o
+        rest_order = rw order_is (drop_at fresh.order _ (cell_count (power_of side)) sheet.sized.order)
 
-        ran-expected : ranOf side knit (powerOf side) p₁ s₁ o₁ ≡ expected side knit g p s o
-        unfolding twoHeads twoHeadsIn
-        ran-expected = rw (sheet-is, rest-pyramid, rest-serials, rest-order) refl
+        ran_expected : ran_of side knit (power_of side) p₁ s₁ o₁ ≡ expected side knit g p s o
+        unfolding two_heads two_heads_in
+        ran_expected = rw (sheet_is, rest_pyramid, rest_serials, rest_order) refl
 
-        pub ran-all : {out : TwoHeadsOutcome} → out ≡ ranOf side knit r p₁ s₁ o₁
-            → out ≡ twoHeadsByQuarters side knit g p s o
-        ran-all e₁ =
-            (rw er at e₁) ∙ ran-expected
-            ∙ sym (out-is side knit g p s o each-byte four≤ (heads-is-load ∙ accepted.none))
+        pub ran_all : {out : TwoHeadsOutcome} → out ≡ ran_of side knit r p₁ s₁ o₁
+            → out ≡ two_heads_by_quarters side knit g p s o
+        ran_all e₁ =
+            (rw er at e₁) ∙ ran_expected
+            ∙ sym (out_is side knit g p s o each_byte four≤ (heads_is_load ∙ accepted.none))

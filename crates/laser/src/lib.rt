@@ -1,11 +1,11 @@
 // The laser with two heads (`two_heads`): Load, then rounds of macroblocks until four in a row have made no hole. Of
 // the engine it sees the contracts alone.
 ghost use Rattle.std.specs.Prelude.{◌≡◌, [], ◌∷◌, pos};
-ghost use Rattle.definition.specs.Answers.{twoHeadsSays};
-ghost use Rattle.definition.specs.Refusals.{sideUnknown, sideSmall, knitUnknown, lowest};
-ghost use Rattle.heads.specs.TwoHeads.{twoHeadsByQuarters};
+ghost use Rattle.definition.specs.Answers.{two_heads_says};
+ghost use Rattle.definition.specs.Refusals.{side_unknown, side_small, knit_unknown, lowest};
+ghost use Rattle.heads.specs.TwoHeads.{two_heads_by_quarters};
 ghost use Rattle.checks.specs.Checks.{checked};
-ghost use Rattle.laser.specs.SheetLent.{SheetLent, ranOf};
+ghost use Rattle.laser.specs.SheetLent.{SheetLent, ran_of};
 
 use checks::Check;
 use definition::{LoadStatus, Progress, Refusal, TwoHeadsAnswer, TwoHeadsStatus};
@@ -13,7 +13,7 @@ use definition::{LoadStatus, Progress, Refusal, TwoHeadsAnswer, TwoHeadsStatus};
 // The checks up to the knit (S 5.2): 1, then 14 for a side that has no room for macroblocks, then 11. The others are
 // Load's.
 fn check_side(r: usize, side: u32, knit: u32) -> Check
-    ensures { checked result ≡ lowest (sideUnknown r ∷ sideSmall side ∷ knitUnknown knit ∷ []) }
+    ensures { checked result ≡ lowest (side_unknown r ∷ side_small side ∷ knit_unknown knit ∷ []) }
 {
     if r == 0 {
         return Check::Failed(Refusal::SideUnknown);
@@ -84,12 +84,12 @@ fn run_sheet(
       progress = result.progress;
       made = result.made;
       debt = result.debt;
-      said = twoHeadsSays result.status;
+      said = two_heads_says result.status;
       pyramid = pyramid.new;
       serials = serials.new;
       order = order.new;
     }
-        ≡ ranOf side knit r pyramid.old serials.old order.old }
+        ≡ ran_of side knit r pyramid.old serials.old order.old }
 {
     let needed = sizes::needed(r);
     let cells = sizes::cell_count(r);
@@ -106,7 +106,7 @@ fn run_sheet(
 }
 
 // Two Heads (S 13.5): fills the buffers as Load does, and runs to the end. What is promised of it (S 15.15) is the law
-// `heads-hold` of `head_order`.
+// `heads_hold` of `head_order`.
 pub fn two_heads(
     side: u32,
     knit: u32,
@@ -119,12 +119,12 @@ pub fn two_heads(
       progress = result.progress;
       made = result.made;
       debt = result.debt;
-      said = twoHeadsSays result.status;
+      said = two_heads_says result.status;
       pyramid = pyramid.new;
       serials = serials.new;
       order = order.new;
     }
-        ≡ twoHeadsByQuarters side knit
+        ≡ two_heads_by_quarters side knit
         greys.now pyramid.old serials.old order.old }
 {
     let r = sizes::power_of(side);

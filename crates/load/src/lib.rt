@@ -1,8 +1,8 @@
 // Load (`load`): the pyramid summed from the greys, by quarters, the two other buffers cleared, and the record (side,
 // 0, knit).
 ghost use Rattle.std.specs.Prelude.{◌≡◌};
-ghost use Rattle.definition.specs.Answers.{loadSays};
-ghost use Rattle.definition.specs.ByQuarters.{loadByQuarters};
+ghost use Rattle.definition.specs.Answers.{load_says};
+ghost use Rattle.definition.specs.ByQuarters.{load_by_quarters};
 
 use checks::Check;
 use definition::{LoadAnswer, LoadStatus, Progress};
@@ -29,12 +29,12 @@ pub fn load(
 ) -> LoadAnswer
     ensures { record {
       progress = result.progress;
-      said = loadSays result.status;
+      said = load_says result.status;
       pyramid = pyramid.new;
       serials = serials.new;
       order = order.new;
     }
-        ≡ loadByQuarters side knit
+        ≡ load_by_quarters side knit
         greys.now pyramid.old serials.old order.old }
 {
     let r = sizes::power_of(side);

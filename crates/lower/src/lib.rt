@@ -1,10 +1,10 @@
 // Greys that are too high for a map: the test for them (`none_high`), and the lowering of them (`lower`).
 ghost use Rattle.std.specs.Prelude.{◌≡◌, min};
-ghost use Rattle.definition.specs.Lowering.{noneHigh, lowered};
+ghost use Rattle.definition.specs.Lowering.{none_high, lowered};
 
 // Whether no grey is above 240 (S 2.2).
 pub fn none_high(greys: &[u8]) -> bool
-    ensures { result ≡ noneHigh greys.now }
+    ensures { result ≡ none_high greys.now }
 {
     let mut i = 0;
     while i < greys.len() {

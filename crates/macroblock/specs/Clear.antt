@@ -1,4 +1,4 @@
--- The rim, as the code tests it (`both-clear`, `not-clear`).
+-- The rim, as the code tests it (`both_clear`, `not_clear`).
 use Rattle.std.specs.Prelude.{◌≡◌, Bool, not, ◌&&◌, ◌||◌, ℕ, ◌+◌, ◌*◌, ◌^◌}
 use Rattle.std.proofs.Math.Path.{refl}
 use Rattle.std.proofs.Math.Bool.{true, false}
@@ -16,19 +16,19 @@ module _ (r a x : ℕ) where
       both true = refl
       both false = refl
 
-  pub clear-last : (side : ℕ) → side ≡ 2 ^ r → (x ≡ 4 * a → ⊥) → x ≡ 4 * a + 7 → eqb (4 * a + 8) side ≡ clear r a x
+  pub clear_last : (side : ℕ) → side ≡ 2 ^ r → (x ≡ 4 * a → ⊥) → x ≡ 4 * a + 7 → eqb (4 * a + 8) side ≡ clear r a x
   unfolding clear
-  clear-last side es ne e = rw (ne_eqb x (4 * a) ne, eq-eqb x (4 * a + 7) e, es)
+  clear_last side es ne e = rw (ne_eqb x (4 * a) ne, eq-eqb x (4 * a + 7) e, es)
 
-  pub clear-inside : (x ≡ 4 * a → ⊥) → (x ≡ 4 * a + 7 → ⊥) → true ≡ clear r a x
+  pub clear_inside : (x ≡ 4 * a → ⊥) → (x ≡ 4 * a + 7 → ⊥) → true ≡ clear r a x
   unfolding clear
-  clear-inside ne nf = rw (ne_eqb x (4 * a) ne, ne_eqb x (4 * a + 7) nf)
+  clear_inside ne nf = rw (ne_eqb x (4 * a) ne, ne_eqb x (4 * a + 7) nf)
 
 -- by row and by column
-pub both-clear : (r a b row column : ℕ) {t u : Bool} → t ≡ clear r a row → t ≡ true → u ≡ clear r b column
+pub both_clear : (r a b row column : ℕ) {t u : Bool} → t ≡ clear r a row → t ≡ true → u ≡ clear r b column
     → u ≡ (clear r a row && clear r b column)
-both-clear r a b row column e f g = rw (← e, f) g
+both_clear r a b row column e f g = rw (← e, f) g
 
-pub not-clear : (r a b row column : ℕ) {t : Bool} → t ≡ clear r a row → t ≡ false
+pub not_clear : (r a b row column : ℕ) {t : Bool} → t ≡ clear r a row → t ≡ false
     → false ≡ (clear r a row && clear r b column)
-not-clear r a b row column e f = rw (← e, f) refl
+not_clear r a b row column e f = rw (← e, f) refl

@@ -1,12 +1,12 @@
 -- What the functions of this crate are asked and told (`MacroblockAsked`, `LargeSheet`, `Seen`).
 use Rattle.std.specs.Prelude.{◌≡◌, Bool, cond, List, ℕ, ◌+◌, ◌-◌, ◌^◌, ◌≤◌, ◌<◌, length, ℤ, pos}
 use Rattle.std.specs.Int.Signed.{le_z}
-use Rattle.definition.specs.Pyramid.{halfDot, start, needed, entry}
+use Rattle.definition.specs.Pyramid.{half_dot, start, needed, entry}
 use Rattle.definition.specs.Quarters.{interleaved}
-use Rattle.definition.specs.Descent.{firstOfEquals, largest}
+use Rattle.definition.specs.Descent.{first_of_equals, largest}
 use Rattle.definition.specs.Model.{Halftone}
 use Rattle.dots.specs.Steps.{Sheet}
-use Rattle.heads.specs.TwoHeads.{blockSums, macroblockSum}
+use Rattle.heads.specs.TwoHeads.{block_sums, macroblock_sum}
 use Rattle.pyramid.specs.PyramidPart.{Within, SmallPyramid}
 use Rattle.macroblock.specs.declared.Block.{Block}
 
@@ -51,15 +51,15 @@ block_of r rows a b =
     }
 
 -- the better of two, and the largest of four
-unfoldable pub betterOf : Block → Block → Block
-betterOf best next = cond (firstOfEquals best.sum next.sum) next best
+unfoldable pub better_of : Block → Block → Block
+better_of best next = cond (first_of_equals best.sum next.sum) next best
 
-unfoldable pub largestOf : Block → Block → Block → Block → Block
-largestOf first second third fourth = betterOf (betterOf (betterOf first second) third) fourth
+unfoldable pub largest_of : Block → Block → Block → Block → Block
+largest_of first second third fourth = better_of (better_of (better_of first second) third) fourth
 
 -- whether macroblock (a, b) owes half a dot or more, and its block that owes most, with its place by quarters
 pub record Seen (r : ℕ) (rows : List ℤ) (a b : ℕ) (due : Bool) (row column at : ℕ) : Type 0 where
-  pub due-is : due ≡ le_z (pos halfDot) (macroblockSum r rows (a, b))
-  pub row_is : row ≡ a + (largest firstOfEquals (blockSums r rows (a, b)) 0 0).row
-  pub column-is : column ≡ b + (largest firstOfEquals (blockSums r rows (a, b)) 0 0).column
+  pub due_is : due ≡ le_z (pos half_dot) (macroblock_sum r rows (a, b))
+  pub row_is : row ≡ a + (largest first_of_equals (block_sums r rows (a, b)) 0 0).row
+  pub column_is : column ≡ b + (largest first_of_equals (block_sums r rows (a, b)) 0 0).column
   pub place_is : at ≡ start (r - 2) + interleaved (r - 2) row column

@@ -1,4 +1,4 @@
--- The four blocks of a macroblock as the code reads them (`block-is`): their sum, and the one that owes most (`seen`).
+-- The four blocks of a macroblock as the code reads them (`block_is`): their sum, and the one that owes most (`seen`).
 use Rattle.std.specs.Prelude.{◌≡◌, Bool, cond, List, ℕ, suc, ◌+◌, ◌*◌, ◌-◌, ◌^◌, ◌≤◌, ◌<◌, length, get_or, ℤ, pos, ◌+ℤ◌}
 use Rattle.std.proofs.Math.Path.{refl}
 use Rattle.std.proofs.Common.{ap, ap₂, ◌∙◌, arith, pow_mono, Fits, SFits, to_z, of_z, to_z-of_z}
@@ -6,15 +6,15 @@ use Rattle.std.proofs.Math.Bool.{true, false}
 use Rattle.std.proofs.Math.Nat.{add-zero}
 use Rattle.std.specs.Int.Signed.{le_z, lt_z}
 use Rattle.std.specs.Int.{w64}
-use Rattle.definition.specs.Pyramid.{halfDot, start, entry, four}
-use Rattle.definition.specs.Quarters.{interleaved, quarterEntry, rows_from}
+use Rattle.definition.specs.Pyramid.{half_dot, start, entry, four}
+use Rattle.definition.specs.Quarters.{interleaved, quarter_entry, rows_from}
 use Rattle.definition.specs.Descent as definition
-use Rattle.definition.specs.Descent.{firstOfEquals, candidate, largest}
-use Rattle.heads.specs.TwoHeads.{blockSums, macroblockSum}
-use Rattle.integers.specs.Machine.{ltZ-back, words, machine}
-use Rattle.quadtree.specs.Levels.{start-suc, start-mono}
-use Rattle.layouts.specs.Interleaved.{interleaved-lt, interleaved-any}
-use Rattle.layouts.specs.Relaid.{rows-entry}
+use Rattle.definition.specs.Descent.{first_of_equals, candidate, largest}
+use Rattle.heads.specs.TwoHeads.{block_sums, macroblock_sum}
+use Rattle.integers.specs.Machine.{lt_z_back, words, machine}
+use Rattle.quadtree.specs.Levels.{start_suc, start_mono}
+use Rattle.layouts.specs.Interleaved.{interleaved_lt, interleaved_any}
+use Rattle.layouts.specs.Relaid.{rows_entry}
 use Rattle.pyramid.specs.PyramidPart.{Within}
 use Rattle.pyramid.specs.Four.{FourFit}
 use Rattle.macroblock.specs.declared.Block.{Block}
@@ -23,30 +23,30 @@ use Rattle.macroblock.specs.FourBlocks.{
   MacroblockAsked,
   SmallSums,
   block_of,
-  betterOf,
-  largestOf,
+  better_of,
+  largest_of,
   Seen,
 }
 
 -- ---- one block, read at its place
 module _ (p : List ℤ) (r a b : ℕ) (h : BlockAsked p r a b) where
-  side-most : 2 ^ (r - 2) ≤ 64
-  side-most = pow_mono {i = r - 2} {j = 6} (omega (arith, h.least, h.most))
+  side_most : 2 ^ (r - 2) ≤ 64
+  side_most = pow_mono {i = r - 2} {j = 6} (omega (arith, h.least, h.most))
 
   few : length p ≤ 87381
   few =
       let e : start 9 ≡ 87381 = unfold start in refl in
-      omega (arith, h.whole, start-mono (suc r) 9 (omega (arith, h.most)), e)
+      omega (arith, h.whole, start_mono (suc r) 9 (omega (arith, h.most)), e)
 
-  pub row-few : a < 256
-  row-few = omega (arith, h.row, side-most)
+  pub row_few : a < 256
+  row_few = omega (arith, h.row, side_most)
 
-  pub column-few : b < 256
-  column-few = omega (arith, h.column, side-most)
+  pub column_few : b < 256
+  column_few = omega (arith, h.column, side_most)
 
   module _ (first place : ℕ) (ef : first ≡ start (r - 2)) (ep : place ≡ interleaved 8 a b) where
     place_is : place ≡ interleaved (r - 2) a b
-    place_is = ep ∙ interleaved-any (r - 2) a b (omega (arith, h.most)) h.row h.column
+    place_is = ep ∙ interleaved_any (r - 2) a b (omega (arith, h.most)) h.row h.column
 
     pub block_in : first + place < length p
     block_in =
@@ -55,33 +55,33 @@ module _ (p : List ℤ) (r a b : ℕ) (h : BlockAsked p r a b) where
           ef,
           place_is,
           h.whole,
-          interleaved-lt (r - 2) a b,
-          start-suc (r - 2),
-          start-mono (suc (r - 2)) (suc r) (omega arith),
+          interleaved_lt (r - 2) a b,
+          start_suc (r - 2),
+          start_mono (suc (r - 2)) (suc r) (omega arith),
         )
 
-    pub at-fits : Fits w64 (first + place)
-    at-fits = record { fits = omega (arith, block_in, few) }
+    pub at_fits : Fits w64 (first + place)
+    at_fits = record { fits = omega (arith, block_in, few) }
 
-    pub at-bytes : Fits w64 ((first + place) * 8)
-    at-bytes = record { fits = omega (arith, block_in, few) }
+    pub at_bytes : Fits w64 ((first + place) * 8)
+    at_bytes = record { fits = omega (arith, block_in, few) }
 
-    pub block-is : {z : ℤ} → z ≡ get_or p (first + place) (pos 0)
+    pub block_is : {z : ℤ} → z ≡ get_or p (first + place) (pos 0)
         → record { row = a; column = b; at = first + place; sum = z } ≡ block_of r (rows_from r p) a b
-    unfolding quarterEntry
-    block-is ez =
-        rw (rows-entry r p (r - 2) a b (omega arith) h.row h.column, ez, ef, place_is)
+    unfolding quarter_entry
+    block_is ez =
+        rw (rows_entry r p (r - 2) a b (omega arith) h.row h.column, ez, ef, place_is)
 
 -- ---- the better of two, and of four
 module _ (best next : Block) (f : SFits w64 best.sum) (g : SFits w64 next.sum) where
-  pub better-is : {t : Bool} → lt_z (to_z w64 (of_z w64 best.sum)) (to_z w64 (of_z w64 next.sum)) ≡ t
-      → cond t next best ≡ betterOf best next
-  unfolding betterOf firstOfEquals
-  better-is e = rw (ltZ-back f g e)
+  pub better_is : {t : Bool} → lt_z (to_z w64 (of_z w64 best.sum)) (to_z w64 (of_z w64 next.sum)) ≡ t
+      → cond t next best ≡ better_of best next
+  unfolding better_of first_of_equals
+  better_is e = rw (lt_z_back f g e)
 
 -- ---- four small numbers: no sum on the way overflows
-pub sums-fit : (w x y z : ℤ) → SmallSums w x y z → FourFit w x y z
-sums-fit w x y z h =
+pub sums_fit : (w x y z : ℤ) → SmallSums w x y z → FourFit w x y z
+sums_fit w x y z h =
     let a = h.one in
     let b = h.two in
     let c = h.three in
@@ -101,18 +101,18 @@ module _ (p : List ℤ) (r a b : ℕ) (h : MacroblockAsked p r a b) where
   abbrev rows : List ℤ
   rows = rows_from r p
 
-  side-few : 2 ^ (r - 2) ≤ 64
-  side-few = pow_mono {i = r - 2} {j = 6} (omega (arith, h.least, h.most))
+  side_few : 2 ^ (r - 2) ≤ 64
+  side_few = pow_mono {i = r - 2} {j = 6} (omega (arith, h.least, h.most))
 
   pub row_next : Fits w64 (a + 1)
-  row_next = record { fits = omega (arith, h.row, side-few) }
+  row_next = record { fits = omega (arith, h.row, side_few) }
 
-  pub column-next : Fits w64 (b + 1)
-  column-next = record { fits = omega (arith, h.column, side-few) }
+  pub column_next : Fits w64 (b + 1)
+  column_next = record { fits = omega (arith, h.column, side_few) }
 
   -- its four blocks, i rows and j columns on
-  asked-at : (i j : ℕ) → i ≤ 1 → j ≤ 1 → BlockAsked p r (a + i) (b + j)
-  asked-at i j le le' =
+  asked_at : (i j : ℕ) → i ≤ 1 → j ≤ 1 → BlockAsked p r (a + i) (b + j)
+  asked_at i j le le' =
       record {
         least = h.least;
         most = h.most;
@@ -122,10 +122,10 @@ module _ (p : List ℤ) (r a b : ℕ) (h : MacroblockAsked p r a b) where
       }
 
   small_at : (i j : ℕ) → i ≤ 1 → j ≤ 1 → Within (2 ^ 40) (entry rows (r - 2) (a + i) (b + j))
-  unfolding quarterEntry
+  unfolding quarter_entry
   small_at i j le le' =
-      let k = asked-at i j le le' in
-      rw (rows-entry r p (r - 2) (a + i) (b + j) (omega arith) k.row k.column) (h.small.small _)
+      let k = asked_at i j le le' in
+      rw (rows_entry r p (r - 2) (a + i) (b + j) (omega arith) k.row k.column) (h.small.small _)
 
   -- a block of the code stands for a block of the definition, which counts rows and columns from the macroblock's own
   record For (c : Block) (d : definition.Candidate) : Type 0 where
@@ -134,22 +134,22 @@ module _ (p : List ℤ) (r a b : ℕ) (h : MacroblockAsked p r a b) where
     sum : c.sum ≡ d.sum
     place : c.at ≡ start (r - 2) + interleaved (r - 2) c.row c.column
 
-  for-at : (i j : ℕ) → For (block_of r rows (a + i) (b + j)) (candidate (blockSums r rows (a, b)) i j)
-  unfolding candidate blockSums
-  for-at i j = record { row = refl; column = refl; sum = refl; place = refl }
+  for_at : (i j : ℕ) → For (block_of r rows (a + i) (b + j)) (candidate (block_sums r rows (a, b)) i j)
+  unfolding candidate block_sums
+  for_at i j = record { row = refl; column = refl; sum = refl; place = refl }
 
-  for-better : (c c' : Block) (d d' : definition.Candidate) → For c d → For c' d'
-      → For (betterOf c c') (definition.better firstOfEquals d d')
-  unfolding betterOf definition.better
-  for-better c c' d d' x y = rw (ap₂ firstOfEquals x.sum y.sum) (go (firstOfEquals d.sum d'.sum))
+  for_better : (c c' : Block) (d d' : definition.Candidate) → For c d → For c' d'
+      → For (better_of c c') (definition.better first_of_equals d d')
+  unfolding better_of definition.better
+  for_better c c' d d' x y = rw (ap₂ first_of_equals x.sum y.sum) (go (first_of_equals d.sum d'.sum))
     where
       go : (t : Bool) → For (cond t c' c) (cond t d' d)
       go true = y
       go false = x
 
-  pub sums-small : SmallSums (entry rows (r - 2) a b) (entry rows (r - 2) a (b + 1))
+  pub sums_small : SmallSums (entry rows (r - 2) a b) (entry rows (r - 2) a (b + 1))
       (entry rows (r - 2) (a + 1) b) (entry rows (r - 2) (a + 1) (b + 1))
-  sums-small =
+  sums_small =
       record {
         one = simp add-zero at (small_at 0 0 (omega arith) (omega arith));
         two = simp add-zero at (small_at 0 1 (omega arith) (omega arith));
@@ -162,43 +162,43 @@ module _ (p : List ℤ) (r a b : ℕ) (h : MacroblockAsked p r a b) where
       (e₀ : c₀ ≡ block_of r rows a b) (e₁ : c₁ ≡ block_of r rows a (b + 1))
       (e₂ : c₂ ≡ block_of r rows (a + 1) b) (e₃ : c₃ ≡ block_of r rows (a + 1) (b + 1)) where
     fit : FourFit c₀.sum c₁.sum c₂.sum c₃.sum
-    fit = rw (e₀, e₁, e₂, e₃) (sums-fit _ _ _ _ sums-small)
+    fit = rw (e₀, e₁, e₂, e₃) (sums_fit _ _ _ _ sums_small)
 
     -- their sums as words
-    pub sums-asked : SmallSums (to_z w64 (of_z w64 c₀.sum)) (to_z w64 (of_z w64 c₁.sum))
+    pub sums_asked : SmallSums (to_z w64 (of_z w64 c₀.sum)) (to_z w64 (of_z w64 c₁.sum))
         (to_z w64 (of_z w64 c₂.sum)) (to_z w64 (of_z w64 c₃.sum))
-    sums-asked =
+    sums_asked =
         rw (to_z-of_z fit.first, to_z-of_z fit.second, to_z-of_z fit.third, to_z-of_z fit.fourth)
-        (rw (e₀, e₁, e₂, e₃) sums-small)
+        (rw (e₀, e₁, e₂, e₃) sums_small)
 
-    for-largest : For (largestOf c₀ c₁ c₂ c₃) (largest firstOfEquals (blockSums r rows (a, b)) 0 0)
-    unfolding largestOf largest
-    for-largest =
-        for-better _ _ _ _
-        (for-better _ _ _ _
-        (for-better _ _ _ _ (rw e₀ (simp add-zero at (for-at 0 0))) (rw e₁ (simp add-zero at (for-at 0 1))))
-        (rw e₂ (simp add-zero at (for-at 1 0))))
-        (rw e₃ (for-at 1 1))
+    for_largest : For (largest_of c₀ c₁ c₂ c₃) (largest first_of_equals (block_sums r rows (a, b)) 0 0)
+    unfolding largest_of largest
+    for_largest =
+        for_better _ _ _ _
+        (for_better _ _ _ _
+        (for_better _ _ _ _ (rw e₀ (simp add-zero at (for_at 0 0))) (rw e₁ (simp add-zero at (for_at 0 1))))
+        (rw e₂ (simp add-zero at (for_at 1 0))))
+        (rw e₃ (for_at 1 1))
 
-    whole_sum : c₀.sum +ℤ c₁.sum +ℤ c₂.sum +ℤ c₃.sum ≡ macroblockSum r rows (a, b)
-    unfolding macroblockSum four blockSums
+    whole_sum : c₀.sum +ℤ c₁.sum +ℤ c₂.sum +ℤ c₃.sum ≡ macroblock_sum r rows (a, b)
+    unfolding macroblock_sum four block_sums
     whole_sum = rw (e₀, e₁, e₂, e₃, add-zero a, add-zero b)
 
     pub seen : (due : Bool) (best : Block)
         → due
-        ≡ le_z (pos halfDot)
+        ≡ le_z (pos half_dot)
         (to_z w64 (of_z w64 c₀.sum) +ℤ to_z w64 (of_z w64 c₁.sum)
         +ℤ to_z w64 (of_z w64 c₂.sum) +ℤ to_z w64 (of_z w64 c₃.sum))
-        → best ≡ largestOf c₀ c₁ c₂ c₃
+        → best ≡ largest_of c₀ c₁ c₂ c₃
         → Seen r rows a b due best.row best.column best.at
     seen due best ed eb =
         rw eb
         (record {
-          due-is = words ∙ ap (le_z (pos halfDot)) whole_sum;
-          row_is = for-largest.row;
-          column-is = for-largest.column;
-          place_is = for-largest.place;
+          due_is = words ∙ ap (le_z (pos half_dot)) whole_sum;
+          row_is = for_largest.row;
+          column_is = for_largest.column;
+          place_is = for_largest.place;
         })
       where
-        words : due ≡ le_z (pos halfDot) (c₀.sum +ℤ c₁.sum +ℤ c₂.sum +ℤ c₃.sum)
+        words : due ≡ le_z (pos half_dot) (c₀.sum +ℤ c₁.sum +ℤ c₂.sum +ℤ c₃.sum)
         words = ed ∙ rw (to_z-of_z fit.first, to_z-of_z fit.second, to_z-of_z fit.third, to_z-of_z fit.fourth) refl

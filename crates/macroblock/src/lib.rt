@@ -3,14 +3,14 @@
 // quarters; what is read of it is said of the pyramid written row after row.
 ghost use Rattle.std.specs.Prelude.{◌≡◌, ◌&&◌, ◌≤◌, ◌<◌, length, pos, ◌+ℤ◌};
 ghost use Rattle.std.specs.Int.Signed.{le_z};
-ghost use Rattle.definition.specs.Pyramid.{halfDot, needed};
+ghost use Rattle.definition.specs.Pyramid.{half_dot, needed};
 ghost use Rattle.definition.specs.Quarters.{rows_from};
-ghost use Rattle.definition.specs.Diffusion.{kernelOf};
+ghost use Rattle.definition.specs.Diffusion.{kernel_of};
 ghost use Rattle.places.specs.Table.{places};
 ghost use Rattle.heads.specs.TwoHeads.{clear, work};
 ghost use Rattle.head_order.specs.Promise.{Fits};
 ghost use Rattle.macroblock.specs.FourBlocks.{BlockAsked, MacroblockAsked, LargeSheet, SmallSums};
-ghost use Rattle.macroblock.specs.FourBlocks.{block_of, betterOf, largestOf, Seen};
+ghost use Rattle.macroblock.specs.FourBlocks.{block_of, better_of, largest_of, Seen};
 
 // From this sum on a macroblock burns a cell.
 const HALF_DOT: i64 = 32640;
@@ -52,7 +52,7 @@ fn block_at(pyramid: &[i64], table: &[u16; 1024], r: usize, a: usize, b: usize) 
 
 // The next one where it owes more, else the best so far: the first of equals.
 fn better(best: Block, next: Block) -> Block
-    ensures { result ≡ betterOf best next }
+    ensures { result ≡ better_of best next }
 {
     let most = best.sum;
     let sum = next.sum;
@@ -61,7 +61,7 @@ fn better(best: Block, next: Block) -> Block
 
 // Of four blocks, one that owes most: the first of equals.
 fn largest(first: Block, second: Block, third: Block, fourth: Block) -> Block
-    ensures { result ≡ largestOf first second third fourth }
+    ensures { result ≡ largest_of first second third fourth }
 {
     let two = better(first, second);
     let three = better(two, third);
@@ -71,7 +71,7 @@ fn largest(first: Block, second: Block, third: Block, fourth: Block) -> Block
 // Whether four blocks that owe so much burn a cell.
 fn is_due(first: i64, second: i64, third: i64, fourth: i64) -> bool
     requires { SmallSums first second third fourth }
-    ensures { result ≡ le_z (pos halfDot) (first +ℤ second +ℤ third +ℤ fourth) }
+    ensures { result ≡ le_z (pos half_dot) (first +ℤ second +ℤ third +ℤ fourth) }
 {
     HALF_DOT <= first + second + third + fourth
 }
@@ -154,7 +154,7 @@ pub fn work(
       order = order.new;
       dots = result;
     }
-        ≡ work (kernelOf knit) r
+        ≡ work (kernel_of knit) r
         (record {
           pyramid = rows_from r pyramid.entry.now;
           serials = serials.old;

@@ -1,14 +1,14 @@
 // Map texts: Map Text, which reads one (`map_text`); the writer (`put_map`); and Lower Text (`lower_text`), which
 // lowers the greys of a text to 240 and writes the one text of them.
 ghost use Rattle.std.specs.Prelude.{◌≡◌, ◌^◌, ◌≤◌, length};
-ghost use Rattle.definition.specs.Answers.{mapTextSays, textSays};
-ghost use Rattle.definition.specs.MapText.{mapText, mapTextOf};
-ghost use Rattle.definition.specs.LowerText.{lowerTextOf};
+ghost use Rattle.definition.specs.Answers.{map_text_says, text_says};
+ghost use Rattle.definition.specs.MapText.{map_text, map_text_of};
+ghost use Rattle.definition.specs.LowerText.{lower_text_of};
 ghost use Rattle.decimals.specs.Writing.{Wrote};
 ghost use Rattle.text_cells.specs.Cells.{CellsAsked};
 ghost use Rattle.text_cells.specs.FirstLine.{GoodSide};
 ghost use Rattle.map_text.specs.WaysOut.{GreysStored};
-ghost use Rattle.map_text.specs.Written.{MapLent, greysText, LoweredPut};
+ghost use Rattle.map_text.specs.Written.{MapLent, greys_text, LoweredPut};
 
 use definition::{MapTextAnswer, Refusal, TextAnswer};
 use text_cells::{Cells, FirstLine};
@@ -26,8 +26,8 @@ fn store_greys(text: &[u8], from: usize, side: usize, most: u32, greys: &mut [u8
 // The greys behind a first line that says a good side: tested, then stored.
 fn read_map(text: &[u8], from: usize, side: u32, greys: &mut [u8]) -> MapTextAnswer
     requires { GoodSide text.now (length greys.old) side from }
-    ensures { record { said = mapTextSays result; greys = greys.new }
-        ≡ mapTextOf text.now greys.old }
+    ensures { record { said = map_text_says result; greys = greys.new }
+        ≡ map_text_of text.now greys.old }
 {
     let n = side as usize;
     let found = text_cells::find_cells(text, from, n, false, 240);
@@ -40,8 +40,8 @@ fn read_map(text: &[u8], from: usize, side: u32, greys: &mut [u8]) -> MapTextAns
 
 // Map Text (S 9.1), with its refusals in order (S 5.2).
 pub fn map_text(text: &[u8], greys: &mut [u8]) -> MapTextAnswer
-    ensures { record { said = mapTextSays result; greys = greys.new }
-        ≡ mapTextOf text.now greys.old }
+    ensures { record { said = map_text_says result; greys = greys.new }
+        ≡ map_text_of text.now greys.old }
 {
     match text_cells::first_line(text, greys.len()) {
         FirstLine::Refused(why) => MapTextAnswer::Refused(why),
@@ -53,7 +53,7 @@ pub fn map_text(text: &[u8], greys: &mut [u8]) -> MapTextAnswer
 fn put_greys(out: &mut [u8], from: usize, side: usize, greys: &[u8]) -> usize
     requires { (from ≤ 2 ^ 61) × MapLent side (length greys.now) }
     ensures { Wrote out.old from
-        (greysText side greys.now (length greys.now)) result out.new }
+        (greys_text side greys.now (length greys.now)) result out.new }
 {
     let mut at = from;
     let mut i = 0;
@@ -67,7 +67,7 @@ fn put_greys(out: &mut [u8], from: usize, side: usize, greys: &[u8]) -> usize
 // The one text of a map (S 6.2), as far as the buffer has places; returns its length.
 pub fn put_map(out: &mut [u8], side: usize, greys: &[u8]) -> usize
     requires { MapLent side (length greys.now) }
-    ensures { Wrote out.old 0 (mapText side greys.now) result out.new }
+    ensures { Wrote out.old 0 (map_text side greys.now) result out.new }
 {
     let at = decimals::put_field(out, 0, side as u64, 10);
     put_greys(out, at, side, greys)
@@ -91,8 +91,8 @@ fn lower_map(
     output: &mut [u8],
 ) -> TextAnswer
     requires { GoodSide text.now (length greys.old) side from }
-    ensures { record { said = textSays result; greys = greys.new; output = output.new }
-        ≡ lowerTextOf text.now greys.old output.old }
+    ensures { record { said = text_says result; greys = greys.new; output = output.new }
+        ≡ lower_text_of text.now greys.old output.old }
 {
     let cells = side * side;
     let there = text_cells::find_cells(text, from, side, false, 255);
@@ -110,8 +110,8 @@ fn lower_map(
 
 // Lower Text (S 9.2), with its refusals in order (S 5.2).
 pub fn lower_text(text: &[u8], greys: &mut [u8], output: &mut [u8]) -> TextAnswer
-    ensures { record { said = textSays result; greys = greys.new; output = output.new }
-        ≡ lowerTextOf text.now greys.old output.old }
+    ensures { record { said = text_says result; greys = greys.new; output = output.new }
+        ≡ lower_text_of text.now greys.old output.old }
 {
     match text_cells::first_line(text, greys.len()) {
         FirstLine::Refused(why) => TextAnswer::Refused(why),

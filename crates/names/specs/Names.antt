@@ -1,5 +1,5 @@
--- The tests of a name (`name-is`, `name-not`), and what follows from there being a way back to one (`name-kept`,
--- `kept-within`).
+-- The tests of a name (`name_is`, `name_not`), and what follows from there being a way back to one (`name_kept`,
+-- `kept_within`).
 use Rattle.std.specs.Prelude.{◌≡◌, refl, Bool}
 use Rattle.std.proofs.Common.{sym, ◌∙◌, true≢false}
 use Rattle.std.proofs.Math.Bool.{true, false}
@@ -7,57 +7,57 @@ use Prim.Native.Nat.{ℕ, zero, suc, ◌-◌, ◌≤◌, ◌<◌}
 use native.Mathlib.Omega.{arith}
 use Rattle.std.proofs.Math.Dec.{leb}
 use borrow.Author.Tests.{le-leb, lt-leb, leb-true}
-use Rattle.definition.specs.Checkpoints.{isName, kept_at, canRestore}
+use Rattle.definition.specs.Checkpoints.{is_name, kept_at, can_restore}
 use Rattle.definition.specs.declared.Checkpoints.{Checkpoints}
-use Rattle.refusals.specs.Names.{both, at_least_one, at-most-eight}
+use Rattle.refusals.specs.Names.{both, at_least_one, at_most_eight}
 
 -- ---- names
-pub below_one : (name : ℕ) → name < 1 → false ≡ isName name
-unfolding isName
+pub below_one : (name : ℕ) → name < 1 → false ≡ is_name name
+unfolding is_name
 below_one name h = rw (lt-leb 1 name h)
 
-pub from_one : (name : ℕ) → 1 ≤ name → leb name 8 ≡ isName name
-unfolding isName
+pub from_one : (name : ℕ) → 1 ≤ name → leb name 8 ≡ is_name name
+unfolding is_name
 from_one name h = rw (le-leb 1 name h)
 
 -- what the code's test told
-module _ (name : ℕ) {b : Bool} (e : b ≡ isName name) where
-  pub name-is : b ≡ true → isName name ≡ true
-  name-is yes' = sym e ∙ yes'
+module _ (name : ℕ) {b : Bool} (e : b ≡ is_name name) where
+  pub name_is : b ≡ true → is_name name ≡ true
+  name_is yes' = sym e ∙ yes'
 
-  pub name-not : b ≡ false → isName name ≡ false
-  name-not no' = sym e ∙ no'
+  pub name_not : b ≡ false → is_name name ≡ false
+  name_not no' = sym e ∙ no'
 
 -- the place of a name among the eight
-pub place-in : (name : ℕ) → isName name ≡ true → name - 1 < 8
-place-in name e = omega (arith, at_least_one name e, at-most-eight name e)
+pub place_in : (name : ℕ) → is_name name ≡ true → name - 1 < 8
+place_in name e = omega (arith, at_least_one name e, at_most_eight name e)
 
 -- ---- whether there is a way back to a name; n is what the code has read under it
 module _ (checkpoints : Checkpoints) (name total : ℕ) where
-  pub no_name : isName name ≡ false → false ≡ canRestore checkpoints name total
-  unfolding canRestore
+  pub no_name : is_name name ≡ false → false ≡ can_restore checkpoints name total
+  unfolding can_restore
   no_name e = rw e
 
-  module _ (is : isName name ≡ true) {n : ℕ} (en : n ≡ kept_at checkpoints name) where
-    pub name-empty : n ≡ 0 → false ≡ canRestore checkpoints name total
-    unfolding canRestore
-    name-empty z = rw (is, ← en, z, canRestore)
+  module _ (is : is_name name ≡ true) {n : ℕ} (en : n ≡ kept_at checkpoints name) where
+    pub name_empty : n ≡ 0 → false ≡ can_restore checkpoints name total
+    unfolding can_restore
+    name_empty z = rw (is, ← en, z, can_restore)
 
-    pub name-kept : (n ≡ 0 → ⊥) → leb (n - 1) total ≡ canRestore checkpoints name total
-    unfolding canRestore
-    name-kept some = go n en some
+    pub name_kept : (n ≡ 0 → ⊥) → leb (n - 1) total ≡ can_restore checkpoints name total
+    unfolding can_restore
+    name_kept some = go n en some
       where
         go : (m : ℕ) → m ≡ kept_at checkpoints name → (m ≡ 0 → ⊥)
-            → leb (m - 1) total ≡ canRestore checkpoints name total
+            → leb (m - 1) total ≡ can_restore checkpoints name total
         go zero e h = absurd (h refl)
-        go (suc d) e h = let z : suc d - 1 ≡ d = omega arith in rw (is, ← e, canRestore, z)
+        go (suc d) e h = let z : suc d - 1 ≡ d = omega arith in rw (is, ← e, can_restore, z)
 
   -- what follows from there being one
-  pub kept-within : canRestore checkpoints name total ≡ true
-      → (isName name ≡ true) × (1 ≤ kept_at checkpoints name) × (kept_at checkpoints name - 1 ≤ total)
-  unfolding canRestore
-  kept-within e =
-      let h = both (isName name) _ e in
+  pub kept_within : can_restore checkpoints name total ≡ true
+      → (is_name name ≡ true) × (1 ≤ kept_at checkpoints name) × (kept_at checkpoints name - 1 ≤ total)
+  unfolding can_restore
+  kept_within e =
+      let h = both (is_name name) _ e in
       let k = go (kept_at checkpoints name) h.1 in
       (h.0, k.0, k.1)
     where

@@ -1,6 +1,6 @@
 -- What the functions of this crate are asked (`DotAsked`, `PlaceAtAsked`, `NoteAsked`).
 use Rattle.std.specs.Prelude.{ℕ, ◌^◌, ◌≤◌, ◌<◌, pos, ◌≤ℤ◌, ◌<ℤ◌}
-use Rattle.definition.specs.Pyramid.{halfDot, entry}
+use Rattle.definition.specs.Pyramid.{half_dot, entry}
 use Rattle.definition.specs.Model.{Halftone, top_of}
 use Rattle.dots.specs.Steps.{Sheet}
 
@@ -9,7 +9,7 @@ pub record DotAsked (r : ℕ) (s : Halftone) : Type 0 where
   pub power : 1 ≤ r
   pub small : r ≤ 8
   pub sheet : Sheet r s
-  pub due : pos halfDot ≤ℤ top_of s.pyramid
+  pub due : pos half_dot ≤ℤ top_of s.pyramid
 
 -- a sound sheet of just the needed lengths, and a cell of it that owes something
 pub record PlaceAtAsked (r : ℕ) (s : Halftone) (row column : ℕ) : Type 0 where
@@ -23,6 +23,6 @@ pub record PlaceAtAsked (r : ℕ) (s : Halftone) (row column : ℕ) : Type 0 whe
 -- a cell and a number that there are places for
 pub record NoteAsked (serials order at dots : ℕ) : Type 0 where
   pub at_in : at < serials
-  pub dots-in : dots < order
+  pub dots_in_lem : dots < order
   pub at_most : at < 65536
-  pub dots-most : dots < 65536
+  pub dots_most : dots < 65536

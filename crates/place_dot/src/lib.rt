@@ -3,8 +3,8 @@
 ghost use Rattle.std.specs.Prelude.{◌≡◌, ◌+◌, length, set};
 ghost use Rattle.definition.specs.Pyramid.{needed};
 ghost use Rattle.definition.specs.Quarters.{rows_from};
-ghost use Rattle.definition.specs.Diffusion.{kernelOf};
-ghost use Rattle.definition.specs.Model.{placeDot, step};
+ghost use Rattle.definition.specs.Diffusion.{kernel_of};
+ghost use Rattle.definition.specs.Model.{place_dot, step};
 ghost use Rattle.places.specs.Table.{places};
 ghost use Rattle.place_dot.specs.DotDue.{NoteAsked, PlaceAtAsked, DotAsked};
 
@@ -42,7 +42,7 @@ pub fn place_at(
       order = order.new;
       dots = dots + 1;
     }
-        ≡ placeDot (kernelOf knit) r
+        ≡ place_dot (kernel_of knit) r
         (record {
           pyramid = rows_from r pyramid.entry.now;
           serials = serials.old;
@@ -84,7 +84,7 @@ pub fn place_dot(
       order = order.new;
       dots = dots + 1;
     }
-        ≡ step (kernelOf knit) r
+        ≡ step (kernel_of knit) r
         (record {
           pyramid = rows_from r pyramid.entry.now;
           serials = serials.old;

@@ -1,33 +1,33 @@
--- The table of places, as the rule has it (`places`, `lent-place`): `table`'s proof computes all 1,024 of them and
--- compares. It is a permutation (`table-once`): its 1,024 numbers are each number below 1,024, once.
+-- The table of places, as the rule has it (`places`, `lent_place`): `table`'s proof computes all 1,024 of them and
+-- compares. It is a permutation (`table_once`): its 1,024 numbers are each number below 1,024, once.
 use Rattle.std.specs.Prelude.{◌≡◌, refl, List, ℕ, ◌+◌, ◌*◌, ◌/◌, ◌%◌, ◌<◌, length, get_or}
 use Rattle.std.proofs.Common.{sym, ap, ◌∙◌, arith}
 use Rattle.definition.specs.Lists.{tabulate}
-use Rattle.definition.specs.Quarters.{interleaved, row_of, columnOf}
-use Rattle.integers.specs.Lists.{length-tabulate, get_d_tabulate}
+use Rattle.definition.specs.Quarters.{interleaved, row_of, column_of}
+use Rattle.integers.specs.Lists.{length_tabulate, get_d_tabulate}
 use Rattle.layouts.specs.Interleaved.{
-  interleaved-lt,
-  row-interleaved,
-  column-interleaved,
-  interleaved-of,
-  row-of-lt,
-  column-of-lt,
+  interleaved_lt,
+  row_interleaved,
+  column_interleaved,
+  interleaved_of,
+  row_of_lt,
+  column_of_lt,
 }
 
 unfoldable pub places : List ℕ
 places = tabulate 1024 (λ i. interleaved 5 (i / 32) (i % 32))
 
 -- the rule at each entry
-pub lent-place : {t : List ℕ} → t ≡ places → (a b : ℕ) → a < 32 → b < 32
+pub lent_place : {t : List ℕ} → t ≡ places → (a b : ℕ) → a < 32 → b < 32
     → get_or t (a * 32 + b) 0 ≡ interleaved 5 a b
 unfolding places
-lent-place e a b p q =
+lent_place e a b p q =
     let u : (a * 32 + b) / 32 ≡ a = omega arith in
     let v : (a * 32 + b) % 32 ≡ b = omega arith in
     rw (e, get_d_tabulate 1024 (λ i. interleaved 5 (i / 32) (i % 32)) (a * 32 + b) 0 (omega arith), u, v)
 
-pub lent-small : {t : List ℕ} → t ≡ places → (a b : ℕ) → a < 32 → b < 32 → get_or t (a * 32 + b) 0 < 1024
-lent-small e a b p q = omega (arith, lent-place e a b p q, interleaved-lt 5 a b)
+pub lent_small : {t : List ℕ} → t ≡ places → (a b : ℕ) → a < 32 → b < 32 → get_or t (a * 32 + b) 0 < 1024
+lent_small e a b p q = omega (arith, lent_place e a b p q, interleaved_lt 5 a b)
 
 -- ---- the table is a permutation
 -- a list has this number in it
@@ -47,18 +47,18 @@ at_entry : (i : ℕ) → i < 1024 → get_or places i 0 ≡ interleaved 5 (i / 3
 unfolding places
 at_entry i h = get_d_tabulate 1024 (λ i. interleaved 5 (i / 32) (i % 32)) i 0 h
 
-places-many : length places ≡ 1024
+places_many : length places ≡ 1024
 unfolding places
-places-many = length-tabulate 0 1024 (λ i. interleaved 5 (i / 32) (i % 32))
+places_many = length_tabulate 0 1024 (λ i. interleaved 5 (i / 32) (i % 32))
 
 has : (v : ℕ) → v < 1024 → Has places v
 has v h =
-    let p : row_of 5 v < 32 = row-of-lt 5 v in
-    let q : columnOf 5 v < 32 = column-of-lt 5 v in
+    let p : row_of 5 v < 32 = row_of_lt 5 v in
+    let q : column_of 5 v < 32 = column_of_lt 5 v in
     record {
-      place = row_of 5 v * 32 + columnOf 5 v;
-      inside = omega (arith, places-many);
-      is = lent-place refl (row_of 5 v) (columnOf 5 v) p q ∙ interleaved-of 5 v h;
+      place = row_of 5 v * 32 + column_of 5 v;
+      inside = omega (arith, places_many);
+      is = lent_place refl (row_of 5 v) (column_of 5 v) p q ∙ interleaved_of 5 v h;
     }
 
 apart : (i j : ℕ) → i < 1024 → j < 1024 → get_or places i 0 ≡ get_or places j 0 → i ≡ j
@@ -66,19 +66,19 @@ apart i j p q e =
     let same : interleaved 5 (i / 32) (i % 32) ≡ interleaved 5 (j / 32) (j % 32) =
     sym (at_entry i p) ∙ e ∙ at_entry j q in
     let row : i / 32 ≡ j / 32 =
-    sym (row-interleaved 5 (i / 32) (i % 32) (omega arith)) ∙ ap (row_of 5) same
-    ∙ row-interleaved 5 (j / 32) (j % 32) (omega arith) in
+    sym (row_interleaved 5 (i / 32) (i % 32) (omega arith)) ∙ ap (row_of 5) same
+    ∙ row_interleaved 5 (j / 32) (j % 32) (omega arith) in
     let column : i % 32 ≡ j % 32 =
-    sym (column-interleaved 5 (i / 32) (i % 32) (omega arith)) ∙ ap (columnOf 5) same
-    ∙ column-interleaved 5 (j / 32) (j % 32) (omega arith) in
+    sym (column_interleaved 5 (i / 32) (i % 32) (omega arith)) ∙ ap (column_of 5) same
+    ∙ column_interleaved 5 (j / 32) (j % 32) (omega arith) in
     omega (arith, row, column)
 
 -- the fixed table of 1,024 places (S 2.5, S 15.14)
-pub table-once : EachOnce 1024 places
-table-once =
+pub table_once : EachOnce 1024 places
+table_once =
     record {
-      many = places-many;
-      below = λ i h. omega (arith, at_entry i h, interleaved-lt 5 (i / 32) (i % 32));
+      many = places_many;
+      below = λ i h. omega (arith, at_entry i h, interleaved_lt 5 (i / 32) (i % 32));
       all = has;
       once = apart;
     }

@@ -3,7 +3,7 @@
 ghost use Rattle.std.specs.Prelude.{◌≡◌, ◌+◌, ◌-◌, ◌<◌, min};
 ghost use Rattle.definition.specs.Quarters.{interleaved};
 ghost use Rattle.places.specs.Table.{places};
-ghost use Rattle.places.specs.Parts.{partsAround, AroundAsked};
+ghost use Rattle.places.specs.Parts.{parts_around, AroundAsked};
 
 // The places of 32 by 32 entries, by row then column.
 const PLACES: [u16; 1024] = [
@@ -143,7 +143,7 @@ pub struct Parts {
 pub fn parts_around(table: &[u16; 1024], side: usize, row: usize, column: usize) -> Parts
     requires table_value { table.now ≡ places }
     requires around_asked { AroundAsked side row column }
-    ensures { result ≡ partsAround side row column }
+    ensures { result ≡ parts_around side row column }
 {
     Parts {
         above: row_part(table, before(row)),

@@ -1,16 +1,16 @@
 // Two plates of one side compared by their burnt cells (`compare_plates`): by their counts, and where these agree by
 // the first cell at which they differ.
 ghost use Rattle.std.specs.Prelude.{◌≡◌, cond, ltb, length};
-ghost use Rattle.definition.specs.Pyramid.{cellCount};
-ghost use Rattle.definition.specs.Answers.{comparison, beforeAt, after_at, compareSays};
-ghost use Rattle.definition.specs.Shelf.{pattern, firstDifference, compared};
+ghost use Rattle.definition.specs.Pyramid.{cell_count};
+ghost use Rattle.definition.specs.Answers.{comparison, before_at, after_at, compare_says};
+ghost use Rattle.definition.specs.Shelf.{pattern, first_difference, compared};
 ghost use Rattle.plate_order.specs.TwoPlates.{PlatesAsked};
 
 use definition::CompareAnswer;
 
 // Of two plates with the marks x and y at a cell where they differ, the one that is unburnt there comes first.
 fn differ_at(x: u32, y: u32, row: u32, column: u32) -> CompareAnswer
-    ensures { compareSays result ≡ comparison (cond (ltb x y) (beforeAt row column) (after_at row column)) }
+    ensures { compare_says result ≡ comparison (cond (ltb x y) (before_at row column) (after_at row column)) }
 {
     if x < y {
         return CompareAnswer::BeforeAt(row, column);
@@ -21,8 +21,8 @@ fn differ_at(x: u32, y: u32, row: u32, column: u32) -> CompareAnswer
 // The first cell, row by row and in a row column by column, at which one plate is burnt and the other isn't (S 11.1).
 fn first_difference(left: &[u32], right: &[u32], r: usize) -> CompareAnswer
     requires { PlatesAsked (length left.now) (length right.now) r }
-    ensures { compareSays result
-        ≡ comparison (firstDifference r (cellCount r) 0 (pattern left.now) (pattern right.now)) }
+    ensures { compare_says result
+        ≡ comparison (first_difference r (cell_count r) 0 (pattern left.now) (pattern right.now)) }
 {
     let side = sizes::pow2(r);
     let mut found = CompareAnswer::Same;
@@ -47,7 +47,7 @@ fn first_difference(left: &[u32], right: &[u32], r: usize) -> CompareAnswer
 // How the left of two plates stands to the right one (S 11.1).
 pub fn compare_plates(left: &[u32], right: &[u32], r: usize) -> CompareAnswer
     requires { PlatesAsked (length left.now) (length right.now) r }
-    ensures { compareSays result ≡ comparison (compared r left.now right.now) }
+    ensures { compare_says result ≡ comparison (compared r left.now right.now) }
 {
     let m = blocks::block_dots(left, r, 0, 0, 0);
     let n = blocks::block_dots(right, r, 0, 0, 0);

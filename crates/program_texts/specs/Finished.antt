@@ -1,5 +1,5 @@
 -- A map of at most 1,024 cells (`MapAsked`), loaded and run with a budget of 1,024 holes or more: the buffers then
--- begin with its finished sheet (`finished-sheet`, `map-finished`).
+-- begin with its finished sheet (`finished_sheet`, `map_finished`).
 use Rattle.std.specs.Prelude.{◌≡◌, true, List, ◌++◌, length, drop, ℤ}
 use Rattle.std.proofs.Math.Path.{sym, ap}
 use Rattle.std.proofs.Common.{◌∙◌, append-nil, arith, pow_mono, drop_of_length-le, take_all}
@@ -7,81 +7,81 @@ use Prim.Native.Nat.{ℕ, ◌^◌, ◌≤◌, ◌<◌, min}
 use Rattle.std.proofs.Math.ListN.{length-append}
 use borrow.Author.Tests.{le-ltb}
 use Rattle.definition.specs.Answers.{Said}
-use Rattle.definition.specs.Pyramid.{needed, cellCount}
-use Rattle.definition.specs.Diffusion.{plain, kernelOf}
-use Rattle.definition.specs.Model.{Halftone, top_of, modelStart, steps}
-use Rattle.definition.specs.Refusals.{powerOf, lowest}
-use Rattle.definition.specs.Load.{lowMap}
-use Rattle.definition.specs.Quarters.{quartersFrom}
-use Rattle.definition.specs.ByQuarters.{loadByQuarters, advanceByQuarters}
-use Rattle.definition.specs.Advance.{Reply, AdvanceOutcome, dotsDue}
-use Rattle.definition.specs.AdvanceList.{Call, Held, heldAfterLoad, call_of, heldAfter, modelRefusal}
-use Rattle.definition.specs.Plate.{finishedOf}
+use Rattle.definition.specs.Pyramid.{needed, cell_count}
+use Rattle.definition.specs.Diffusion.{plain, kernel_of}
+use Rattle.definition.specs.Model.{Halftone, top_of, model_start, steps}
+use Rattle.definition.specs.Refusals.{power_of, lowest}
+use Rattle.definition.specs.Load.{low_map}
+use Rattle.definition.specs.Quarters.{quarters_from}
+use Rattle.definition.specs.ByQuarters.{load_by_quarters, advance_by_quarters}
+use Rattle.definition.specs.Advance.{Reply, AdvanceOutcome, dots_due}
+use Rattle.definition.specs.AdvanceList.{Call, Held, held_after_load, call_of, held_after, model_refusal}
+use Rattle.definition.specs.Plate.{finished_of}
 use Rattle.definition.specs.declared.Progress.{Progress}
-use Rattle.refusals.specs.Powers.{side-pow}
-use Rattle.refusals.specs.Lowest.{LoadLent, load-none}
-use Rattle.layouts.specs.Relaid.{length-quarters}
-use Rattle.shares.specs.Kernels.{knit-fit}
-use Rattle.dots.specs.Steps.{Sheet, steps-sheet, steps-made, steps-min}
+use Rattle.refusals.specs.Powers.{side_pow}
+use Rattle.refusals.specs.Lowest.{LoadLent, load_none}
+use Rattle.layouts.specs.Relaid.{length_quarters}
+use Rattle.shares.specs.Kernels.{knit_fit}
+use Rattle.dots.specs.Steps.{Sheet, steps_sheet, steps_made, steps_min}
 use Rattle.guarantee.specs.Lent.{held_of}
-use Rattle.guarantee.specs.OneCall.{model-taken, held_same}
-use Rattle.guarantee.specs.Start.{Loaded, loaded-held}
+use Rattle.guarantee.specs.OneCall.{model_taken, held_same}
+use Rattle.guarantee.specs.Start.{Loaded, loaded_held}
 
 -- the finished sheet of a map, in buffers that went on behind the needed lengths as p, s and o do
-abbrev pub finishedIn : ℕ → List ℕ → List ℤ → List ℕ → List ℕ → Held
-finishedIn r greys p s o =
-    held_of plain r (finishedOf plain r greys) (drop (needed r) p) (drop (cellCount r) s) (drop (cellCount r) o)
+abbrev pub finished_in : ℕ → List ℕ → List ℤ → List ℕ → List ℕ → Held
+finished_in r greys p s o =
+    held_of plain r (finished_of plain r greys) (drop (needed r) p) (drop (cell_count r) s) (drop (cell_count r) o)
 
 -- a side of at most 32, low greys from which the model starts with a sound sheet, and the lengths of the three buffers
 pub record MapAsked (side : ℕ) (greys : List ℕ) (pyramid serials order : ℕ) : Type 0 where
-  pub few : cellCount (powerOf side) ≤ 1024
-  pub lent : LoadLent (powerOf side) plain (length greys) pyramid serials order
-  pub low : lowMap (powerOf side) greys ≡ true
-  pub start : Sheet (powerOf side) (modelStart (powerOf side) greys)
+  pub few : cell_count (power_of side) ≤ 1024
+  pub lent : LoadLent (power_of side) plain (length greys) pyramid serials order
+  pub low : low_map (power_of side) greys ≡ true
+  pub start : Sheet (power_of side) (model_start (power_of side) greys)
 
-pub power-again : (side : ℕ) → 0 < powerOf side → powerOf (2 ^ powerOf side) ≡ powerOf side
-power-again side h = ap powerOf (sym (side-pow side h))
+pub power_again : (side : ℕ) → 0 < power_of side → power_of (2 ^ power_of side) ≡ power_of side
+power_again side h = ap power_of (sym (side_pow side h))
 
 -- ---- the holes due are no more than there are cells, so a budget of that many makes them all
-module _ (r : ℕ) (big : 2 ≤ 2 ^ r) (greys : List ℕ) (start : Sheet r (modelStart r greys)) where
+module _ (r : ℕ) (big : 2 ≤ 2 ^ r) (greys : List ℕ) (start : Sheet r (model_start r greys)) where
   abbrev due : ℕ
-  due = dotsDue (top_of (modelStart r greys).pyramid)
+  due = dots_due (top_of (model_start r greys).pyramid)
 
-  due-few : due ≤ cellCount r
-  due-few =
-      let fresh = modelStart r greys in
-      let made = steps-made (kernelOf plain) (knit-fit plain) r big due fresh start in
-      omega (arith, made, (steps-sheet (kernelOf plain) (knit-fit plain) r big due fresh start).sound.few-dots)
+  due_few : due ≤ cell_count r
+  due_few =
+      let fresh = model_start r greys in
+      let made = steps_made (kernel_of plain) (knit_fit plain) r big due fresh start in
+      omega (arith, made, (steps_sheet (kernel_of plain) (knit_fit plain) r big due fresh start).sound.few_dots_lem)
 
-  finished-steps : (budget : ℕ) → cellCount r ≤ budget
-      → steps (kernelOf plain) r budget (modelStart r greys) ≡ finishedOf plain r greys
-  unfolding finishedOf
-  finished-steps budget h =
-      let z : min budget due ≡ due = omega (arith, due-few) in
-      sym (steps-min (kernelOf plain) (knit-fit plain) r big budget (modelStart r greys) start)
-      ∙ ap (λ (n : ℕ). steps (kernelOf plain) r n (modelStart r greys)) z
+  finished_steps : (budget : ℕ) → cell_count r ≤ budget
+      → steps (kernel_of plain) r budget (model_start r greys) ≡ finished_of plain r greys
+  unfolding finished_of
+  finished_steps budget h =
+      let z : min budget due ≡ due = omega (arith, due_few) in
+      sym (steps_min (kernel_of plain) (knit_fit plain) r big budget (model_start r greys) start)
+      ∙ ap (λ (n : ℕ). steps (kernel_of plain) r n (model_start r greys)) z
 
-  pub finished-sheet : Sheet r (finishedOf plain r greys)
-  unfolding finishedOf
-  finished-sheet = steps-sheet (kernelOf plain) (knit-fit plain) r big due (modelStart r greys) start
+  pub finished_sheet : Sheet r (finished_of plain r greys)
+  unfolding finished_of
+  finished_sheet = steps_sheet (kernel_of plain) (knit_fit plain) r big due (model_start r greys) start
 
 -- ---- a call that is lent the whole buffers
-abbrev wholeCall : Held → ℕ → Call
-wholeCall held budget =
+abbrev whole_call : Held → ℕ → Call
+whole_call held budget =
     record {
       budget = budget;
-      pyramidLent = length held.pyramid;
-      serialsLent = length held.serials;
-      orderLent = length held.order;
+      pyramid_lent = length held.pyramid;
+      serials_lent = length held.serials;
+      order_lent = length held.order;
     }
 
 -- Advance, as a call on what the caller holds
-abbrev advancedFrom : Held → ℕ → AdvanceOutcome
-advancedFrom held budget = advanceByQuarters held.progress budget held.pyramid held.serials held.order
+abbrev advanced_from : Held → ℕ → AdvanceOutcome
+advanced_from held budget = advance_by_quarters held.progress budget held.pyramid held.serials held.order
 
-call-whole : (held : Held) (budget : ℕ) → call_of held (wholeCall held budget) ≡ advancedFrom held budget
+call_whole : (held : Held) (budget : ℕ) → call_of held (whole_call held budget) ≡ advanced_from held budget
 unfolding call_of
-call-whole held budget =
+call_whole held budget =
     let p = held.pyramid in
     let s = held.serials in
     let o = held.order in
@@ -92,19 +92,19 @@ call-whole held budget =
       drop_of_length-le p {i = length p} (omega arith),
       drop_of_length-le s {i = length s} (omega arith),
       drop_of_length-le o {i = length o} (omega arith),
-      append-nil (advancedFrom held budget).pyramid,
-      append-nil (advancedFrom held budget).serials,
-      append-nil (advancedFrom held budget).order,
+      append-nil (advanced_from held budget).pyramid,
+      append-nil (advanced_from held budget).serials,
+      append-nil (advanced_from held budget).order,
     )
 
-module _ (r : ℕ) (some : 0 < r) (power : powerOf (2 ^ r) ≡ r) (greys : List ℕ) (start : Sheet r (modelStart r greys))
+module _ (r : ℕ) (some : 0 < r) (power : power_of (2 ^ r) ≡ r) (greys : List ℕ) (start : Sheet r (model_start r greys))
     (p : List ℤ) (s o : List ℕ)
-    (budget : ℕ) (enough : cellCount r ≤ budget) where
+    (budget : ℕ) (enough : cell_count r ≤ budget) where
   abbrev fresh : Halftone
-  fresh = modelStart r greys
+  fresh = model_start r greys
 
   abbrev call : Call
-  call = wholeCall (held_of plain r fresh p s o) budget
+  call = whole_call (held_of plain r fresh p s o) budget
 
   big : 2 ≤ 2 ^ r
   big = pow_mono {i = 1} {j = r} some
@@ -112,66 +112,66 @@ module _ (r : ℕ) (some : 0 < r) (power : powerOf (2 ^ r) ≡ r) (greys : List 
   known : plain ≤ 1
   known = omega arith
 
-  not-refused : modelRefusal r call ≡ 0
-  unfolding modelRefusal lowest
-  not-refused =
+  not_refused : model_refusal r call ≡ 0
+  unfolding model_refusal lowest
+  not_refused =
       rw (
-        le-ltb (length (quartersFrom r fresh.pyramid ++ p)) (needed r)
-            (omega (arith, length-append (quartersFrom r fresh.pyramid) p, length-quarters r fresh.pyramid)),
-        le-ltb (length (fresh.serials ++ s)) (cellCount r)
+        le-ltb (length (quarters_from r fresh.pyramid ++ p)) (needed r)
+            (omega (arith, length-append (quarters_from r fresh.pyramid) p, length_quarters r fresh.pyramid)),
+        le-ltb (length (fresh.serials ++ s)) (cell_count r)
             (omega (arith, length-append fresh.serials s, start.sized.serials)),
-        le-ltb (length (fresh.order ++ o)) (cellCount r)
+        le-ltb (length (fresh.order ++ o)) (cell_count r)
             (omega (arith, length-append fresh.order o, start.sized.order)),
       )
 
-  run-held : heldAfter (advancedFrom (held_of plain r fresh p s o) budget)
-      ≡ held_of plain r (finishedOf plain r greys) p s o
-  run-held =
-      ap heldAfter (sym (call-whole (held_of plain r fresh p s o) budget))
+  run_held : held_after (advanced_from (held_of plain r fresh p s o) budget)
+      ≡ held_of plain r (finished_of plain r greys) p s o
+  run_held =
+      ap held_after (sym (call_whole (held_of plain r fresh p s o) budget))
       ∙ held_same plain known r big power fresh start p s o call
       ∙ ap (λ (t : Halftone). held_of plain r t p s o)
-      (model-taken plain known r big power fresh start p s o call not-refused
-      ∙ finished-steps r big greys start budget enough)
+      (model_taken plain known r big power fresh start p s o call not_refused
+      ∙ finished_steps r big greys start budget enough)
 
 -- ---- Load, then Advance
 module _ (side : ℕ) (greys : List ℕ) (p : List ℤ) (s o : List ℕ)
     (asked : MapAsked side greys (length p) (length s) (length o)) where
   abbrev r : ℕ
-  r = powerOf side
+  r = power_of side
 
-  one-of-eight : 0 < r
-  one-of-eight = asked.lent.power
+  one_of_eight : 0 < r
+  one_of_eight = asked.lent.power
 
   loaded : Loaded side plain greys p s o
   loaded =
       record {
         none =
-            (load-none r plain (length greys) (length p) (length s) (length o) (lowMap r greys)).1
+            (load_none r plain (length greys) (length p) (length s) (length o) (low_map r greys)).1
             (asked.lent, asked.low);
         lent = asked.lent;
         low = asked.low;
-        side-is = side-pow side one-of-eight;
+        side_is = side_pow side one_of_eight;
       }
 
   module _ {progress : Progress} (said : Said) {p₁ : List ℤ} {s₁ o₁ : List ℕ}
       (e : record { progress = progress; said = said; pyramid = p₁; serials = s₁; order = o₁ }
-      ≡ loadByQuarters side plain greys p s o) where
-    load-held : record { progress = progress; pyramid = p₁; serials = s₁; order = o₁ }
-        ≡ held_of plain r (modelStart r greys) (drop (needed r) p) (drop (cellCount r) s) (drop (cellCount r) o)
-    load-held = held_after ∙ loaded-held side plain greys p s o loaded
+      ≡ load_by_quarters side plain greys p s o) where
+    load_held : record { progress = progress; pyramid = p₁; serials = s₁; order = o₁ }
+        ≡ held_of plain r (model_start r greys) (drop (needed r) p) (drop (cell_count r) s) (drop (cell_count r) o)
+    load_held = held_after ∙ loaded_held side plain greys p s o loaded
       where
         held_after : record { progress = progress; pyramid = p₁; serials = s₁; order = o₁ }
-            ≡ heldAfterLoad side plain greys p s o
-        held_after = unfold heldAfterLoad in rw (← e)
+            ≡ held_after_load side plain greys p s o
+        held_after = unfold held_after_load in rw (← e)
 
-    pub map-finished : (budget : ℕ) → 1024 ≤ budget → {reply : Reply} {p₂ : List ℤ} {s₂ o₂ : List ℕ}
+    pub map_finished : (budget : ℕ) → 1024 ≤ budget → {reply : Reply} {p₂ : List ℤ} {s₂ o₂ : List ℕ}
         → record { reply = reply; pyramid = p₂; serials = s₂; order = o₂ }
-        ≡ advanceByQuarters progress budget p₁ s₁ o₁
-        → record { progress = reply.progress; pyramid = p₂; serials = s₂; order = o₂ } ≡ finishedIn r greys p s o
-    unfolding heldAfter
-    map-finished budget h q =
-        ap heldAfter q
-        ∙ ap (λ (held : Held). heldAfter (advancedFrom held budget)) load-held
-        ∙ run-held r one-of-eight (power-again side one-of-eight) greys asked.start (drop (needed r) p)
-        (drop (cellCount r) s) (drop (cellCount r) o)
+        ≡ advance_by_quarters progress budget p₁ s₁ o₁
+        → record { progress = reply.progress; pyramid = p₂; serials = s₂; order = o₂ } ≡ finished_in r greys p s o
+    unfolding held_after
+    map_finished budget h q =
+        ap held_after q
+        ∙ ap (λ (held : Held). held_after (advanced_from held budget)) load_held
+        ∙ run_held r one_of_eight (power_again side one_of_eight) greys asked.start (drop (needed r) p)
+        (drop (cell_count r) s) (drop (cell_count r) o)
         budget (omega (arith, asked.few))

@@ -2,18 +2,18 @@
 // `sample_text`, `convert_text` (docs/DECISIONS.md 71) and `sketch_text`.
 ghost use Rattle.std.specs.Prelude.{◌≡◌, [], ◌∷◌, ◌+◌, ◌^◌, ◌<◌, ◌≤◌, length, take};
 ghost use Rattle.definition.specs.Diffusion.{plain};
-ghost use Rattle.definition.specs.Refusals.{powerOf};
-ghost use Rattle.definition.specs.DrillList.{drillText};
-ghost use Rattle.definition.specs.Sample.{sampleText};
-ghost use Rattle.definition.specs.Plate.{finishedOf, plateOf};
-ghost use Rattle.definition.specs.Quote.{quoteOfMap, quoteOfText, quoteOf};
+ghost use Rattle.definition.specs.Refusals.{power_of};
+ghost use Rattle.definition.specs.DrillList.{drill_text};
+ghost use Rattle.definition.specs.Sample.{sample_text};
+ghost use Rattle.definition.specs.Plate.{finished_of, plate_of};
+ghost use Rattle.definition.specs.Quote.{quote_of_map, quote_of_text, quote_of};
 ghost use Rattle.definition.specs.Convert.{convert_of};
-ghost use Rattle.definition.specs.QuotePage.{alignedLine};
-ghost use Rattle.definition.specs.Sketch.{sketchPage, sketchOfText, sketchOf};
+ghost use Rattle.definition.specs.QuotePage.{aligned_line};
+ghost use Rattle.definition.specs.Sketch.{sketch_page, sketch_of_text, sketch_of};
 ghost use Rattle.decimals.specs.Writing.{Wrote};
 ghost use Rattle.decimals.specs.Printed.{Printed};
-ghost use Rattle.program_texts.specs.Finished.{finishedIn, MapAsked};
-ghost use Rattle.program_texts.specs.Sketching.{capColumns, CapsWritten, SquaresLent};
+ghost use Rattle.program_texts.specs.Finished.{finished_in, MapAsked};
+ghost use Rattle.program_texts.specs.Sketching.{cap_columns, CapsWritten, SquaresLent};
 
 use decimals::Number;
 use definition::{MapTextAnswer, Progress, SketchAnswer, TextAnswer};
@@ -72,7 +72,7 @@ fn run_map(
       pyramid = pyramid.new;
       serials = serials.new;
       order = order.new;
-    } ≡ finishedIn (powerOf side) greys.now
+    } ≡ finished_in (power_of side) greys.now
         pyramid.old serials.old order.old }
 {
     let start = load::load(side, PLAIN, greys, pyramid, serials, order);
@@ -83,7 +83,7 @@ fn run_map(
 // The list of all holes of a map.
 fn put_drill_list(side: u32, greys: &[u8], out: &mut [u8]) -> usize
     requires { MapAsked side greys.now 1365 1024 1024 × (11300 ≤ length out.old) }
-    ensures { Printed (drillText (powerOf side) (finishedOf plain (powerOf side) greys.now))
+    ensures { Printed (drill_text (power_of side) (finished_of plain (power_of side) greys.now))
         out.old result out.new }
 {
     let mut pyramid = [0i64; 1365];
@@ -99,7 +99,7 @@ fn put_drill_list(side: u32, greys: &[u8], out: &mut [u8]) -> usize
 // What `plate` prints.
 fn put_plate(input: &[u8], out: &mut [u8]) -> usize
     requires { 11300 ≤ length out.old }
-    ensures { Printed (plateOf input.now) out.old result out.new }
+    ensures { Printed (plate_of input.now) out.old result out.new }
 {
     if 4099 < input.len() {
         return refusal_line::put_refused(out, 9);
@@ -114,7 +114,7 @@ fn put_plate(input: &[u8], out: &mut [u8]) -> usize
 // The quote page of a map with all its holes, or the refusal of the level.
 fn put_quote_page(level: u32, side: u32, greys: &[u8], out: &mut [u8]) -> usize
     requires { MapAsked side greys.now 1365 1024 1024 × (29696 ≤ length out.old) }
-    ensures { Printed (quoteOfMap level side greys.now) out.old result out.new }
+    ensures { Printed (quote_of_map level side greys.now) out.old result out.new }
 {
     let mut pyramid = [0i64; 1365];
     let mut serials = [0u32; 1024];
@@ -129,7 +129,7 @@ fn put_quote_page(level: u32, side: u32, greys: &[u8], out: &mut [u8]) -> usize
 // What `quote` prints for a map text behind the level's line.
 fn put_quote_of_text(level: u32, text: &[u8], out: &mut [u8]) -> usize
     requires { 29696 ≤ length out.old }
-    ensures { Printed (quoteOfText level text.now) out.old result out.new }
+    ensures { Printed (quote_of_text level text.now) out.old result out.new }
 {
     let mut greys = [0u8; 1024];
     match map_text::map_text(text, &mut greys) {
@@ -141,7 +141,7 @@ fn put_quote_of_text(level: u32, text: &[u8], out: &mut [u8]) -> usize
 // What `quote` prints.
 fn put_quote(input: &[u8], out: &mut [u8]) -> usize
     requires { 29696 ≤ length out.old }
-    ensures { Printed (quoteOf input.now) out.old result out.new }
+    ensures { Printed (quote_of input.now) out.old result out.new }
 {
     match decimals::read_number(input, 0, 4294967295, 10) {
         Number::Malformed => refusal_line::put_refused(out, 7),
@@ -155,7 +155,7 @@ fn put_quote(input: &[u8], out: &mut [u8]) -> usize
 // What `sample` prints.
 fn put_sample(out: &mut [u8]) -> usize
     requires { 4099 ≤ length out.old }
-    ensures out_after { take result out.new ≡ sampleText }
+    ensures out_after { take result out.new ≡ sample_text }
     ensures upper_bound { result ≤ 4099 }
 {
     let mut greys = [0u8; 1024];
@@ -178,7 +178,7 @@ fn put_converted(input: &[u8], out: &mut [u8]) -> usize
 
 // The line with the totals of a sketch.
 fn put_totals(out: &mut [u8], least: u64, greatest: u64) -> usize
-    ensures { Wrote out.old 0 (alignedLine ((5, least) ∷ (5, greatest) ∷ [])) result out.new
+    ensures { Wrote out.old 0 (aligned_line ((5, least) ∷ (5, greatest) ∷ [])) result out.new
         × (result ≤ 52) }
 {
     let second = decimals::put_column(out, 0, 5, least, 32);
@@ -188,7 +188,7 @@ fn put_totals(out: &mut [u8], least: u64, greatest: u64) -> usize
 // The line of square i of a level that has `count` squares in a row.
 fn put_cap(out: &mut [u8], at: usize, count: usize, i: usize, cap: u64) -> usize
     requires { (at ≤ 2 ^ 61) × (0 < count) }
-    ensures { Wrote out.old at (alignedLine (capColumns count i cap)) result out.new
+    ensures { Wrote out.old at (aligned_line (cap_columns count i cap)) result out.new
         × (result ≤ at + 74) }
 {
     let second = decimals::put_column(out, at, 3, (i / count) as u64, 32);
@@ -214,7 +214,7 @@ fn put_caps(out: &mut [u8], from: usize, k: usize, caps: &[u32]) -> usize
 // The page of a sketch's totals and caps.
 fn put_sketch_page(out: &mut [u8], k: usize, least: u32, greatest: u32, caps: &[u32]) -> usize
     requires { (75828 ≤ length out.old) × SquaresLent k (length caps.now) }
-    ensures { Printed (sketchPage k least greatest caps.now) out.old result out.new }
+    ensures { Printed (sketch_page k least greatest caps.now) out.old result out.new }
 {
     let at = put_totals(out, least as u64, greatest as u64);
     put_caps(out, at, k, caps)
@@ -223,7 +223,7 @@ fn put_sketch_page(out: &mut [u8], k: usize, least: u32, greatest: u32, caps: &[
 // What `sketch` prints for a sketch behind the level's line.
 fn put_sketch_of_text(level: u32, text: &[u8], out: &mut [u8]) -> usize
     requires { 75828 ≤ length out.old }
-    ensures { Printed (sketchOfText level text.now) out.old result out.new }
+    ensures { Printed (sketch_of_text level text.now) out.old result out.new }
 {
     let mut lows = [0u8; 1024];
     let mut highs = [0u8; 1024];
@@ -241,7 +241,7 @@ fn put_sketch_of_text(level: u32, text: &[u8], out: &mut [u8]) -> usize
 // What `sketch` prints.
 fn put_sketch(input: &[u8], out: &mut [u8]) -> usize
     requires { 75828 ≤ length out.old }
-    ensures { Printed (sketchOf input.now) out.old result out.new }
+    ensures { Printed (sketch_of input.now) out.old result out.new }
 {
     let Number::Read(level, at) = decimals::read_number(input, 0, 4294967295, 10) else {
         return refusal_line::put_refused(out, 7);
@@ -252,7 +252,7 @@ fn put_sketch(input: &[u8], out: &mut [u8]) -> usize
 
 // What `plate` prints (S 14.1).
 pub fn plate_text(input: &[u8]) -> PlateText
-    ensures bytes_value { take result.length result.bytes ≡ plateOf input.now }
+    ensures bytes_value { take result.length result.bytes ≡ plate_of input.now }
     ensures length_bound { result.length ≤ 11300 }
 {
     let mut bytes = [0u8; 11300];
@@ -262,7 +262,7 @@ pub fn plate_text(input: &[u8]) -> PlateText
 
 // What `quote` prints (S 14.2).
 pub fn quote_text(input: &[u8]) -> QuoteText
-    ensures bytes_value { take result.length result.bytes ≡ quoteOf input.now }
+    ensures bytes_value { take result.length result.bytes ≡ quote_of input.now }
     ensures length_bound { result.length ≤ 29696 }
 {
     let mut bytes = [0u8; 29696];
@@ -272,7 +272,7 @@ pub fn quote_text(input: &[u8]) -> QuoteText
 
 // What `sample` prints (S 14.3).
 pub fn sample_text() -> SampleText
-    ensures bytes_value { take result.length result.bytes ≡ sampleText }
+    ensures bytes_value { take result.length result.bytes ≡ sample_text }
     ensures length_bound { result.length ≤ 4099 }
 {
     let mut bytes = [0u8; 4099];
@@ -292,7 +292,7 @@ pub fn convert_text(input: &[u8]) -> ConvertText
 
 // What `sketch` prints (S 14.5).
 pub fn sketch_text(input: &[u8]) -> SketchText
-    ensures bytes_value { take result.length result.bytes ≡ sketchOf input.now }
+    ensures bytes_value { take result.length result.bytes ≡ sketch_of input.now }
     ensures length_bound { result.length ≤ 75828 }
 {
     let mut bytes = [0u8; 75828];

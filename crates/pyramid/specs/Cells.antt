@@ -1,4 +1,4 @@
--- The cells filled from the greys, row after row (`one_more`, `one-row`, `all-rows`).
+-- The cells filled from the greys, row after row (`one_more`, `one_row`, `all_rows`).
 use Rattle.std.specs.Prelude.{◌≡◌, List, ℕ, ◌+◌, ◌*◌, ◌/◌, ◌%◌, ◌^◌, ◌≤◌, ◌<◌, length, get_or, drop, set, ℤ, pos}
 use Rattle.std.proofs.Math.Path.{refl, sym}
 use Rattle.std.proofs.Common.{ap₂, ◌∙◌, arith, length-set, pow_mono, Fits, to_z, of_z}
@@ -7,27 +7,27 @@ use Rattle.std.proofs.Math.ListN.{get_or-append}
 use Rattle.std.specs.Int.Signed.{mag}
 use Rattle.std.specs.Int.{w64}
 use Rattle.definition.specs.Lists.{tabulate}
-use Rattle.definition.specs.Pyramid.{cellCount, place_in, row_at, columnAt}
-use Rattle.definition.specs.Blocks.{greyAt}
-use Rattle.definition.specs.Quarters.{interleaved, quarterLevel}
+use Rattle.definition.specs.Pyramid.{cell_count, place_in, row_at, column_at}
+use Rattle.definition.specs.Blocks.{grey_at}
+use Rattle.definition.specs.Quarters.{interleaved, quarter_level}
 use Rattle.integers.specs.Fill.{filled}
-use Rattle.integers.specs.Lists.{length-tabulate, get_d_tabulate}
+use Rattle.integers.specs.Lists.{length_tabulate, get_d_tabulate}
 use Rattle.integers.specs.Machine.{back64}
-use Rattle.quadtree.specs.Levels.{cell-lt, cells-few, row-place, column-place}
-use Rattle.layouts.specs.Filling.{Filling, none_filled, one-filled, all-filled, place-in}
-use Rattle.layouts.specs.Interleaved.{interleaved-lt}
-use Rattle.places.specs.Parts.{place-parts}
-use Rattle.pyramid.specs.PyramidPart.{residualOf, residualAt, ColumnParts, RowAsked, MoreFilled, CellsAsked}
+use Rattle.quadtree.specs.Levels.{cell_lt, cells_few, row_place_lem, column_place_lem}
+use Rattle.layouts.specs.Filling.{Filling, none_filled, one_filled, all_filled, place_in}
+use Rattle.layouts.specs.Interleaved.{interleaved_lt}
+use Rattle.places.specs.Parts.{place_parts}
+use Rattle.pyramid.specs.PyramidPart.{residual_of, residual_at, ColumnParts, RowAsked, MoreFilled, CellsAsked}
 
 -- ---- `side` is what the code has worked out
-pub side-few : {r side : ℕ} → r ≤ 8 → side ≡ 2 ^ r → side ≤ 256
-side-few {r} h e = rw e (pow_mono {i = r} {j = 8} h)
+pub side_few : {r side : ℕ} → r ≤ 8 → side ≡ 2 ^ r → side ≤ 256
+side_few {r} h e = rw e (pow_mono {i = r} {j = 8} h)
 
-pub line-few : {r side a : ℕ} → r ≤ 8 → side ≡ 2 ^ r → a < side → a < 256
-line-few h e lt = omega (arith, side-few h e)
+pub line_few : {r side a : ℕ} → r ≤ 8 → side ≡ 2 ^ r → a < side → a < 256
+line_few h e lt = omega (arith, side_few h e)
 
-pub below-side : {n side a : ℕ} → side ≡ n → a < n → a < side
-below-side e lt = omega arith
+pub below_side : {n side a : ℕ} → side ≡ n → a < n → a < side
+below_side e lt = omega arith
 
 -- ---- the columns' parts: one of those found, and all found
 found : (n : ℕ) (before : List ℕ) (b : ℕ) → b < n
@@ -35,51 +35,51 @@ found : (n : ℕ) (before : List ℕ) (b : ℕ) → b < n
 unfolding filled
 found n before b lt =
     let parts = tabulate n (interleaved 8 0) in
-    let among : b < length parts = omega (arith, length-tabulate 0 n (interleaved 8 0)) in
+    let among : b < length parts = omega (arith, length_tabulate 0 n (interleaved 8 0)) in
     get_or-append parts (drop n before) 0 b among ∙ get_d_tabulate n (interleaved 8 0) b 0 lt
 
-pub columns-found : {side n : ℕ} (before : List ℕ) {columns : List ℕ} → side ≤ n
+pub columns_found : {side n : ℕ} (before : List ℕ) {columns : List ℕ} → side ≤ n
     → columns ≡ filled (interleaved 8 0) n before → ColumnParts side columns
-columns-found {n = n} before ge e = record { is = λ b lt. rw e (found n before b (omega arith)) }
+columns_found {n = n} before ge e = record { is = λ b lt. rw e (found n before b (omega arith)) }
 
 -- ---- a cell of a row
 module _ {part : ℕ} {columns : List ℕ} {greys first row r side : ℕ} (h : RowAsked part columns greys first row r)
     (es : side ≡ 2 ^ r) where
   -- the number of any cell
-  number_lt : {a b : ℕ} → a < side → b < side → a * side + b < cellCount r
-  number_lt {a} {b} p q = omega (arith, cell-lt side a b p q, ap₂ ◌*◌ es es)
+  number_lt : {a b : ℕ} → a < side → b < side → a * side + b < cell_count r
+  number_lt {a} {b} p q = omega (arith, cell_lt side a b p q, ap₂ ◌*◌ es es)
 
   pub number_in : {a b : ℕ} → a < side → b < side → a * side + b < greys
   number_in p q = omega (arith, h.enough, number_lt p q)
 
   pub number_fits : {a b : ℕ} → a < side → b < side → Fits w64 (a * side + b)
-  number_fits p q = omega (arith, cells-few r h.most, number_lt p q)
+  number_fits p q = omega (arith, cells_few r h.most, number_lt p q)
 
-  pub line-fits : {a : ℕ} → a < side → Fits w64 (a * side)
-  line-fits p = omega (arith, number_fits p p)
+  pub line_fits : {a : ℕ} → a < side → Fits w64 (a * side)
+  line_fits p = omega (arith, number_fits p p)
 
   -- the one in this column
   module _ {column : ℕ} (lt : column < side) where
     across : column < 2 ^ r
     across = omega (arith, es)
 
-    pub column-few : column < 256
-    column-few = line-few h.most es lt
+    pub column_few : column < 256
+    column_few = line_few h.most es lt
 
-    pub column-scaled : Fits w64 (column * 8)
-    column-scaled = omega (arith, column-few)
+    pub column_scaled : Fits w64 (column * 8)
+    column_scaled = omega (arith, column_few)
 
     place_is : first + get_or columns column 0 ≡ interleaved 8 row column
-    place_is = rw (h.begins, h.across.is column across) (sym (place-parts 8 row column))
+    place_is = rw (h.begins, h.across.is column across) (sym (place_parts 8 row column))
 
-    pub place-fits : Fits w64 (first + get_or columns column 0)
-    place-fits = omega (arith, place_is, interleaved-lt 8 row column)
+    pub place_fits : Fits w64 (first + get_or columns column 0)
+    place_fits = omega (arith, place_is, interleaved_lt 8 row column)
 
-    pub place-scaled : Fits w64 ((first + get_or columns column 0) * 8)
-    place-scaled = omega (arith, place_is, interleaved-lt 8 row column)
+    pub place_scaled : Fits w64 ((first + get_or columns column 0) * 8)
+    place_scaled = omega (arith, place_is, interleaved_lt 8 row column)
 
-    pub place-there : {long : ℕ} → long ≡ cellCount r → first + get_or columns column 0 < long
-    place-there e = place-in r h.most e row column place_is h.down across
+    pub place_there : {long : ℕ} → long ≡ cell_count r → first + get_or columns column 0 < long
+    place_there e = place_in r h.most e row column place_is h.down across
 
     -- the place by the cell's number
     place_of : first + get_or columns column 0
@@ -87,8 +87,8 @@ module _ {part : ℕ} {columns : List ℕ} {greys first row r side : ℕ} (h : R
     place_of =
         place_is
         ∙ rw es
-        (unfold place_in row_at columnAt in
-        sym (ap₂ (interleaved 8) (row-place r row column across) (column-place r row column across)))
+        (unfold place_in row_at column_at in
+        sym (ap₂ (interleaved 8) (row_place_lem r row column across) (column_place_lem r row column across)))
 
     -- one more, z being a word of the machine
     pub one_more : (grey : List ℕ) {before now : List ℤ}
@@ -101,20 +101,20 @@ module _ {part : ℕ} {columns : List ℕ} {greys first row r side : ℕ} (h : R
           long = length-set now _ _ ∙ done.long;
           more = λ level d.
               rw next
-              (one-filled r h.most es refl _ inside (residualOf grey) level now (done.more level d) place_of
+              (one_filled r h.most es refl _ inside (residual_of grey) level now (done.more level d) place_of
               (back64 z fits ∙ ez));
         }
       where
         next : row * side + (column + 1) ≡ row * side + column + 1
         next = omega arith
 
-        inside : row * side + column < cellCount r
-        inside = number_lt (below-side es h.down) lt
+        inside : row * side + column < cell_count r
+        inside = number_lt (below_side es h.down) lt
 
 -- ---- a row: none of its cells yet, and all of them
-pub row-none : (greys : List ℕ) {r i : ℕ} {part : List ℤ} → length part ≡ cellCount r
+pub row_none : (greys : List ℕ) {r i : ℕ} {part : List ℤ} → length part ≡ cell_count r
     → MoreFilled r greys i (i + 0) part part
-row-none greys {i = i} e = record { long = e; more = λ level d. let z : i + 0 ≡ i = omega arith in rw z d }
+row_none greys {i = i} e = record { long = e; more = λ level d. let z : i + 0 ≡ i = omega arith in rw z d }
 
 pub row_done : (greys : List ℕ) (row : ℕ) {r side column : ℕ} {before now : List ℤ}
     → side ≡ 2 ^ r → column ≤ side → side ≤ column
@@ -125,17 +125,17 @@ row_done greys row {side = side} {column = column} es p q done =
     rw (e, es) at done
 
 -- ---- row after row; `part` is the level as it was
-pub rows_none : (greys : List ℕ) {r : ℕ} (side : ℕ) {part : List ℤ} → length part ≡ cellCount r
-    → Filling r (residualOf greys) part (0 * side) part
+pub rows_none : (greys : List ℕ) {r : ℕ} (side : ℕ) {part : List ℤ} → length part ≡ cell_count r
+    → Filling r (residual_of greys) part (0 * side) part
 rows_none greys {r} side {part} e =
     let z : 0 * side ≡ 0 = omega arith in
-    rw z (none_filled r (residualOf greys) part e)
+    rw z (none_filled r (residual_of greys) part e)
 
 module _ {r side : ℕ} (es : side ≡ 2 ^ r) where
-  pub row-asked : {part : List ℤ} {columns : List ℕ} {long greys first row : ℕ} → CellsAsked part greys r
-      → long ≡ cellCount r → ColumnParts side columns → first ≡ interleaved 8 row 0 → row < side
+  pub row_asked : {part : List ℤ} {columns : List ℕ} {long greys first row : ℕ} → CellsAsked part greys r
+      → long ≡ cell_count r → ColumnParts side columns → first ≡ interleaved 8 row 0 → row < side
       → RowAsked long columns greys first row r
-  row-asked h e columns begins lt =
+  row_asked h e columns begins lt =
       record {
         most = h.most;
         whole = e;
@@ -146,15 +146,15 @@ module _ {r side : ℕ} (es : side ≡ 2 ^ r) where
       }
 
   module _ (greys : List ℕ) (row : ℕ) {part before : List ℤ}
-      (done : Filling r (residualOf greys) part (row * side) before) where
-    pub one-row : {now : List ℤ} → MoreFilled r greys (row * 2 ^ r) (row * 2 ^ r + 2 ^ r) before now
-        → Filling r (residualOf greys) part ((row + 1) * side) now
-    one-row more =
+      (done : Filling r (residual_of greys) part (row * side) before) where
+    pub one_row : {now : List ℤ} → MoreFilled r greys (row * 2 ^ r) (row * 2 ^ r + 2 ^ r) before now
+        → Filling r (residual_of greys) part ((row + 1) * side) now
+    one_row more =
         let e : (row + 1) * 2 ^ r ≡ row * 2 ^ r + 2 ^ r = omega arith in
         rw (es, e) (more.more part (rw es at done))
 
-    pub all-rows : side ≤ row → before ≡ quarterLevel r (residualAt r greys)
-    unfolding greyAt place_in
-    all-rows ge =
-        all-filled r refl (residualOf greys) part before (row * side) done
+    pub all_rows : side ≤ row → before ≡ quarter_level r (residual_at r greys)
+    unfolding grey_at place_in
+    all_rows ge =
+        all_filled r refl (residual_of greys) part before (row * side) done
         (rw es (omega (arith, mul-le-mul_right (2 ^ r) (rw es at ge))))

@@ -1,25 +1,25 @@
 -- What the functions of this crate are asked, and what they are told in terms of a part of a pyramid (`Within`,
 -- `Whole`, `SmallPyramid`, `FillAsked`).
 use Rattle.std.specs.Prelude.{◌≡◌, List, ℕ, ◌+◌, ◌*◌, ◌^◌, ◌≤◌, ◌<◌, length, get_or, ℤ, pos, neg_ℤ, ◌+ℤ◌, ◌≤ℤ◌}
-use Rattle.definition.specs.Pyramid.{cellCount, needed, start, levelOf, pyramidOver}
-use Rattle.definition.specs.Blocks.{greyAt}
+use Rattle.definition.specs.Pyramid.{cell_count, needed, start, level_of, pyramid_over}
+use Rattle.definition.specs.Blocks.{grey_at}
 use Rattle.definition.specs.Quarters.{interleaved}
 use Rattle.layouts.specs.Filling.{Filling}
 
 -- the residual of a cell at the start, by its number and by its row and column, and the pyramid that a map starts with,
 -- row after row
-abbrev pub residualOf : List ℕ → ℕ → ℤ
-residualOf greys i = pos (256 * get_or greys i 0)
+abbrev pub residual_of : List ℕ → ℕ → ℤ
+residual_of greys i = pos (256 * get_or greys i 0)
 
-abbrev pub residualAt : ℕ → List ℕ → ℕ → ℕ → ℤ
-residualAt r greys row column = pos (256 * greyAt r greys row column)
+abbrev pub residual_at : ℕ → List ℕ → ℕ → ℕ → ℤ
+residual_at r greys row column = pos (256 * grey_at r greys row column)
 
-unfoldable pub freshPyramid : ℕ → List ℕ → List ℤ
-freshPyramid r greys = pyramidOver r (levelOf r (residualAt r greys))
+unfoldable pub fresh_pyramid : ℕ → List ℕ → List ℤ
+fresh_pyramid r greys = pyramid_over r (level_of r (residual_at r greys))
 
 -- the sum of the four entries from place `top` on, in rows of `wide`
-unfoldable pub fourAt : List ℤ → ℕ → ℕ → ℤ
-fourAt part top wide =
+unfoldable pub four_at : List ℤ → ℕ → ℕ → ℤ
+four_at part top wide =
     get_or part top (pos 0) +ℤ get_or part (top + 1) (pos 0)
     +ℤ get_or part (top + wide) (pos 0) +ℤ get_or part (top + wide + 1) (pos 0)
 
@@ -61,8 +61,8 @@ pub record SmallPyramid (pyramid : List ℤ) : Type 0 where
 -- a part of just as many places as there are cells, and greys enough
 pub record CellsAsked (part : List ℤ) (greys r : ℕ) : Type 0 where
   pub most : r ≤ 8
-  pub whole : length part ≡ cellCount r
-  pub enough : cellCount r ≤ greys
+  pub whole : length part ≡ cell_count r
+  pub enough : cell_count r ≤ greys
 
 -- a list of the columns' parts in the places of the cells of a map of side `side`
 pub record ColumnParts (side : ℕ) (columns : List ℕ) : Type 0 where
@@ -72,8 +72,8 @@ pub record ColumnParts (side : ℕ) (columns : List ℕ) : Type 0 where
 -- `first`
 pub record RowAsked (part : ℕ) (columns : List ℕ) (greys first row r : ℕ) : Type 0 where
   pub most : r ≤ 8
-  pub whole : part ≡ cellCount r
-  pub enough : cellCount r ≤ greys
+  pub whole : part ≡ cell_count r
+  pub enough : cell_count r ≤ greys
   pub across : ColumnParts (2 ^ r) columns
   pub begins : first ≡ interleaved 8 row 0
   pub down : row < 2 ^ r
@@ -81,12 +81,12 @@ pub record RowAsked (part : ℕ) (columns : List ℕ) (greys first row r : ℕ) 
 -- the cells of level r from number i to j filled: a level whose first i cells have got their residuals, whatever it was
 -- before they did, now has the first j so
 pub record MoreFilled (r : ℕ) (greys : List ℕ) (i j : ℕ) (before after : List ℤ) : Type 0 where
-  pub long : length after ≡ cellCount r
-  pub more : (first : List ℤ) → Filling r (residualOf greys) first i before
-      → Filling r (residualOf greys) first j after
+  pub long : length after ≡ cell_count r
+  pub more : (first : List ℤ) → Filling r (residual_of greys) first i before
+      → Filling r (residual_of greys) first j after
 
 -- a pyramid of just the needed length, and greys enough
 pub record FillAsked (part : List ℤ) (greys r : ℕ) : Type 0 where
   pub most : r ≤ 8
   pub whole : length part ≡ needed r
-  pub enough : cellCount r ≤ greys
+  pub enough : cell_count r ≤ greys

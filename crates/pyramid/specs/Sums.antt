@@ -1,21 +1,21 @@
--- One level filled from the next finer one, which lies behind it (`filled-level`): the four below the entry at place i
+-- One level filled from the next finer one, which lies behind it (`filled_level`): the four below the entry at place i
 -- lie side by side (`four_are`).
 use Rattle.std.specs.Prelude.{◌≡◌, List, ◌++◌, ℕ, ◌+◌, ◌*◌, ◌-◌, ◌^◌, ◌≤◌, ◌<◌, length, get_or, drop, ℤ, pos}
 use Rattle.std.proofs.Math.Path.{refl, ap₂}
 use Rattle.std.proofs.Common.{sym, ap, ◌∙◌, arith, get_or-drop, drop-drop}
 use Rattle.std.proofs.Math.IntN.{◌+ℤ◌}
-use Rattle.definition.specs.Pyramid.{cellCount}
-use Rattle.integers.specs.Fill.{filled, length-filled, filled-past, drop-filled}
-use Rattle.layouts.specs.Sums.{fourFrom, coarserFrom}
-use Rattle.pyramid.specs.PyramidPart.{fourAt, Within, FourAsked, SumsAsked}
+use Rattle.definition.specs.Pyramid.{cell_count}
+use Rattle.integers.specs.Fill.{filled, length_filled, filled_past, drop_filled}
+use Rattle.layouts.specs.Sums.{four_from, coarser_from}
+use Rattle.pyramid.specs.PyramidPart.{four_at, Within, FourAsked, SumsAsked}
 
 module _ (part : List ℤ) (size i : ℕ) where
   -- one of the four
   one : (j m n : ℕ) → m ≡ 4 * i + j → n ≡ size + m → get_or part n (pos 0) ≡ get_or (drop size part) m (pos 0)
   one j m n e f = ap (λ (x : ℕ). get_or part x (pos 0)) f ∙ sym (get_or-drop size part m (pos 0))
 
-  pub four_are : fourAt part (size + 4 * i) 2 ≡ fourFrom (drop size part) i
-  unfolding fourAt fourFrom
+  pub four_are : four_at part (size + 4 * i) 2 ≡ four_from (drop size part) i
+  unfolding four_at four_from
   four_are =
       ap₂ ◌+ℤ◌
       (ap₂ ◌+ℤ◌
@@ -24,8 +24,8 @@ module _ (part : List ℤ) (size i : ℕ) where
       (one 3 (4 * i + 3) _ refl (omega arith))
 
   -- they lie in the part
-  pub four-asked : SumsAsked part size → i < size → FourAsked part (size + 4 * i) 2
-  four-asked h lt =
+  pub four_asked : SumsAsked part size → i < size → FourAsked part (size + 4 * i) 2
+  four_asked h lt =
       record {
         room = omega (arith, h.whole);
         first = h.small (4 * i);
@@ -37,35 +37,35 @@ module _ (part : List ℤ) (size i : ℕ) where
       moved : (j n : ℕ) → size + (4 * i + j) ≡ n → Within (2 ^ 60) (get_or part n (pos 0))
       moved j n e = rw (← e) (h.small (4 * i + j))
 
-pub asked-size : {part : List ℤ} {n size : ℕ} → size ≡ n → SumsAsked part n → SumsAsked part size
-asked-size e h = rw e h
+pub asked_size : {part : List ℤ} {n size : ℕ} → size ≡ n → SumsAsked part n → SumsAsked part size
+asked_size e h = rw e h
 
 -- a place of the first level is one of the part's, however far it is filled
-pub in-filled : (part : List ℤ) (size : ℕ) → SumsAsked part size → (f : ℕ → ℤ) (n : ℕ) → n < size
+pub in_filled : (part : List ℤ) (size : ℕ) → SumsAsked part size → (f : ℕ → ℤ) (n : ℕ) → n < size
     → n < length (filled f n part)
-in-filled part size h f n lt = omega (arith, h.whole, length-filled f n part (omega (arith, h.whole)))
+in_filled part size h f n lt = omega (arith, h.whole, length_filled f n part (omega (arith, h.whole)))
 
 -- what is stored in the first level is not read for it
 module _ (part : List ℤ) (size : ℕ) (h : SumsAsked part size) (f : ℕ → ℤ) (n : ℕ) (le : n ≤ size) where
-  pub asked-filled : SumsAsked (filled f n part) size
-  asked-filled =
+  pub asked_filled : SumsAsked (filled f n part) size
+  asked_filled =
       record {
         some = h.some;
         most = h.most;
-        whole = length-filled f n part (omega (arith, h.whole)) ∙ h.whole;
-        small = λ i. rw (filled-past f n part (size + i) (pos 0) (omega arith)) (h.small i);
+        whole = length_filled f n part (omega (arith, h.whole)) ∙ h.whole;
+        small = λ i. rw (filled_past f n part (size + i) (pos 0) (omega arith)) (h.small i);
       }
 
-  pub below-filled : drop size (filled f n part) ≡ drop size part
-  below-filled =
+  pub below_filled : drop size (filled f n part) ≡ drop size part
+  below_filled =
       let e : n + (size - n) ≡ size = omega arith in
       rw (← e)
-      (sym (drop-drop (size - n) n (filled f n part)) ∙ ap (drop (size - n)) (drop-filled f n part)
+      (sym (drop-drop (size - n) n (filled f n part)) ∙ ap (drop (size - n)) (drop_filled f n part)
       ∙ drop-drop (size - n) n part)
 
 -- all places filled: the level of sums, and the rest as it was
-pub filled-level : (k : ℕ) (part : List ℤ)
-    → filled (fourFrom (drop (cellCount k) part)) (cellCount k) part
-    ≡ coarserFrom k (drop (cellCount k) part) ++ drop (cellCount k) part
-unfolding filled coarserFrom
-filled-level k part = refl
+pub filled_level : (k : ℕ) (part : List ℤ)
+    → filled (four_from (drop (cell_count k) part)) (cell_count k) part
+    ≡ coarser_from k (drop (cell_count k) part) ++ drop (cell_count k) part
+unfolding filled coarser_from
+filled_level k part = refl

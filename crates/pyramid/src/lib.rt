@@ -1,11 +1,11 @@
 // The pyramid of sums, by quarters: cells from greys, one block of four (`sum_of_four`), one level, all levels
 // (`fill_pyramid`). Load fills with it; renewal and the test for a sound sheet take its sums of four.
 ghost use Rattle.std.specs.Prelude.{◌≡◌, ◌++◌, ◌+◌, ◌*◌, ◌^◌, ◌<◌, ◌≤◌, length, drop, pos};
-ghost use Rattle.definition.specs.Pyramid.{start, cellCount};
-ghost use Rattle.definition.specs.Quarters.{quarterLevel, quartersFrom};
-ghost use Rattle.layouts.specs.Sums.{fourFrom, coarserFrom, quartersOver};
+ghost use Rattle.definition.specs.Pyramid.{start, cell_count};
+ghost use Rattle.definition.specs.Quarters.{quarter_level, quarters_from};
+ghost use Rattle.layouts.specs.Sums.{four_from, coarser_from, quarters_over};
 ghost use Rattle.places.specs.Table.{places};
-ghost use Rattle.pyramid.specs.PyramidPart.{residualAt, fourAt, freshPyramid};
+ghost use Rattle.pyramid.specs.PyramidPart.{residual_at, four_at, fresh_pyramid};
 ghost use Rattle.pyramid.specs.PyramidPart.{FourAsked, SumsAsked, Whole, SmallCells, CellsAsked, FillAsked};
 ghost use Rattle.pyramid.specs.PyramidPart.{ColumnParts, RowAsked, MoreFilled};
 
@@ -60,7 +60,7 @@ fn fill_row(
 fn fill_cells(part: &mut [i64], table: &[u16; 1024], greys: &[u8], r: usize)
     requires cells_asked { CellsAsked part.old (length greys.now) r }
     requires table_value { table.now ≡ places }
-    ensures { part.new ≡ quarterLevel r (residualAt r greys.now) }
+    ensures { part.new ≡ quarter_level r (residual_at r greys.now) }
 {
     let side = sizes::pow2(r);
     let columns = column_parts(table, side);
@@ -76,7 +76,7 @@ fn fill_cells(part: &mut [i64], table: &[u16; 1024], greys: &[u8], r: usize)
 // coarser level is such a sum, by the definition of report 265, section 3.1.
 pub fn sum_of_four(part: &[i64], top: usize, wide: usize) -> i64
     requires { FourAsked part.now top wide }
-    ensures { result ≡ fourAt part.now top wide }
+    ensures { result ≡ four_at part.now top wide }
 {
     let low = top + wide;
     part[top] + part[top + 1] + part[low] + part[low + 1]
@@ -87,16 +87,16 @@ pub fn sum_of_four(part: &[i64], top: usize, wide: usize) -> i64
 fn sum_below(part: &[i64], size: usize, i: usize) -> i64
     requires sums_asked { SumsAsked part.now size }
     requires i_lt_size { i < size }
-    ensures { result ≡ fourFrom (drop size part.now) i }
+    ensures { result ≡ four_from (drop size part.now) i }
 {
     sum_of_four(part, size + 4 * i, 2)
 }
 
 // Fills level k, with which the part begins, from the next finer level, with which it goes on and ends.
 fn fill_level(part: &mut [i64], k: usize)
-    requires { (k ≤ 7) × SumsAsked part.old (cellCount k) }
+    requires { (k ≤ 7) × SumsAsked part.old (cell_count k) }
     ensures { part.new
-        ≡ coarserFrom k (drop (cellCount k) part.old) ++ drop (cellCount k) part.old }
+        ≡ coarser_from k (drop (cell_count k) part.old) ++ drop (cell_count k) part.old }
 {
     let size = sizes::cell_count(k);
     let mut i = 0;
@@ -110,7 +110,7 @@ fn fill_level(part: &mut [i64], k: usize)
 // Sums up all levels over level k, with which the part ends.
 fn sum_up(part: &mut [i64], k: usize)
     requires { Whole part.old k × SmallCells part.old k }
-    ensures { part.new ≡ quartersOver k (drop (start k) part.old) }
+    ensures { part.new ≡ quarters_over k (drop (start k) part.old) }
 {
     if 0 < k {
         let up = sizes::level_start(k - 1);
@@ -124,7 +124,7 @@ fn sum_up(part: &mut [i64], k: usize)
 pub fn fill_pyramid(part: &mut [i64], table: &[u16; 1024], greys: &[u8], r: usize)
     requires fill_asked { FillAsked part.old (length greys.now) r }
     requires table_value { table.now ≡ places }
-    ensures { part.new ≡ quartersFrom r (freshPyramid r greys.now) }
+    ensures { part.new ≡ quarters_from r (fresh_pyramid r greys.now) }
 {
     let off = sizes::level_start(r);
     fill_cells(&mut part[off..], table, greys, r);

@@ -1,5 +1,5 @@
--- The renewal. `renewed-right`: a pyramid that was right before some cells changed is, with the entries over these
--- cells renewed, right everywhere. `renewed-says`: what the renewal of any pyramid does, entry by entry.
+-- The renewal. `renewed_right`: a pyramid that was right before some cells changed is, with the entries over these
+-- cells renewed, right everywhere. `renewed_says`: what the renewal of any pyramid does, entry by entry.
 use Rattle.std.specs.Prelude.{◌≡◌, Bool, true, false, cond, ◌||◌, List, ◌++◌, length, take, drop, ℤ, pos}
 use Rattle.std.proofs.Math.Path.{refl, sym, ap}
 use Rattle.std.proofs.Common.{◌∙◌, length-append, length-drop, length-take-le, drop_at}
@@ -13,36 +13,36 @@ use Rattle.definition.specs.Pyramid.{
   start,
   place_in,
   row_at,
-  columnAt,
-  levelOf,
-  inLevel,
+  column_at,
+  level_of,
+  in_level,
   entry,
   four,
   coarser,
-  pyramidOver,
+  pyramid_over,
 }
-use Rattle.definition.specs.Renewal.{overThese, renewed}
-use Rattle.integers.specs.Lists.{tabulate-ext}
-use Rattle.integers.specs.Tests.{false-T, or-false, cond_both}
-use Rattle.quadtree.specs.Levels.{start-suc, start-mono, place-lt, row_lt, column-lt}
-use Rattle.quadtree.specs.Pyramids.{length-level, length-coarser, level-entry, entry-drop, Summed, four-ext}
+use Rattle.definition.specs.Renewal.{over_these, renewed}
+use Rattle.integers.specs.Lists.{tabulate_ext}
+use Rattle.integers.specs.Tests.{false_T, or_false, cond_both}
+use Rattle.quadtree.specs.Levels.{start_suc, start_mono, place_lt, row_lt, column_lt}
+use Rattle.quadtree.specs.Pyramids.{length_level, length_coarser, level_entry, entry_drop, Summed, four_ext}
 
 -- levels whose entries agree
-pub level-ext : (k : ℕ) (f g : ℕ → ℕ → ℤ) → ((a b : ℕ) → a < 2 ^ k → b < 2 ^ k → f a b ≡ g a b)
-    → levelOf k f ≡ levelOf k g
-unfolding levelOf
-level-ext k f g h =
-    tabulate-ext (2 ^ k * 2 ^ k) _ _ (λ i lt. h (row_at k i) (columnAt k i) (row_lt k i lt) (column-lt k i))
+pub level_ext : (k : ℕ) (f g : ℕ → ℕ → ℤ) → ((a b : ℕ) → a < 2 ^ k → b < 2 ^ k → f a b ≡ g a b)
+    → level_of k f ≡ level_of k g
+unfolding level_of
+level_ext k f g h =
+    tabulate_ext (2 ^ k * 2 ^ k) _ _ (λ i lt. h (row_at k i) (column_at k i) (row_lt k i lt) (column_lt k i))
 
 -- an entry of level k lies before the levels after it
-before-level : (k m a b : ℕ) → k < m → a < 2 ^ k → b < 2 ^ k → start k + place_in k a b < start m
-before-level k m a b lt p q = omega (arith, start-suc k, start-mono (suc k) m lt, place-lt k a b p q)
+before_level : (k m a b : ℕ) → k < m → a < 2 ^ k → b < 2 ^ k → start k + place_in k a b < start m
+before_level k m a b lt p q = omega (arith, start_suc k, start_mono (suc k) m lt, place_lt k a b p q)
 
 -- ---- only what the test says of cells on the map counts
 module _ (k : ℕ) (f g : ℕ → ℕ → Bool) (h : (x y : ℕ) → x < 2 ^ suc k → y < 2 ^ suc k → f x y ≡ g x y) where
-  over-ext : (a b : ℕ) → a < 2 ^ k → b < 2 ^ k → overThese f a b ≡ overThese g a b
-  unfolding overThese
-  over-ext a b p q =
+  over_ext : (a b : ℕ) → a < 2 ^ k → b < 2 ^ k → over_these f a b ≡ over_these g a b
+  unfolding over_these
+  over_ext a b p q =
       let two : 2 ^ suc k ≡ 2 * 2 ^ k = pow-succ' 2 k in
       rw (
         h (2 * a) (2 * b) (omega arith) (omega arith),
@@ -52,35 +52,35 @@ module _ (k : ℕ) (f g : ℕ → ℕ → Bool) (h : (x y : ℕ) → x < 2 ^ suc
         h (2 * a + 1) (2 * b + 1) (omega arith) (omega arith),
       )
 
-pub renewed-ext : (k : ℕ) (f g : ℕ → ℕ → Bool) (pyramid : List ℤ) → ((x y : ℕ) → x < 2 ^ k → y < 2 ^ k → f x y ≡ g x y)
+pub renewed_ext : (k : ℕ) (f g : ℕ → ℕ → Bool) (pyramid : List ℤ) → ((x y : ℕ) → x < 2 ^ k → y < 2 ^ k → f x y ≡ g x y)
     → renewed k f pyramid ≡ renewed k g pyramid
 unfolding renewed
-renewed-ext zero f g pyramid h = refl
-renewed-ext (suc k) f g pyramid h =
+renewed_ext zero f g pyramid h = refl
+renewed_ext (suc k) f g pyramid h =
     let cells = drop (start (suc k)) pyramid in
     let level : (ℕ → ℕ → Bool) → ℕ → ℕ
-    → ℤ = λ t a b. cond (overThese t a b) (four (inLevel (suc k) cells) a b) (entry pyramid k a b) in
-    let same : levelOf k (level f) ≡ levelOf k (level g)
-    = level-ext k (level f) (level g)
-    (λ a b p q. ap (λ (t : Bool). cond t (four (inLevel (suc k) cells) a b) (entry pyramid k a b))
-    (over-ext k f g h a b p q)) in
+    → ℤ = λ t a b. cond (over_these t a b) (four (in_level (suc k) cells) a b) (entry pyramid k a b) in
+    let same : level_of k (level f) ≡ level_of k (level g)
+    = level_ext k (level f) (level g)
+    (λ a b p q. ap (λ (t : Bool). cond t (four (in_level (suc k) cells) a b) (entry pyramid k a b))
+    (over_ext k f g h a b p q)) in
     ap (λ (l : List ℤ). l ++ cells)
-    (renewed-ext k (overThese f) (overThese g) (take (start k) pyramid ++ levelOf k (level f)) (over-ext k f g h)
-    ∙ ap (λ (l : List ℤ). renewed k (overThese g) (take (start k) pyramid ++ l)) same)
+    (renewed_ext k (over_these f) (over_these g) (take (start k) pyramid ++ level_of k (level f)) (over_ext k f g h)
+    ∙ ap (λ (l : List ℤ). renewed k (over_these g) (take (start k) pyramid ++ l)) same)
 
 -- ---- an entry not over these cells covers none of them
 none_of_four : (p q s t : Bool) → (p || q || s || t) ≡ false → (p ≡ false) × (q ≡ false) × (s ≡ false) × (t ≡ false)
 none_of_four p q s t e =
-    let u = or-false (p || q || s) t e in
-    let v = or-false (p || q) s u.0 in
-    let w = or-false p q v.0 in
+    let u = or_false (p || q || s) t e in
+    let v = or_false (p || q) s u.0 in
+    let w = or_false p q v.0 in
     (w.0, w.1, v.1, u.1)
 
 module _ (these : ℕ → ℕ → Bool) (k : ℕ) (f g : ℕ → ℕ → ℤ)
     (h : (x y : ℕ) → x < 2 ^ suc k → y < 2 ^ suc k → these x y ≡ false → f x y ≡ g x y) where
-  four-away : (a b : ℕ) → a < 2 ^ k → b < 2 ^ k → overThese these a b ≡ false → four f a b ≡ four g a b
-  unfolding four overThese
-  four-away a b p q e =
+  four_away : (a b : ℕ) → a < 2 ^ k → b < 2 ^ k → over_these these a b ≡ false → four f a b ≡ four g a b
+  unfolding four over_these
+  four_away a b p q e =
       let two : 2 ^ suc k ≡ 2 * 2 ^ k = pow-succ' 2 k in
       let u = none_of_four (these (2 * a) (2 * b)) (these (2 * a) (2 * b + 1)) (these (2 * a + 1) (2 * b))
       (these (2 * a + 1) (2 * b + 1)) e in
@@ -97,7 +97,7 @@ pub record Changed (k : ℕ) (these : ℕ → ℕ → Bool) (right cells : List 
   pub long : length right ≡ start (suc k)
   pub full : length cells ≡ 2 ^ k * 2 ^ k
   pub summed : Summed k right
-  pub away : (x y : ℕ) → x < 2 ^ k → y < 2 ^ k → these x y ≡ false → entry right k x y ≡ inLevel k cells x y
+  pub away : (x y : ℕ) → x < 2 ^ k → y < 2 ^ k → these x y ≡ false → entry right k x y ≡ in_level k cells x y
 
 -- one turn: level k over the cells of level k + 1
 module _ (k : ℕ) (these : ℕ → ℕ → Bool) (right cells : List ℤ) (h : Changed (suc k) these right cells) where
@@ -107,81 +107,81 @@ module _ (k : ℕ) (these : ℕ → ℕ → Bool) (right cells : List ℤ) (h : 
   abbrev lent : List ℤ
   lent = above ++ cells
 
-  above-long : length above ≡ start (suc k)
-  above-long = length-take-le (start (suc k)) right (omega (arith, h.long, start-suc (suc k)))
+  above_long : length above ≡ start (suc k)
+  above_long = length-take-le (start (suc k)) right (omega (arith, h.long, start_suc (suc k)))
 
   cells_in : drop (start (suc k)) lent ≡ cells
-  cells_in = drop_at above cells (start (suc k)) above-long
+  cells_in = drop_at above cells (start (suc k)) above_long
 
   above_in : take (start k) lent ≡ take (start k) above
-  above_in = take-append-le (start k) above cells (omega (arith, above-long, start-suc k))
+  above_in = take-append-le (start k) above cells (omega (arith, above_long, start_suc k))
 
   above_entry : (m a b : ℕ) → m ≤ k → a < 2 ^ m → b < 2 ^ m → entry above m a b ≡ entry right m a b
   unfolding entry
   above_entry m a b le p q =
-      get_or-take (start (suc k)) right (start m + place_in m a b) (pos 0) (before-level m (suc k) a b (omega arith) p q)
+      get_or-take (start (suc k)) right (start m + place_in m a b) (pos 0) (before_level m (suc k) a b (omega arith) p q)
 
-  lent-entry : (a b : ℕ) → a < 2 ^ k → b < 2 ^ k → entry lent k a b ≡ entry above k a b
+  lent_entry : (a b : ℕ) → a < 2 ^ k → b < 2 ^ k → entry lent k a b ≡ entry above k a b
   unfolding entry
-  lent-entry a b p q =
+  lent_entry a b p q =
       get_or-append above cells (pos 0) (start k + place_in k a b)
-      (omega (arith, above-long, before-level k (suc k) a b (omega arith) p q))
+      (omega (arith, above_long, before_level k (suc k) a b (omega arith) p q))
 
   -- where it isn't renewed, it was right
-  stays : (a b : ℕ) → a < 2 ^ k → b < 2 ^ k → overThese these a b ≡ false
-      → entry above k a b ≡ four (inLevel (suc k) cells) a b
+  stays : (a b : ℕ) → a < 2 ^ k → b < 2 ^ k → over_these these a b ≡ false
+      → entry above k a b ≡ four (in_level (suc k) cells) a b
   stays a b p q e =
       above_entry k a b (omega arith) p q ∙ h.summed.sums k a b (omega arith) p q
-      ∙ four-away these k (entry right (suc k)) (inLevel (suc k) cells) h.away a b p q e
+      ∙ four_away these k (entry right (suc k)) (in_level (suc k) cells) h.away a b p q e
 
-  level-right : levelOf k (λ a b. cond (overThese these a b) (four (inLevel (suc k) cells) a b) (entry lent k a b))
+  level_right : level_of k (λ a b. cond (over_these these a b) (four (in_level (suc k) cells) a b) (entry lent k a b))
       ≡ coarser k cells
   unfolding coarser
-  level-right =
-      level-ext k _ _
-      (λ a b p q. cond_both (λ z. z ≡ four (inLevel (suc k) cells) a b) (overThese these a b) _ _ (λ t. refl)
-      (λ t. lent-entry a b p q ∙ stays a b p q (false-T _ t)))
+  level_right =
+      level_ext k _ _
+      (λ a b p q. cond_both (λ z. z ≡ four (in_level (suc k) cells) a b) (over_these these a b) _ _ (λ t. refl)
+      (λ t. lent_entry a b p q ∙ stays a b p q (false_T _ t)))
 
-  next : Changed k (overThese these) above (coarser k cells)
+  next : Changed k (over_these these) above (coarser k cells)
   unfolding coarser
   next =
       record {
-        long = above-long;
-        full = length-coarser k cells;
+        long = above_long;
+        full = length_coarser k cells;
         summed =
             record {
               sums =
                   λ m a b lt p q. above_entry m a b (omega arith) p q ∙ h.summed.sums m a b (omega arith) p q
-                  ∙ sym (four-ext (2 ^ m) _ _ a b p q
+                  ∙ sym (four_ext (2 ^ m) _ _ a b p q
                   (λ x y u v. above_entry (suc m) x y lt (rw (pow-succ' 2 m) (omega arith))
                   (rw (pow-succ' 2 m) (omega arith))));
             };
-        away = λ a b p q e. stays a b p q e ∙ sym (level-entry k (four (inLevel (suc k) cells)) a b p q);
+        away = λ a b p q e. stays a b p q e ∙ sym (level_entry k (four (in_level (suc k) cells)) a b p q);
       }
 
 -- a pyramid that was right is right again after the renewal (S 3.8)
-pub renewed-right : (k : ℕ) (these : ℕ → ℕ → Bool) (right cells : List ℤ) → Changed k these right cells
-    → renewed k these (take (start k) right ++ cells) ≡ pyramidOver k cells
-unfolding renewed pyramidOver
-renewed-right zero these right cells h = unfold start in refl
-renewed-right (suc k) these right cells h =
-    rw (cells_in k these right cells h, above_in k these right cells h, level-right k these right cells h)
+pub renewed_right : (k : ℕ) (these : ℕ → ℕ → Bool) (right cells : List ℤ) → Changed k these right cells
+    → renewed k these (take (start k) right ++ cells) ≡ pyramid_over k cells
+unfolding renewed pyramid_over
+renewed_right zero these right cells h = unfold start in refl
+renewed_right (suc k) these right cells h =
+    rw (cells_in k these right cells h, above_in k these right cells h, level_right k these right cells h)
     (ap (λ (l : List ℤ). l ++ cells)
-    (renewed-right k (overThese these) (take (start (suc k)) right) (coarser k cells) (next k these right cells h)))
+    (renewed_right k (over_these these) (take (start (suc k)) right) (coarser k cells) (next k these right cells h)))
 
 -- ---- what the request says, entry by entry
 -- whether an entry, j levels above these cells, is over one of them
-unfoldable pub overAt : ℕ → (ℕ → ℕ → Bool) → ℕ → ℕ → Bool
-overAt zero these = these
-overAt (suc j) these = overAt j (overThese these)
+unfoldable pub over_at : ℕ → (ℕ → ℕ → Bool) → ℕ → ℕ → Bool
+over_at zero these = these
+over_at (suc j) these = over_at j (over_these these)
 
 -- The entries over these cells are again the sums of their four, and no other entry has changed (S 3.8).
 pub record Renewed (r : ℕ) (these : ℕ → ℕ → Bool) (before after : List ℤ) : Type 0 where
   pub same_length : length after ≡ length before
   pub cells : (x y : ℕ) → entry after r x y ≡ entry before r x y
-  pub sums : (j k a b : ℕ) → suc j + k ≡ r → a < 2 ^ k → b < 2 ^ k → overAt (suc j) these a b ≡ true
+  pub sums : (j k a b : ℕ) → suc j + k ≡ r → a < 2 ^ k → b < 2 ^ k → over_at (suc j) these a b ≡ true
       → entry after k a b ≡ four (entry after (suc k)) a b
-  pub others : (j k a b : ℕ) → suc j + k ≡ r → a < 2 ^ k → b < 2 ^ k → overAt (suc j) these a b ≡ false
+  pub others : (j k a b : ℕ) → suc j + k ≡ r → a < 2 ^ k → b < 2 ^ k → over_at (suc j) these a b ≡ false
       → entry after k a b ≡ entry before k a b
 
 module _ (k : ℕ) (these : ℕ → ℕ → Bool) (before : List ℤ) (long : length before ≡ start (suc (suc k))) where
@@ -189,75 +189,75 @@ module _ (k : ℕ) (these : ℕ → ℕ → Bool) (before : List ℤ) (long : le
   finer = drop (start (suc k)) before
 
   abbrev over : ℕ → ℕ → Bool
-  over = overThese these
+  over = over_these these
 
   abbrev made : ℕ → ℕ → ℤ
-  made a b = cond (over a b) (four (inLevel (suc k) finer) a b) (entry before k a b)
+  made a b = cond (over a b) (four (in_level (suc k) finer) a b) (entry before k a b)
 
   abbrev coarse : List ℤ
-  coarse = take (start k) before ++ levelOf k made
+  coarse = take (start k) before ++ level_of k made
 
-  kept-long : length (take (start k) before) ≡ start k
-  kept-long = length-take-le (start k) before (omega (arith, long, start-suc k, start-suc (suc k)))
+  kept_long : length (take (start k) before) ≡ start k
+  kept_long = length-take-le (start k) before (omega (arith, long, start_suc k, start_suc (suc k)))
 
-  coarse-long : length coarse ≡ start (suc k)
-  coarse-long =
-      omega (arith, length-append (take (start k) before) (levelOf k made), kept-long, length-level k made, start-suc k)
+  coarse_long : length coarse ≡ start (suc k)
+  coarse_long =
+      omega (arith, length-append (take (start k) before) (level_of k made), kept_long, length_level k made, start_suc k)
 
   module _ (up : List ℤ) (ih : Renewed k over coarse up) where
     abbrev after : List ℤ
     after = up ++ finer
 
-    up-long : length up ≡ start (suc k)
-    up-long = ih.same_length ∙ coarse-long
+    up_long : length up ≡ start (suc k)
+    up_long = ih.same_length ∙ coarse_long
 
-    after-up : (m a b : ℕ) → m ≤ k → a < 2 ^ m → b < 2 ^ m → entry after m a b ≡ entry up m a b
+    after_up : (m a b : ℕ) → m ≤ k → a < 2 ^ m → b < 2 ^ m → entry after m a b ≡ entry up m a b
     unfolding entry
-    after-up m a b le p q =
+    after_up m a b le p q =
         get_or-append up finer (pos 0) (start m + place_in m a b)
-        (omega (arith, up-long, before-level m (suc k) a b (omega arith) p q))
+        (omega (arith, up_long, before_level m (suc k) a b (omega arith) p q))
 
-    after-finer : (x y : ℕ) → entry after (suc k) x y ≡ inLevel (suc k) finer x y
-    unfolding entry inLevel
-    after-finer x y =
-        ap (λ (n : ℕ). get_or after (n + place_in (suc k) x y) (pos 0)) (sym up-long)
+    after_finer : (x y : ℕ) → entry after (suc k) x y ≡ in_level (suc k) finer x y
+    unfolding entry in_level
+    after_finer x y =
+        ap (λ (n : ℕ). get_or after (n + place_in (suc k) x y) (pos 0)) (sym up_long)
         ∙ get_or-append-add up finer (place_in (suc k) x y) (pos 0)
 
-    coarse-made : (a b : ℕ) → a < 2 ^ k → b < 2 ^ k → entry coarse k a b ≡ made a b
+    coarse_made : (a b : ℕ) → a < 2 ^ k → b < 2 ^ k → entry coarse k a b ≡ made a b
     unfolding entry
-    coarse-made a b p q =
-        ap (λ (n : ℕ). get_or coarse (n + place_in k a b) (pos 0)) (sym kept-long)
-        ∙ get_or-append-add (take (start k) before) (levelOf k made) (place_in k a b) (pos 0)
-        ∙ (unfold inLevel in level-entry k made a b p q)
+    coarse_made a b p q =
+        ap (λ (n : ℕ). get_or coarse (n + place_in k a b) (pos 0)) (sym kept_long)
+        ∙ get_or-append-add (take (start k) before) (level_of k made) (place_in k a b) (pos 0)
+        ∙ (unfold in_level in level_entry k made a b p q)
 
-    coarse-above : (m a b : ℕ) → m < k → a < 2 ^ m → b < 2 ^ m → entry coarse m a b ≡ entry before m a b
+    coarse_above : (m a b : ℕ) → m < k → a < 2 ^ m → b < 2 ^ m → entry coarse m a b ≡ entry before m a b
     unfolding entry
-    coarse-above m a b lt p q =
-        get_or-append (take (start k) before) (levelOf k made) (pos 0) (start m + place_in m a b)
-        (omega (arith, kept-long, before-level m k a b lt p q))
-        ∙ get_or-take (start k) before (start m + place_in m a b) (pos 0) (before-level m k a b lt p q)
+    coarse_above m a b lt p q =
+        get_or-append (take (start k) before) (level_of k made) (pos 0) (start m + place_in m a b)
+        (omega (arith, kept_long, before_level m k a b lt p q))
+        ∙ get_or-take (start k) before (start m + place_in m a b) (pos 0) (before_level m k a b lt p q)
 
-    up-made : (a b : ℕ) → a < 2 ^ k → b < 2 ^ k → entry after k a b ≡ made a b
-    up-made a b p q = after-up k a b (omega arith) p q ∙ ih.cells a b ∙ coarse-made a b p q
+    up_made : (a b : ℕ) → a < 2 ^ k → b < 2 ^ k → entry after k a b ≡ made a b
+    up_made a b p q = after_up k a b (omega arith) p q ∙ ih.cells a b ∙ coarse_made a b p q
 
-    says-sums : (j m a b : ℕ) → suc j + m ≡ suc k → a < 2 ^ m → b < 2 ^ m → overAt (suc j) these a b ≡ true
+    says_sums : (j m a b : ℕ) → suc j + m ≡ suc k → a < 2 ^ m → b < 2 ^ m → over_at (suc j) these a b ≡ true
         → entry after m a b ≡ four (entry after (suc m)) a b
-    unfolding overAt
-    says-sums zero m a b e p q t =
+    unfolding over_at
+    says_sums zero m a b e p q t =
         let z : m ≡ k = omega arith in
-        rw z (up-made a b (rw z at p) (rw z at q)
-        ∙ rw t (sym (four-ext (2 ^ k) _ _ a b (rw z at p) (rw z at q) (λ x y i j. after-finer x y))))
-    says-sums (suc j) m a b e p q t =
+        rw z (up_made a b (rw z at p) (rw z at q)
+        ∙ rw t (sym (four_ext (2 ^ k) _ _ a b (rw z at p) (rw z at q) (λ x y i j. after_finer x y))))
+    says_sums (suc j) m a b e p q t =
         let two : 2 ^ suc m ≡ 2 * 2 ^ m = pow-succ' 2 m in
-        after-up m a b (omega arith) p q ∙ ih.sums j m a b (omega arith) p q t
-        ∙ sym (four-ext (2 ^ m) _ _ a b p q (λ x y i s. after-up (suc m) x y (omega arith) (omega arith) (omega arith)))
+        after_up m a b (omega arith) p q ∙ ih.sums j m a b (omega arith) p q t
+        ∙ sym (four_ext (2 ^ m) _ _ a b p q (λ x y i s. after_up (suc m) x y (omega arith) (omega arith) (omega arith)))
 
-    says-others : (j m a b : ℕ) → suc j + m ≡ suc k → a < 2 ^ m → b < 2 ^ m → overAt (suc j) these a b ≡ false
+    says_others : (j m a b : ℕ) → suc j + m ≡ suc k → a < 2 ^ m → b < 2 ^ m → over_at (suc j) these a b ≡ false
         → entry after m a b ≡ entry before m a b
-    unfolding overAt
-    says-others zero m a b e p q t = let z : m ≡ k = omega arith in rw z (up-made a b (rw z at p) (rw z at q) ∙ rw t)
-    says-others (suc j) m a b e p q t =
-        after-up m a b (omega arith) p q ∙ ih.others j m a b (omega arith) p q t ∙ coarse-above m a b (omega arith) p q
+    unfolding over_at
+    says_others zero m a b e p q t = let z : m ≡ k = omega arith in rw z (up_made a b (rw z at p) (rw z at q) ∙ rw t)
+    says_others (suc j) m a b e p q t =
+        after_up m a b (omega arith) p q ∙ ih.others j m a b (omega arith) p q t ∙ coarse_above m a b (omega arith) p q
 
     says : Renewed (suc k) these before after
     says =
@@ -266,31 +266,31 @@ module _ (k : ℕ) (these : ℕ → ℕ → Bool) (before : List ℤ) (long : le
               omega (
                 arith,
                 length-append up finer,
-                up-long,
+                up_long,
                 length-drop (start (suc k)) before,
                 long,
-                start-suc
+                start_suc
                     (suc k),
               );
-          cells = λ x y. after-finer x y ∙ entry-drop before (suc k) x y;
-          sums = says-sums;
-          others = says-others;
+          cells = λ x y. after_finer x y ∙ entry_drop before (suc k) x y;
+          sums = says_sums;
+          others = says_others;
         }
 
 -- what the renewal does to any pyramid, right or not (S 12.3)
-pub renewed-says : (r : ℕ) (these : ℕ → ℕ → Bool) (before : List ℤ) → length before ≡ start (suc r)
+pub renewed_says : (r : ℕ) (these : ℕ → ℕ → Bool) (before : List ℤ) → length before ≡ start (suc r)
     → Renewed r these before (renewed r these before)
 unfolding renewed
-renewed-says zero these before long =
+renewed_says zero these before long =
     record {
       same_length = refl;
       cells = λ x y. refl;
       sums = λ j k a b e. absurd (omega arith);
       others = λ j k a b e. absurd (omega arith);
     }
-renewed-says (suc k) these before long =
+renewed_says (suc k) these before long =
     says k these before long _
-    (renewed-says k (overThese these) (coarse k these before long) (coarse-long k these before long))
+    (renewed_says k (over_these these) (coarse k these before long) (coarse_long k these before long))
 
 -- ---- what the request asks for, written out clause by clause, each taken from a field
 module _ (r : ℕ) (these : ℕ → ℕ → Bool) (before : List ℤ) (long : length before ≡ start (suc r)) where
@@ -298,18 +298,18 @@ module _ (r : ℕ) (these : ℕ → ℕ → Bool) (before : List ℤ) (long : le
   renewal = renewed r these before
 
   says_so : Renewed r these before renewal
-  says_so = renewed-says r these before long
+  says_so = renewed_says r these before long
 
-  pub renewed-length : length renewal ≡ length before
-  renewed-length = says_so.same_length
+  pub renewed_length : length renewal ≡ length before
+  renewed_length = says_so.same_length
 
-  pub renewed-cells : (x y : ℕ) → entry renewal r x y ≡ entry before r x y
-  renewed-cells = says_so.cells
+  pub renewed_cells : (x y : ℕ) → entry renewal r x y ≡ entry before r x y
+  renewed_cells = says_so.cells
 
   -- an entry of level k, at least one level above the cells
   module _ (j k a b : ℕ) (coarser : suc j + k ≡ r) (row : a < 2 ^ k) (column : b < 2 ^ k) where
-    pub over-these : overAt (suc j) these a b ≡ true → entry renewal k a b ≡ four (entry renewal (suc k)) a b
-    over-these = says_so.sums j k a b coarser row column
+    pub over_these_lem : over_at (suc j) these a b ≡ true → entry renewal k a b ≡ four (entry renewal (suc k)) a b
+    over_these_lem = says_so.sums j k a b coarser row column
 
-    pub not-over-these : overAt (suc j) these a b ≡ false → entry renewal k a b ≡ entry before k a b
-    not-over-these = says_so.others j k a b coarser row column
+    pub not_over_these : over_at (suc j) these a b ≡ false → entry renewal k a b ≡ entry before k a b
+    not_over_these = says_so.others j k a b coarser row column

@@ -3,11 +3,11 @@
 // bytes.
 ghost use Rattle.std.specs.Prelude.{◌≡◌, ◌^◌, ◌<◌, ◌≤◌};
 ghost use Rattle.definition.specs.Lists.{joined};
-ghost use Rattle.definition.specs.Answers.{textSays};
-ghost use Rattle.definition.specs.QuotePage.{columns, alignedLine, quoteLine, quoteText, quotePageRefusal, quotePageOf};
+ghost use Rattle.definition.specs.Answers.{text_says};
+ghost use Rattle.definition.specs.QuotePage.{columns, aligned_line, quote_line, quote_text, quote_page_refusal, quote_page_of};
 ghost use Rattle.decimals.specs.Writing.{Wrote};
 ghost use Rattle.checks.specs.Checks.{checked};
-ghost use Rattle.quote_page.specs.Page.{PageAsked, pageLength};
+ghost use Rattle.quote_page.specs.Page.{PageAsked, page_length};
 
 use checks::Check;
 use definition::{Refusal, TextAnswer};
@@ -23,7 +23,7 @@ fn put_line(
     cap: u64,
 ) -> usize
     requires { at ≤ 2 ^ 61 }
-    ensures { Wrote out.old at (alignedLine (columns row column grey dots cap)) result out.new }
+    ensures { Wrote out.old at (aligned_line (columns row column grey dots cap)) result out.new }
 {
     let second = decimals::put_column(out, at, 3, row, 32);
     let third = decimals::put_column(out, second, 3, column, 32);
@@ -44,7 +44,7 @@ fn put_block(
     column: usize,
 ) -> usize
     requires { (at ≤ 2 ^ 61) × (row < 2 ^ k) × (column < 2 ^ k) × PageAsked greys.now serials.now r k }
-    ensures { Wrote out.old at (quoteLine r greys.now serials.now k row column) result
+    ensures { Wrote out.old at (quote_line r greys.now serials.now k row column) result
         out.new }
 {
     let s = sizes::pow2(r - k) as u64;
@@ -65,7 +65,7 @@ fn put_row(
     row: usize,
 ) -> usize
     requires { (from ≤ 2 ^ 60) × (row < 2 ^ k) × PageAsked greys.now serials.now r k }
-    ensures { Wrote out.old from (joined (2 ^ k) (quoteLine r greys.now serials.now k row))
+    ensures { Wrote out.old from (joined (2 ^ k) (quote_line r greys.now serials.now k row))
         result out.new }
 {
     let count = sizes::pow2(k);
@@ -81,7 +81,7 @@ fn put_row(
 // The whole page.
 fn put_page(out: &mut [u8], greys: &[u8], serials: &[u32], r: usize, k: usize) -> usize
     requires { PageAsked greys.now serials.now r k }
-    ensures { Wrote out.old 0 (quoteText r greys.now serials.now k) result out.new }
+    ensures { Wrote out.old 0 (quote_text r greys.now serials.now k) result out.new }
 {
     let count = sizes::pow2(k);
     let mut at = 0;
@@ -96,7 +96,7 @@ fn put_page(out: &mut [u8], greys: &[u8], serials: &[u32], r: usize, k: usize) -
 // The refusals 1, 2, 4, 6, 8 (S 5.2), for lengths lent.
 fn check_quote(r: usize, greys: usize, serials: usize, k: usize, out: usize) -> Check
     requires { r ≤ 8 }
-    ensures { checked result ≡ quotePageRefusal r greys serials k (pageLength k) out }
+    ensures { checked result ≡ quote_page_refusal r greys serials k (page_length k) out }
 {
     if r == 0 {
         return Check::Failed(Refusal::SideUnknown);
@@ -127,10 +127,10 @@ pub fn quote_page(
     out: &mut [u8],
 ) -> TextAnswer
     ensures { record {
-      said = textSays result;
+      said = text_says result;
       output = out.new;
     }
-        ≡ quotePageOf side greys.now serials.now level out.old }
+        ≡ quote_page_of side greys.now serials.now level out.old }
 {
     let r = sizes::power_of(side);
     let k = level as usize;

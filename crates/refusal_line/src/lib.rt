@@ -1,6 +1,6 @@
 // The line that a program prints for a refusal (`put_refused`).
 ghost use Rattle.std.specs.Prelude.{◌^◌, ◌≤◌, length};
-ghost use Rattle.definition.specs.Plate.{refusedText};
+ghost use Rattle.definition.specs.Plate.{refused_text};
 ghost use Rattle.decimals.specs.Writing.{Wrote};
 ghost use Rattle.decimals.specs.Printed.{Printed};
 
@@ -20,7 +20,7 @@ fn put_bytes(out: &mut [u8], bytes: &[u8]) -> usize
 // The line "refused,n" that a program prints where it says no (S 14.1): eight bytes, the number, and byte 10.
 pub fn put_refused(out: &mut [u8], number: u32) -> usize
     requires { 29 ≤ length out.old }
-    ensures { Printed (refusedText number) out.old result out.new }
+    ensures { Printed (refused_text number) out.old result out.new }
 {
     let at = put_bytes(out, b"refused,");
     decimals::put_field(out, at, number as u64, 10)

@@ -1,31 +1,31 @@
--- Relay's check (`relay-sound`, `relay-unsound`), and its two ways out: refused, with nothing changed (`refused-is`),
--- and the second pyramid written (`relaid-is`).
+-- Relay's check (`relay_sound`, `relay_unsound`), and its two ways out: refused, with nothing changed (`refused_is`),
+-- and the second pyramid written (`relaid_is`).
 use Rattle.std.specs.Prelude.{◌≡◌, refl, Bool, true, false, cond, not, ◌||◌, List, ◌++◌, ltb, eqb, length, drop, ℤ}
 use Rattle.std.proofs.Common.{sym, ap, ◌∙◌, arith, lt-ltb, le-ltb}
 use Prim.Native.Nat.{ℕ, suc, ◌-◌, ◌≤◌, ◌<◌, min}
 use Rattle.std.proofs.Math.Decide.{dec_lt}
-use Rattle.definition.specs.Answers.{relaySays, number_of}
-use Rattle.definition.specs.Pyramid.{needed, cellCount}
-use Rattle.definition.specs.Refusals.{powerOf, lowest}
-use Rattle.definition.specs.Sound.{isSound}
-use Rattle.definition.specs.Advance.{sheetIn, advanceRefusal}
-use Rattle.definition.specs.Quarters.{quartersFrom}
-use Rattle.definition.specs.ByQuarters.{relayRefusal, relayOf}
+use Rattle.definition.specs.Answers.{relay_says, number_of}
+use Rattle.definition.specs.Pyramid.{needed, cell_count}
+use Rattle.definition.specs.Refusals.{power_of, lowest}
+use Rattle.definition.specs.Sound.{is_sound}
+use Rattle.definition.specs.Advance.{sheet_in, advance_refusal}
+use Rattle.definition.specs.Quarters.{quarters_from}
+use Rattle.definition.specs.ByQuarters.{relay_refusal, relay_of}
 use Rattle.definition.specs.declared.Progress.{Progress}
 use Rattle.definition.specs.declared.Refusal.{Refusal}
 use Rattle.definition.specs.declared.Refusal.TheVariants.{SheetUnsound}
 use Rattle.definition.specs.declared.RelayAnswer.TheVariants.{Relaid, Refused}
 use Rattle.refusals.specs.Powers.{power_small}
-use Rattle.refusals.specs.Numbers.{number-positive}
-use Rattle.checks.specs.Checks.{checked, passed_none, failed-number}
+use Rattle.refusals.specs.Numbers.{number_positive}
+use Rattle.checks.specs.Checks.{checked, passed_none, failed_number}
 use Rattle.checks.specs.declared.Check.{Check}
 use Rattle.checks.specs.declared.Check.TheVariants.{Passed, Failed}
-use Rattle.sheet.specs.Sheets.{SheetLent, sheet-lent, shownRows, lengths-failed, lengths-passed, is-sound, is-unsound}
+use Rattle.sheet.specs.Sheets.{SheetLent, sheet_lent, shown_rows, lengths_failed, lengths_passed, is_sound_lem, is_unsound}
 use Rattle.relay.specs.Laying.{LevelsAsked}
 
 -- one of two lengths is too short just if the shorter one is
-either-short : (p q n : ℕ) → ltb (min p q) n ≡ (ltb p n || ltb q n)
-either-short p q n = go (dec_lt p n) (dec_lt q n)
+either_short : (p q n : ℕ) → ltb (min p q) n ≡ (ltb p n || ltb q n)
+either_short p q n = go (dec_lt p n) (dec_lt q n)
   where
     go : Dec (p < n) → Dec (q < n) → ltb (min p q) n ≡ (ltb p n || ltb q n)
     go (yes a) b = rw (lt-ltb (min p q) n (omega arith), lt-ltb p n a)
@@ -35,14 +35,14 @@ either-short p q n = go (dec_lt p n) (dec_lt q n)
         rw (le-ltb (min p q) n (omega arith), le-ltb p n (omega arith), le-ltb q n (omega arith))
 
 -- so the rows of Relay are those of Advance for the shorter pyramid
-pub relay-rows : (r knit p q s o : ℕ) (sound : Bool)
-    → relayRefusal r knit p q s o sound ≡ advanceRefusal r knit (min p q) s o sound
-unfolding relayRefusal advanceRefusal lowest
-relay-rows r knit p q s o sound =
-    rw (either-short p q (needed r)) (go (ltb p (needed r)) (ltb q (needed r)))
+pub relay_rows : (r knit p q s o : ℕ) (sound : Bool)
+    → relay_refusal r knit p q s o sound ≡ advance_refusal r knit (min p q) s o sound
+unfolding relay_refusal advance_refusal lowest
+relay_rows r knit p q s o sound =
+    rw (either_short p q (needed r)) (go (ltb p (needed r)) (ltb q (needed r)))
   where
     rest : ℕ
-    rest = cond (ltb s (cellCount r)) 4 (cond (ltb o (cellCount r)) 4 (cond (not sound) 5 0))
+    rest = cond (ltb s (cell_count r)) 4 (cond (ltb o (cell_count r)) 4 (cond (not sound) 5 0))
 
     go : (b c : Bool)
         → cond (eqb r 0) 1 (cond (ltb 1 knit) 11 (cond b 3 (cond c 3 rest)))
@@ -54,74 +54,74 @@ relay-rows r knit p q s o sound =
 -- ---- the check; `lent` is the shorter length
 module _ (r knit dots : ℕ) (p : List ℤ) (s o : List ℕ) (second : ℕ) {lent : ℕ}
     (el : lent ≡ min (length p) second) (lengths : Check)
-    (e : checked lengths ≡ advanceRefusal r knit lent (length s) (length o) true) where
+    (e : checked lengths ≡ advance_refusal r knit lent (length s) (length o) true) where
   abbrev sound : Bool
-  sound = isSound r (sheetIn r dots p s o)
+  sound = is_sound r (sheet_in r dots p s o)
 
   abbrev refusal : ℕ
-  refusal = relayRefusal r knit (length p) second (length s) (length o) (isSound r (sheetIn r dots p s o))
+  refusal = relay_refusal r knit (length p) second (length s) (length o) (is_sound r (sheet_in r dots p s o))
 
-  as-shorter : advanceRefusal r knit lent (length s) (length o) sound ≡ refusal
-  as-shorter = rw el (sym (relay-rows r knit (length p) second (length s) (length o) sound))
+  as_shorter : advance_refusal r knit lent (length s) (length o) sound ≡ refusal
+  as_shorter = rw el (sym (relay_rows r knit (length p) second (length s) (length o) sound))
 
-  pub relay-failed : {why : Refusal} → lengths ≡ Failed why → checked (Failed why) ≡ refusal
-  relay-failed failed = lengths-failed r knit lent (length s) (length o) lengths e sound failed ∙ as-shorter
+  pub relay_failed : {why : Refusal} → lengths ≡ Failed why → checked (Failed why) ≡ refusal
+  relay_failed failed = lengths_failed r knit lent (length s) (length o) lengths e sound failed ∙ as_shorter
 
   module _ (passed : lengths ≡ Passed) where
-    pub relay-lent : SheetLent r (length p) (length s) (length o)
-    relay-lent =
-        let h = lengths-passed r knit lent (length s) (length o) lengths e passed in
+    pub relay_lent : SheetLent r (length p) (length s) (length o)
+    relay_lent =
+        let h = lengths_passed r knit lent (length s) (length o) lengths e passed in
         record {
           power = h.power;
-          pyramid-long = omega (arith, el, h.pyramid-long);
-          serials-long = h.serials-long;
-          order-long = h.order-long;
+          pyramid_long = omega (arith, el, h.pyramid_long);
+          serials_long = h.serials_long;
+          order_long = h.order_long;
         }
 
-    module _ {b : Bool} (eb : b ≡ isSound r (sheetIn r dots (shownRows true r p) s o)) where
-      pub relay-sound : b ≡ true → checked Passed ≡ refusal
-      unfolding shownRows
-      relay-sound yes' = is-sound r knit lent (length s) (length o) lengths e passed sound eb yes' ∙ as-shorter
+    module _ {b : Bool} (eb : b ≡ is_sound r (sheet_in r dots (shown_rows true r p) s o)) where
+      pub relay_sound : b ≡ true → checked Passed ≡ refusal
+      unfolding shown_rows
+      relay_sound yes' = is_sound_lem r knit lent (length s) (length o) lengths e passed sound eb yes' ∙ as_shorter
 
-      pub relay-unsound : b ≡ false → checked (Failed SheetUnsound) ≡ refusal
-      unfolding shownRows
-      relay-unsound no' = is-unsound r knit lent (length s) (length o) lengths e passed sound eb no' ∙ as-shorter
+      pub relay_unsound : b ≡ false → checked (Failed SheetUnsound) ≡ refusal
+      unfolding shown_rows
+      relay_unsound no' = is_unsound r knit lent (length s) (length o) lengths e passed sound eb no' ∙ as_shorter
 
 -- ---- the call
 module _ (progress : Progress) (p : List ℤ) (s o : List ℕ) (second : List ℤ)
-    {r : ℕ} (er : r ≡ powerOf progress.side) (check : Check)
+    {r : ℕ} (er : r ≡ power_of progress.side) (check : Check)
     (e : checked check
-    ≡ relayRefusal r progress.knit (length p) (length second) (length s) (length o)
-    (isSound r (sheetIn r progress.dots p s o))) where
-  abbrev refusalOf : ℕ
-  refusalOf =
-      let k = powerOf progress.side in
-      relayRefusal k progress.knit (length p) (length second) (length s) (length o)
-      (isSound k (sheetIn k progress.dots p s o))
+    ≡ relay_refusal r progress.knit (length p) (length second) (length s) (length o)
+    (is_sound r (sheet_in r progress.dots p s o))) where
+  abbrev refusal_of : ℕ
+  refusal_of =
+      let k = power_of progress.side in
+      relay_refusal k progress.knit (length p) (length second) (length s) (length o)
+      (is_sound k (sheet_in k progress.dots p s o))
 
-  pub refused-is : {why : Refusal} → check ≡ Failed why
-      → record { said = relaySays (Refused why); second = second } ≡ relayOf progress p s o second
-  unfolding relayOf relaySays
-  refused-is {why} failed =
-      let n : refusalOf ≡ suc (number_of why - 1) = rw (← er) (failed-number check e why failed) in
-      rw (n, relayOf, ← number-positive why)
+  pub refused_is : {why : Refusal} → check ≡ Failed why
+      → record { said = relay_says (Refused why); second = second } ≡ relay_of progress p s o second
+  unfolding relay_of relay_says
+  refused_is {why} failed =
+      let n : refusal_of ≡ suc (number_of why - 1) = rw (← er) (failed_number check e why failed) in
+      rw (n, relay_of, ← number_positive why)
 
   module _ (passed : check ≡ Passed) where
-    pub relay-asked : LevelsAsked (length second) (length p) r
-    relay-asked =
+    pub relay_asked : LevelsAsked (length second) (length p) r
+    relay_asked =
         let none = passed_none check e passed in
-        let rows = relay-rows r progress.knit (length p) (length second) (length s) (length o) _ in
-        let lent = (sheet-lent r progress.knit (min (length p) (length second)) (length s) (length o) _
+        let rows = relay_rows r progress.knit (length p) (length second) (length s) (length o) _ in
+        let lent = (sheet_lent r progress.knit (min (length p) (length second)) (length s) (length o) _
         (sym rows ∙ none)).0 in
         record {
           small = power_small progress.side er;
-          second-long = omega (arith, lent.pyramid-long);
-          pyramid-long = omega (arith, lent.pyramid-long);
+          second_long = omega (arith, lent.pyramid_long);
+          pyramid_long = omega (arith, lent.pyramid_long);
         }
 
-    pub relaid-is : {second' : List ℤ} → second' ≡ quartersFrom r p ++ drop (needed r) second
-        → record { said = relaySays Relaid; second = second' } ≡ relayOf progress p s o second
-    unfolding relayOf relaySays
-    relaid-is q =
-        let z : refusalOf ≡ 0 = rw (← er) (passed_none check e passed) in
-        rw (q, er, z, relayOf)
+    pub relaid_is : {second' : List ℤ} → second' ≡ quarters_from r p ++ drop (needed r) second
+        → record { said = relay_says Relaid; second = second' } ≡ relay_of progress p s o second
+    unfolding relay_of relay_says
+    relaid_is q =
+        let z : refusal_of ≡ 0 = rw (← er) (passed_none check e passed) in
+        rw (q, er, z, relay_of)

@@ -1,11 +1,11 @@
 // Relay (`relay`): the pyramid of an older sheet, which lies row after row, written by quarters into a second one.
 ghost use Rattle.std.specs.Prelude.{◌≡◌, ◌++◌, ◌≤◌, length, drop};
-ghost use Rattle.definition.specs.Answers.{relaySays};
-ghost use Rattle.definition.specs.Pyramid.{needed, cellCount, inLevel};
-ghost use Rattle.definition.specs.Sound.{isSound};
-ghost use Rattle.definition.specs.Advance.{sheetIn};
-ghost use Rattle.definition.specs.Quarters.{quarterLevel, quartersFrom};
-ghost use Rattle.definition.specs.ByQuarters.{relayRefusal, relayOf};
+ghost use Rattle.definition.specs.Answers.{relay_says};
+ghost use Rattle.definition.specs.Pyramid.{needed, cell_count, in_level};
+ghost use Rattle.definition.specs.Sound.{is_sound};
+ghost use Rattle.definition.specs.Advance.{sheet_in};
+ghost use Rattle.definition.specs.Quarters.{quarter_level, quarters_from};
+ghost use Rattle.definition.specs.ByQuarters.{relay_refusal, relay_of};
 ghost use Rattle.checks.specs.Checks.{checked};
 ghost use Rattle.places.specs.Table.{places};
 ghost use Rattle.relay.specs.Laying.{LevelAsked, LevelsAsked};
@@ -28,9 +28,9 @@ fn check_relay(
     requires r_bound { r ≤ 8 }
     requires table_value { table.now ≡ places }
     ensures { checked result
-        ≡ relayRefusal r knit (length pyramid.now) second
+        ≡ relay_refusal r knit (length pyramid.now) second
         (length serials.now) (length order.now)
-        (isSound r (sheetIn r dots pyramid.now serials.now order.now)) }
+        (is_sound r (sheet_in r dots pyramid.now serials.now order.now)) }
 {
     let lent = sizes::shorter(pyramid.len(), second);
     match sheet::check_lengths(r, knit, lent, serials.len(), order.len()) {
@@ -48,7 +48,7 @@ fn check_relay(
 fn lay_level(level: &mut [i64], table: &[u16; 1024], from: &[i64], k: usize)
     requires level_asked { LevelAsked (length level.old) (length from.now) k }
     requires table_value { table.now ≡ places }
-    ensures { level.new ≡ quarterLevel k (inLevel k from.now) }
+    ensures { level.new ≡ quarter_level k (in_level k from.now) }
 {
     let side = sizes::pow2(k);
     let count = sizes::cell_count(k);
@@ -64,7 +64,7 @@ fn lay_level(level: &mut [i64], table: &[u16; 1024], from: &[i64], k: usize)
 fn lay_levels(second: &mut [i64], table: &[u16; 1024], pyramid: &[i64], r: usize)
     requires levels_asked { LevelsAsked (length second.old) (length pyramid.now) r }
     requires table_value { table.now ≡ places }
-    ensures { second.new ≡ quartersFrom r pyramid.now ++ drop (needed r) second.old }
+    ensures { second.new ≡ quarters_from r pyramid.now ++ drop (needed r) second.old }
 {
     let mut k = 0;
     while k <= r {
@@ -83,8 +83,8 @@ pub fn relay(
     order: &[u32],
     second: &mut [i64],
 ) -> RelayAnswer
-    ensures { record { said = relaySays result; second = second.new }
-        ≡ relayOf progress
+    ensures { record { said = relay_says result; second = second.new }
+        ≡ relay_of progress
         pyramid.now serials.now order.now second.old }
 {
     let table = places::table();

@@ -1,4 +1,4 @@
--- The cells around one: what is over them is over the corners of their box (`corners-over`, `renewed-around`).
+-- The cells around one: what is over them is over the corners of their box (`corners_over`, `renewed_around`).
 use Rattle.std.specs.Prelude.{◌≡◌, ◌⊎◌, Bool, true, false, cond, leb, take, ℤ}
 use Rattle.std.proofs.Math.Path.{refl, sym, ap, ap₂}
 use Rattle.std.proofs.Common.{◌∙◌, inl, inr, arith, mul-le-mul, add-one, pow_mono}
@@ -10,19 +10,19 @@ use Rattle.std.proofs.Math.Decide.{ℕ_discrete}
 use Rattle.std.proofs.Math.Dec.{T, eqb}
 use Rattle.std.proofs.Math.ListN.{length, drop}
 use Rattle.std.proofs.Math.Seq.{take_all, drop-length}
-use Rattle.definition.specs.Pyramid.{start, levelOf, inLevel, entry, four}
-use Rattle.definition.specs.Quarters.{interleaved, row_of, columnOf, rows_from}
-use Rattle.definition.specs.Renewal.{isNear, overThese, renewed}
-use Rattle.integers.specs.Tests.{tests, T_and, and_T, T-or, or-T, same_test}
-use Rattle.quadtree.specs.Levels.{start-thrice, start-mono}
-use Rattle.quadtree.specs.Renewal.{level-ext, renewed-ext}
-use Rattle.layouts.specs.Interleaved.{interleaved-lt, interleaved-any, row-interleaved, column-interleaved}
-use Rattle.layouts.specs.Renewed.{quartersRenewed, Chosen, rows-renewed}
+use Rattle.definition.specs.Pyramid.{start, level_of, in_level, entry, four}
+use Rattle.definition.specs.Quarters.{interleaved, row_of, column_of, rows_from}
+use Rattle.definition.specs.Renewal.{is_near, over_these, renewed}
+use Rattle.integers.specs.Tests.{tests, T_and, and_T, T_or, or_T, same_test}
+use Rattle.quadtree.specs.Levels.{start_thrice, start_mono}
+use Rattle.quadtree.specs.Renewal.{level_ext, renewed_ext}
+use Rattle.layouts.specs.Interleaved.{interleaved_lt, interleaved_any, row_interleaved, column_interleaved}
+use Rattle.layouts.specs.Renewed.{quarters_renewed, Chosen, rows_renewed}
 use Rattle.places.specs.declared.Parts.{Parts}
-use Rattle.places.specs.Parts.{partsAround, place-parts}
-use Rattle.renewal.specs.OverPlaces.{either_of, chosen_of, atCorners, over, madeUp, fourMadeUp}
+use Rattle.places.specs.Parts.{parts_around, place_parts}
+use Rattle.renewal.specs.OverPlaces.{either_of, chosen_of, at_corners, over, made_up, four_made_up}
 use Rattle.renewal.specs.OverPlaces.{Corners, Rising, RenewAsked}
-use Rattle.renewal.specs.Chosen.{start-four, start-one, over-four, corners-up}
+use Rattle.renewal.specs.Chosen.{start_four, start_one, over_four, corners_up}
 use Rattle.renewal.specs.Made.{all_made}
 
 -- ---- rows, or columns
@@ -35,23 +35,23 @@ module _ (c m a : ℕ) (p : c < 2 * m) (q : a < m) where
   abbrev either : ℕ → Bool
   either = either_of (c - 1) (min (c + 1) (2 * m - 1))
 
-  over-near : T (near c (2 * a) || near c (2 * a + 1)) → (c ≤ 2 * a + 2) × (2 * a ≤ c + 1)
-  over-near t = go (T-or (near c (2 * a)) (near c (2 * a + 1)) t)
+  over_near : T (near c (2 * a) || near c (2 * a + 1)) → (c ≤ 2 * a + 2) × (2 * a ≤ c + 1)
+  over_near t = go (T_or (near c (2 * a)) (near c (2 * a + 1)) t)
     where
       go : T (near c (2 * a)) ⊎ T (near c (2 * a + 1)) → (c ≤ 2 * a + 2) × (2 * a ≤ c + 1)
       go (inl t) = let u = T_and (leb c (2 * a + 1)) (leb (2 * a) (c + 1)) t in (omega tests, omega tests)
       go (inr t) = let u = T_and (leb c (2 * a + 1 + 1)) (leb (2 * a + 1) (c + 1)) t in (omega tests, omega tests)
 
-  near-over : c ≤ 2 * a + 2 → 2 * a ≤ c + 1 → T (near c (2 * a) || near c (2 * a + 1))
-  near-over s t = or-T (near c (2 * a)) (near c (2 * a + 1)) (go (ℕ_discrete c (2 * a + 2)))
+  near_over : c ≤ 2 * a + 2 → 2 * a ≤ c + 1 → T (near c (2 * a) || near c (2 * a + 1))
+  near_over s t = or_T (near c (2 * a)) (near c (2 * a + 1)) (go (ℕ_discrete c (2 * a + 2)))
     where
       go : Dec (c ≡ 2 * a + 2) → T (near c (2 * a)) ⊎ T (near c (2 * a + 1))
       go (yes e) = inr (and_T (leb c (2 * a + 1 + 1)) (leb (2 * a + 1) (c + 1)) (omega tests) (omega tests))
       go (no e) = inl (and_T (leb c (2 * a + 1)) (leb (2 * a) (c + 1)) (omega tests) (omega tests))
 
-  over-either : T (either (2 * a) || either (2 * a + 1)) → (c ≤ 2 * a + 2) × (2 * a ≤ c + 1)
+  over_either : T (either (2 * a) || either (2 * a + 1)) → (c ≤ 2 * a + 2) × (2 * a ≤ c + 1)
   unfolding either_of
-  over-either t = go (T-or (either (2 * a)) (either (2 * a + 1)) t)
+  over_either t = go (T_or (either (2 * a)) (either (2 * a + 1)) t)
     where
       at : (x : ℕ) → (x ≡ 2 * a) ⊎ (x ≡ 2 * a + 1)
           → T (eqb x (c - 1)) ⊎ T (eqb x (min (c + 1) (2 * m - 1))) → (c ≤ 2 * a + 2) × (2 * a ≤ c + 1)
@@ -61,18 +61,18 @@ module _ (c m a : ℕ) (p : c < 2 * m) (q : a < m) where
       at x (inr e) (inr t) = (omega tests, omega tests)
 
       go : T (either (2 * a)) ⊎ T (either (2 * a + 1)) → (c ≤ 2 * a + 2) × (2 * a ≤ c + 1)
-      go (inl t) = at (2 * a) (inl refl) (T-or (eqb (2 * a) (c - 1)) (eqb (2 * a) (min (c + 1) (2 * m - 1))) t)
+      go (inl t) = at (2 * a) (inl refl) (T_or (eqb (2 * a) (c - 1)) (eqb (2 * a) (min (c + 1) (2 * m - 1))) t)
       go (inr t) =
-          at (2 * a + 1) (inr refl) (T-or (eqb (2 * a + 1) (c - 1)) (eqb (2 * a + 1) (min (c + 1) (2 * m - 1))) t)
+          at (2 * a + 1) (inr refl) (T_or (eqb (2 * a + 1) (c - 1)) (eqb (2 * a + 1) (min (c + 1) (2 * m - 1))) t)
 
-  either-over : c ≤ 2 * a + 2 → 2 * a ≤ c + 1 → T (either (2 * a) || either (2 * a + 1))
+  either_over : c ≤ 2 * a + 2 → 2 * a ≤ c + 1 → T (either (2 * a) || either (2 * a + 1))
   unfolding either_of
-  either-over s t =
-      or-T (either (2 * a)) (either (2 * a + 1))
+  either_over s t =
+      or_T (either (2 * a)) (either (2 * a + 1))
       (go (ℕ_discrete (c - 1) (2 * a)) (ℕ_discrete (c - 1) (2 * a + 1)) (ℕ_discrete (c + 1) (2 * a)))
     where
       ends : (x : ℕ) → T (eqb x (c - 1)) ⊎ T (eqb x (min (c + 1) (2 * m - 1))) → T (either x)
-      ends x u = or-T (eqb x (c - 1)) (eqb x (min (c + 1) (2 * m - 1))) u
+      ends x u = or_T (eqb x (c - 1)) (eqb x (min (c + 1) (2 * m - 1))) u
 
       go : Dec (c - 1 ≡ 2 * a) → Dec (c - 1 ≡ 2 * a + 1) → Dec (c + 1 ≡ 2 * a)
           → T (either (2 * a)) ⊎ T (either (2 * a + 1))
@@ -83,23 +83,23 @@ module _ (c m a : ℕ) (p : c < 2 * m) (q : a < m) where
 
   same_over : (near c (2 * a) || near c (2 * a + 1)) ≡ (either (2 * a) || either (2 * a + 1))
   same_over =
-      same_test _ _ (λ t. let u = over-near t in either-over u.0 u.1)
-      (λ t. let u = over-either t in near-over u.0 u.1)
+      same_test _ _ (λ t. let u = over_near t in either_over u.0 u.1)
+      (λ t. let u = over_either t in near_over u.0 u.1)
 
 -- ---- and, or
 and_assoc : (p q s : Bool) → (p && q && s) ≡ (p && (q && s))
 and_assoc true q s = refl
 and_assoc false q s = refl
 
-and-either : (p s t : Bool) → ((p && s) || (p && t)) ≡ (p && (s || t))
-and-either true s t = refl
-and-either false s t = refl
+and_either : (p s t : Bool) → ((p && s) || (p && t)) ≡ (p && (s || t))
+and_either true s t = refl
+and_either false s t = refl
 
-either-and : (p q s : Bool) → ((p && s) || (q && s)) ≡ ((p || q) && s)
-either-and true q true = refl
-either-and true true false = refl
-either-and true false false = refl
-either-and false q s = refl
+either_and : (p q s : Bool) → ((p && s) || (q && s)) ≡ ((p || q) && s)
+either_and true q true = refl
+either_and true true false = refl
+either_and true false false = refl
+either_and false q s = refl
 
 four_products : (p q s t : Bool) → ((p && s) || (p && t) || (q && s) || (q && t)) ≡ ((p || q) && (s || t))
 four_products true q true t = refl
@@ -112,47 +112,47 @@ four_products false false s t = refl
 -- ---- both
 module _ (row column m : ℕ) (p : row < 2 * m) (q : column < 2 * m) where
   abbrev corners : ℕ → ℕ → Bool
-  corners = atCorners (row - 1) (min (row + 1) (2 * m - 1)) (column - 1) (min (column + 1) (2 * m - 1))
+  corners = at_corners (row - 1) (min (row + 1) (2 * m - 1)) (column - 1) (min (column + 1) (2 * m - 1))
 
-  near-both : (x y : ℕ) → isNear row column x y ≡ (near row x && near column y)
-  unfolding isNear
-  near-both x y = and_assoc (near row x) (leb column (y + 1)) (leb y (column + 1))
+  near_both : (x y : ℕ) → is_near row column x y ≡ (near row x && near column y)
+  unfolding is_near
+  near_both x y = and_assoc (near row x) (leb column (y + 1)) (leb y (column + 1))
 
-  over-corners : (a b : ℕ) → a < m → b < m → overThese (isNear row column) a b ≡ overThese corners a b
-  unfolding overThese atCorners
-  over-corners a b s t =
+  over_corners : (a b : ℕ) → a < m → b < m → over_these (is_near row column) a b ≡ over_these corners a b
+  unfolding over_these at_corners
+  over_corners a b s t =
       let x = 2 * a in
       let y = 2 * b in
-      rw (near-both x y, near-both x (y + 1), near-both (x + 1) y, near-both (x + 1) (y + 1))
+      rw (near_both x y, near_both x (y + 1), near_both (x + 1) y, near_both (x + 1) (y + 1))
       (four_products (near row x) (near row (x + 1)) (near column y) (near column (y + 1))
       ∙ ap₂ ◌&&◌ (same_over row m a p s) (same_over column m b q t)
       ∙ sym (four_products (either row m a p s x) (either row m a p s (x + 1)) (either column m b q t y)
       (either column m b q t (y + 1))))
 
 -- only what the levels above are over counts
-renewed-over : (k : ℕ) (f g : ℕ → ℕ → Bool) (pyramid : List ℤ)
-    → ((a b : ℕ) → a < 2 ^ k → b < 2 ^ k → overThese f a b ≡ overThese g a b)
+renewed_over : (k : ℕ) (f g : ℕ → ℕ → Bool) (pyramid : List ℤ)
+    → ((a b : ℕ) → a < 2 ^ k → b < 2 ^ k → over_these f a b ≡ over_these g a b)
     → renewed (suc k) f pyramid ≡ renewed (suc k) g pyramid
 unfolding renewed
-renewed-over k f g pyramid h =
+renewed_over k f g pyramid h =
     let cells = drop (start (suc k)) pyramid in
     let level : (ℕ → ℕ → Bool) → ℕ → ℕ → ℤ =
-    λ t a b. cond (overThese t a b) (four (inLevel (suc k) cells) a b) (entry pyramid k a b) in
-    let same : levelOf k (level f) ≡ levelOf k (level g) =
-    level-ext k (level f) (level g) (λ a b p q.
-    ap (λ (t : Bool). cond t (four (inLevel (suc k) cells) a b) (entry pyramid k a b)) (h a b p q)) in
+    λ t a b. cond (over_these t a b) (four (in_level (suc k) cells) a b) (entry pyramid k a b) in
+    let same : level_of k (level f) ≡ level_of k (level g) =
+    level_ext k (level f) (level g) (λ a b p q.
+    ap (λ (t : Bool). cond t (four (in_level (suc k) cells) a b) (entry pyramid k a b)) (h a b p q)) in
     ap (λ (l : List ℤ). l ++ cells)
-    (renewed-ext k (overThese f) (overThese g) (take (start k) pyramid ++ levelOf k (level f)) h
-    ∙ ap (λ (l : List ℤ). renewed k (overThese g) (take (start k) pyramid ++ l)) same)
+    (renewed_ext k (over_these f) (over_these g) (take (start k) pyramid ++ level_of k (level f)) h
+    ∙ ap (λ (l : List ℤ). renewed k (over_these g) (take (start k) pyramid ++ l)) same)
 
-renewed-near : (r row column : ℕ) (pyramid : List ℤ) → row < 2 ^ r → column < 2 ^ r
-    → renewed r (atCorners (row - 1) (min (row + 1) (2 ^ r - 1)) (column - 1) (min (column + 1) (2 ^ r - 1))) pyramid
-    ≡ renewed r (isNear row column) pyramid
-renewed-near zero row column pyramid p q = unfold renewed in refl
-renewed-near (suc k) row column pyramid p q =
+renewed_near : (r row column : ℕ) (pyramid : List ℤ) → row < 2 ^ r → column < 2 ^ r
+    → renewed r (at_corners (row - 1) (min (row + 1) (2 ^ r - 1)) (column - 1) (min (column + 1) (2 ^ r - 1))) pyramid
+    ≡ renewed r (is_near row column) pyramid
+renewed_near zero row column pyramid p q = unfold renewed in refl
+renewed_near (suc k) row column pyramid p q =
     let two : 2 ^ suc k ≡ 2 * 2 ^ k = pow-succ' 2 k in
-    sym (renewed-over k _ _ pyramid (λ a b s t.
-    rw two (over-corners row column (2 ^ k) (rw two at p) (rw two at q) a b s t)))
+    sym (renewed_over k _ _ pyramid (λ a b s t.
+    rw two (over_corners row column (2 ^ k) (rw two at p) (rw two at q) a b s t)))
 
 -- ---- the places of the corners
 same_place : (r a b x y : ℕ) → a < 2 ^ r → b < 2 ^ r → x < 2 ^ r → y < 2 ^ r
@@ -161,8 +161,8 @@ same_place r a b x y p q s t =
     same_test (eqb (interleaved r a b) (interleaved r x y)) (eqb a x && eqb b y)
     (λ h.
     let e : interleaved r a b ≡ interleaved r x y = omega tests in
-    let u : a ≡ x = sym (row-interleaved r a b p) ∙ ap (row_of r) e ∙ row-interleaved r x y s in
-    let v : b ≡ y = sym (column-interleaved r a b q) ∙ ap (columnOf r) e ∙ column-interleaved r x y t in
+    let u : a ≡ x = sym (row_interleaved r a b p) ∙ ap (row_of r) e ∙ row_interleaved r x y s in
+    let v : b ≡ y = sym (column_interleaved r a b q) ∙ ap (column_of r) e ∙ column_interleaved r x y t in
     and_T (eqb a x) (eqb b y) (omega tests) (omega tests))
     (λ h.
     let w = T_and (eqb a x) (eqb b y) h in
@@ -172,21 +172,21 @@ same_place r a b x y p q s t =
     omega tests)
 
 module _ (r top low left right : ℕ) (p : top < 2 ^ r) (q : low < 2 ^ r) (s : left < 2 ^ r) (t : right < 2 ^ r) where
-  corners-chosen :
+  corners_chosen :
       Chosen r
       (chosen_of (interleaved r top left) (interleaved r top right) (interleaved r low left) (interleaved r low right))
-      (atCorners top low left right)
-  unfolding chosen_of either_of atCorners
-  corners-chosen a b u v =
+      (at_corners top low left right)
+  unfolding chosen_of either_of at_corners
+  corners_chosen a b u v =
       rw (same_place r a b top left u v p s, same_place r a b top right u v p t)
       (rw (same_place r a b low left u v q s, same_place r a b low right u v q t)
-      (ap₂ ◌||◌ (and-either (eqb a top) (eqb b left) (eqb b right))
-      (and-either (eqb a low) (eqb b left) (eqb b right))
-      ∙ either-and (eqb a top) (eqb a low) (eqb b left || eqb b right)))
+      (ap₂ ◌||◌ (and_either (eqb a top) (eqb b left) (eqb b right))
+      (and_either (eqb a low) (eqb b left) (eqb b right))
+      ∙ either_and (eqb a top) (eqb a low) (eqb b left || eqb b right)))
 
 -- ---- as the code names them
-room-first : (m : ℕ) → m ≤ 7 → 4 * 2 ^ 40 * (2 ^ m * 2 ^ m) ≤ 2 ^ 58
-room-first m le =
+room_first : (m : ℕ) → m ≤ 7 → 4 * 2 ^ 40 * (2 ^ m * 2 ^ m) ≤ 2 ^ 58
+room_first m le =
     let w : 2 ^ m ≤ 2 ^ 7 = pow_mono {i = m} {j = 7} le in
     let n : 2 ^ m * 2 ^ m ≤ 2 ^ 7 * 2 ^ 7 = mul-le-mul w w in
     omega arith
@@ -205,29 +205,29 @@ module _ {pyramid : List ℤ} {r : ℕ} {parts : Parts} {row column : ℕ} (h : 
     abbrev right : ℕ
     right = min (column + 1) (2 ^ r - 1)
 
-    above-is : parts.above ≡ interleaved 8 top 0
-    above-is = ap (λ (p : Parts). p.above) h.parts_are ∙ unfold partsAround in refl
+    above_is : parts.above ≡ interleaved 8 top 0
+    above_is = ap (λ (p : Parts). p.above) h.parts_are ∙ unfold parts_around in refl
 
-    below-is : parts.below ≡ interleaved 8 low 0
-    below-is = ap (λ (p : Parts). p.below) h.parts_are ∙ unfold partsAround in refl
+    below_is : parts.below ≡ interleaved 8 low 0
+    below_is = ap (λ (p : Parts). p.below) h.parts_are ∙ unfold parts_around in refl
 
     left_is : parts.left ≡ interleaved 8 0 left
-    left_is = ap (λ (p : Parts). p.left) h.parts_are ∙ unfold partsAround in refl
+    left_is = ap (λ (p : Parts). p.left) h.parts_are ∙ unfold parts_around in refl
 
     right_is : parts.right ≡ interleaved 8 0 right
-    right_is = ap (λ (p : Parts). p.right) h.parts_are ∙ unfold partsAround in refl
+    right_is = ap (λ (p : Parts). p.right) h.parts_are ∙ unfold parts_around in refl
 
     -- no number is large, and none is 0
-    pub parts-few : {cells : ℕ} → cells ≡ start r
+    pub parts_few : {cells : ℕ} → cells ≡ start r
         → (1 ≤ cells) × (cells ≤ 21845) × (parts.above < 65536) × (parts.below < 65536) × (parts.left < 65536)
         × (parts.right < 65536)
-    parts-few ec = (
-      omega (arith, ec, start-one r h.some),
-      omega (arith, ec, start-mono r 8 h.whole.most, start-thrice 8),
-      omega (arith, above-is, interleaved-lt 8 top 0),
-      omega (arith, below-is, interleaved-lt 8 low 0),
-      omega (arith, left_is, interleaved-lt 8 0 left),
-      omega (arith, right_is, interleaved-lt 8 0 right),
+    parts_few ec = (
+      omega (arith, ec, start_one r h.some),
+      omega (arith, ec, start_mono r 8 h.whole.most, start_thrice 8),
+      omega (arith, above_is, interleaved_lt 8 top 0),
+      omega (arith, below_is, interleaved_lt 8 low 0),
+      omega (arith, left_is, interleaved_lt 8 0 left),
+      omega (arith, right_is, interleaved_lt 8 0 right),
     )
 
     pub rises : Rising pyramid (r - 1)
@@ -238,12 +238,12 @@ module _ {pyramid : List ℤ} {r : ℕ} {parts : Parts} {row column : ℕ} (h : 
           room = rw (n, h.whole.long) (omega arith);
           bound = 2 ^ 40;
           small = h.small.small;
-          spare = room-first (r - 1) (omega (arith, h.whole.most));
+          spare = room_first (r - 1) (omega (arith, h.whole.most));
         }
 
     corner : (a b : ℕ) → a < 2 ^ r → b < 2 ^ r → {cells x y : ℕ} → cells ≡ start r
         → x ≡ interleaved 8 a 0 → y ≡ interleaved 8 0 b → cells + x + y ≡ start r + interleaved r a b
-    corner a b l m ec ex ey = omega (arith, ec, ex, ey, place-parts 8 a b, interleaved-any r a b h.whole.most l m)
+    corner a b l m ec ex ey = omega (arith, ec, ex, ey, place_parts 8 a b, interleaved_any r a b h.whole.most l m)
 
     module _ {cells : ℕ} (ec : cells ≡ start r) where
       abbrev nw : ℕ
@@ -258,28 +258,28 @@ module _ {pyramid : List ℤ} {r : ℕ} {parts : Parts} {row column : ℕ} (h : 
       abbrev se : ℕ
       se = cells + parts.below + parts.right
 
-      corners-are : Corners r nw ne sw se
-      corners-are =
+      corners_are : Corners r nw ne sw se
+      corners_are =
           record {
             top = top;
             low = low;
             left = left;
             right = right;
             top_in = omega (arith, h.above);
-            low-in = omega (arith, h.above);
+            low_in = omega (arith, h.above);
             left_in = omega (arith, h.left);
-            right-in = omega (arith, h.left);
-            nw-is = corner top left (omega (arith, h.above)) (omega (arith, h.left)) ec above-is left_is;
-            ne-is = corner top right (omega (arith, h.above)) (omega (arith, h.left)) ec above-is right_is;
-            sw-is = corner low left (omega (arith, h.above)) (omega (arith, h.left)) ec below-is left_is;
-            se-is = corner low right (omega (arith, h.above)) (omega (arith, h.left)) ec below-is right_is;
+            right_in = omega (arith, h.left);
+            nw_is = corner top left (omega (arith, h.above)) (omega (arith, h.left)) ec above_is left_is;
+            ne_is = corner top right (omega (arith, h.above)) (omega (arith, h.left)) ec above_is right_is;
+            sw_is = corner low left (omega (arith, h.above)) (omega (arith, h.left)) ec below_is left_is;
+            se_is = corner low right (omega (arith, h.above)) (omega (arith, h.left)) ec below_is right_is;
           }
 
-      pub corners-over : Corners (r - 1) (over nw) (over ne) (over sw) (over se)
-      corners-over =
+      pub corners_over : Corners (r - 1) (over nw) (over ne) (over sw) (over se)
+      corners_over =
           let n : r ≡ suc (r - 1) = omega (arith, h.some) in
-          let c : Corners (suc (r - 1)) nw ne sw se = rw n at corners-are in
-          corners-up (r - 1) c
+          let c : Corners (suc (r - 1)) nw ne sw se = rw n at corners_are in
+          corners_up (r - 1) c
 
       abbrev chosen : ℕ → Bool
       chosen =
@@ -289,41 +289,41 @@ module _ {pyramid : List ℤ} {r : ℕ} {parts : Parts} {row column : ℕ} (h : 
       within : (a b : ℕ) {x : ℕ} → x ≡ start r + interleaved r a b → over x - start (r - 1) ≡ interleaved r a b / 4
       within a b ex =
           let n : r ≡ suc (r - 1) = omega (arith, h.some) in
-          omega (arith, ex, ap start n, start-four (r - 1))
+          omega (arith, ex, ap start n, start_four (r - 1))
 
-      renewed-all :
-          fourMadeUp (r - 1) (over nw) (over ne) (over sw) (over se) pyramid ≡ quartersRenewed r chosen pyramid
-      unfolding corners-are
-      renewed-all =
-          let c = corners-are in
+      renewed_all :
+          four_made_up (r - 1) (over nw) (over ne) (over sw) (over se) pyramid ≡ quarters_renewed r chosen pyramid
+      unfolding corners_are
+      renewed_all =
+          let c = corners_are in
           let n : r ≡ suc (r - 1) = omega (arith, h.some) in
           let l : length pyramid ≡ start (suc (suc (r - 1))) =
           h.whole.long ∙ ap start (let m : r + 1 ≡ suc (suc (r - 1)) = omega (arith, h.some) in m) in
           let whole = take_all (start (suc (suc (r - 1)))) pyramid (omega (arith, l)) in
           let up =
-          over-four (interleaved r top left) (interleaved r top right) (interleaved r low left)
+          over_four (interleaved r top left) (interleaved r top right) (interleaved r low left)
           (interleaved r low right) in
           rw (
-            within top left c.nw-is,
-            within top right c.ne-is,
-            within low left c.sw-is,
-            within low right c.se-is,
+            within top left c.nw_is,
+            within top right c.ne_is,
+            within low left c.sw_is,
+            within low right c.se_is,
           )
-          (ap (λ (f : ℕ → Bool). madeUp (r - 1) f pyramid) (sym up))
+          (ap (λ (f : ℕ → Bool). made_up (r - 1) f pyramid) (sym up))
           ∙ sym (all_made (r - 1) chosen pyramid (omega (arith, l)))
-          ∙ ap₂ ◌++◌ (ap (quartersRenewed (suc (r - 1)) chosen) whole) (drop_all l)
-          ∙ append-nil (quartersRenewed (suc (r - 1)) chosen pyramid)
-          ∙ ap (λ (k : ℕ). quartersRenewed k chosen pyramid) (sym n)
+          ∙ ap₂ ◌++◌ (ap (quarters_renewed (suc (r - 1)) chosen) whole) (drop_all l)
+          ∙ append-nil (quarters_renewed (suc (r - 1)) chosen pyramid)
+          ∙ ap (λ (k : ℕ). quarters_renewed k chosen pyramid) (sym n)
         where
           drop_all : length pyramid ≡ start (suc (suc (r - 1))) → drop (start (suc (suc (r - 1)))) pyramid ≡ []
           drop_all l = ap (λ (k : ℕ). drop k pyramid) (sym l) ∙ drop-length pyramid
 
-      pub renewed-around : {z : List ℤ} → z ≡ fourMadeUp (r - 1) (over nw) (over ne) (over sw) (over se) pyramid
-          → rows_from r z ≡ renewed r (isNear row column) (rows_from r pyramid)
-      renewed-around ez =
-          ap (rows_from r) (ez ∙ renewed-all)
-          ∙ rows-renewed r chosen (atCorners top low left right) pyramid
-          (corners-chosen r top low left right (omega (arith, h.above)) (omega (arith, h.above))
+      pub renewed_around : {z : List ℤ} → z ≡ four_made_up (r - 1) (over nw) (over ne) (over sw) (over se) pyramid
+          → rows_from r z ≡ renewed r (is_near row column) (rows_from r pyramid)
+      renewed_around ez =
+          ap (rows_from r) (ez ∙ renewed_all)
+          ∙ rows_renewed r chosen (at_corners top low left right) pyramid
+          (corners_chosen r top low left right (omega (arith, h.above)) (omega (arith, h.above))
           (omega (arith, h.left)) (omega (arith, h.left)))
           (h.whole.long ∙ ap start (add-one r))
-          ∙ renewed-near r row column (rows_from r pyramid) h.above h.left
+          ∙ renewed_near r row column (rows_from r pyramid) h.above h.left

@@ -1,4 +1,4 @@
--- The renewal by itself: which pyramids it is made on (`then-small`, `made`), and that it leaves the others
+-- The renewal by itself: which pyramids it is made on (`then_small`, `made`), and that it leaves the others
 -- (`left_alone`).
 use Rattle.std.specs.Prelude.{◌≡◌, refl, Bool, true, not, ◌&&◌, ℕ, zero, suc, ◌+◌, ◌-◌, ◌*◌, ◌^◌, ◌≤◌, ◌<◌, T, leb, ltb, eqb, length, take, ℤ, pos, negsuc, neg_ℤ}
 use Rattle.std.proofs.Math.Path.{sym, ap, ap₂}
@@ -9,23 +9,23 @@ use Rattle.std.proofs.Math.Decide.{ℕ_discrete, dec_lt}
 use Rattle.std.proofs.Math.ListN.{get_or, drop, get_or-eq_default}
 use Rattle.std.specs.Int.Signed.{le_z, lt_z}
 use Rattle.std.specs.Int.{w64}
-use Rattle.definition.specs.Pyramid.{start, needed, place_in, row_at, columnAt, entry}
-use Rattle.definition.specs.Quarters.{interleaved, row_of, columnOf, quarterEntry, rows_from, asRows, asQuarters}
-use Rattle.definition.specs.ByQuarters.{renewalByQuarters}
-use Rattle.definition.specs.Refusals.{powerOf}
-use Rattle.definition.specs.Renewal.{isNear, renewed, isSmall, entriesSmall, renewable, renewalOf}
+use Rattle.definition.specs.Pyramid.{start, needed, place_in, row_at, column_at, entry}
+use Rattle.definition.specs.Quarters.{interleaved, row_of, column_of, quarter_entry, rows_from, as_rows, as_quarters}
+use Rattle.definition.specs.ByQuarters.{renewal_by_quarters}
+use Rattle.definition.specs.Refusals.{power_of}
+use Rattle.definition.specs.Renewal.{is_near, renewed, is_small, entries_small, renewable, renewal_of}
 use Rattle.integers.specs.Linear.{zz, ints}
-use Rattle.integers.specs.Tests.{tests, T_true, T_and, and_T, T-four, four-T, same_test, allTo-at, allTo-all}
+use Rattle.integers.specs.Tests.{tests, T_true, T_and, and_T, T_four, four_T, same_test, all_to_at, all_to_all}
 use Rattle.integers.specs.Loops.{Every, held, failed}
-use Rattle.refusals.specs.Powers.{power_small, side-pow}
-use Rattle.quadtree.specs.Levels.{start-thrice, start-suc, start-mono, place-lt, place-row-column, row_lt, column-lt}
-use Rattle.layouts.specs.Interleaved.{interleaved-lt, interleaved-of, row-of-lt, column-of-lt}
-use Rattle.layouts.specs.Relaid.{rows-entry, length-rows, quarters-back}
-use Rattle.layouts.specs.Lent.{rows-length, rows_take, rows_drop, rows_taken, as-quarters-part, quarters-rows}
+use Rattle.refusals.specs.Powers.{power_small, side_pow}
+use Rattle.quadtree.specs.Levels.{start_thrice, start_suc, start_mono, place_lt, place_row_column, row_lt, column_lt}
+use Rattle.layouts.specs.Interleaved.{interleaved_lt, interleaved_of, row_of_lt, column_of_lt}
+use Rattle.layouts.specs.Relaid.{rows_entry, length_rows, quarters_back}
+use Rattle.layouts.specs.Lent.{rows_length, rows_take, rows_drop, rows_taken, as_quarters_part, quarters_rows}
 use Rattle.places.specs.declared.Parts.{Parts}
-use Rattle.places.specs.Parts.{partsAround, AroundAsked}
+use Rattle.places.specs.Parts.{parts_around, AroundAsked}
 use Rattle.pyramid.specs.PyramidPart.{Within, Whole, SmallPyramid}
-use Rattle.pyramid.specs.Small.{zero-within}
+use Rattle.pyramid.specs.Small.{zero_within}
 use Rattle.renewal.specs.OverPlaces.{RenewAsked}
 
 module _ (z : ℤ) (fits : SFits w64 z) where
@@ -35,128 +35,128 @@ module _ (z : ℤ) (fits : SFits w64 z) where
   abbrev most : Bool
   most = le_z z (pos (2 ^ 40))
 
-  pub too-low : lt_z (to_z w64 (of_z w64 z)) (negsuc 1099511627775) ≡ true → false ≡ isSmall z
-  unfolding isSmall
-  too-low e =
+  pub too_low : lt_z (to_z w64 (of_z w64 z)) (negsuc 1099511627775) ≡ true → false ≡ is_small z
+  unfolding is_small
+  too_low e =
       let low = rw (to_z-of_z fits) at e in
       same_test false (least && most) (λ t. absurd t) (λ t. let u = (T_and least most t).0 in absurd (omega ints))
 
   pub not_low : lt_z (to_z w64 (of_z w64 z)) (negsuc 1099511627775) ≡ false
-      → le_z (to_z w64 (of_z w64 z)) (pos 1099511627776) ≡ isSmall z
-  unfolding isSmall
+      → le_z (to_z w64 (of_z w64 z)) (pos 1099511627776) ≡ is_small z
+  unfolding is_small
   not_low e =
       let high = rw (to_z-of_z fits) at e in
       rw (to_z-of_z fits)
       (same_test most (least && most) (λ t. and_T least most (simp zz (omega ints)) t) (λ t. (T_and least most t).1))
 
 -- the whole test, entry by entry
-pub small-every : (n : ℕ) (pyramid : List ℤ) → Every (entriesSmall n pyramid) (λ i. isSmall (get_or pyramid i (pos 0))) n
-unfolding entriesSmall
-small-every n pyramid = record { is = refl }
+pub small_every : (n : ℕ) (pyramid : List ℤ) → Every (entries_small n pyramid) (λ i. is_small (get_or pyramid i (pos 0))) n
+unfolding entries_small
+small_every n pyramid = record { is = refl }
 
-within-small : (z : ℤ) → T (isSmall z) → Within (2 ^ 40) z
-unfolding isSmall
-within-small z t =
+within_small : (z : ℤ) → T (is_small z) → Within (2 ^ 40) z
+unfolding is_small
+within_small z t =
     let u = T_and (le_z (neg_ℤ (pos (2 ^ 40))) z) (le_z z (pos (2 ^ 40))) t in
     let v = u.0 in
     let w = u.1 in
     record { low = simp zz (omega ints); high = simp zz (omega ints) }
 
 -- the code reads an entry as a word
-pub small-read : {b : Bool} {z : ℤ} → SFits w64 z → b ≡ isSmall (to_z w64 (of_z w64 z)) → b ≡ isSmall z
-small-read f e = rw (to_z-of_z f) at e
+pub small_read : {b : Bool} {z : ℤ} → SFits w64 z → b ≡ is_small (to_z w64 (of_z w64 z)) → b ≡ is_small z
+small_read f e = rw (to_z-of_z f) at e
 
 -- ---- the test reads a pyramid in either layout
 -- what holds at every place of every level holds at every place
-by-levels : (P : ℕ → Type 0) (r : ℕ) → ((k i : ℕ) → k ≤ r → i < 2 ^ k * 2 ^ k → P (start k + i))
+by_levels : (P : ℕ → Type 0) (r : ℕ) → ((k i : ℕ) → k ≤ r → i < 2 ^ k * 2 ^ k → P (start k + i))
     → (n : ℕ) → n < start (suc r) → P n
-by-levels P zero h n lt = rw (← at) (h 0 0 (omega arith) (omega arith))
+by_levels P zero h n lt = rw (← at) (h 0 0 (omega arith) (omega arith))
   where
     at : start 0 + 0 ≡ n
-    at = omega (arith, start-suc 0, start-thrice 0)
-by-levels P (suc r) h n lt =
-    go (dec_lt n (start (suc r))) (λ l. by-levels P r (λ k i le. h k i (omega arith)) n l)
+    at = omega (arith, start_suc 0, start_thrice 0)
+by_levels P (suc r) h n lt =
+    go (dec_lt n (start (suc r))) (λ l. by_levels P r (λ k i le. h k i (omega arith)) n l)
   where
     go : Dec (n < start (suc r)) → (n < start (suc r) → P n) → P n
     go (yes l) ih = ih l
     go (no l) ih =
         let at : start (suc r) + (n - start (suc r)) ≡ n = omega arith in
-        rw at at (h (suc r) (n - start (suc r)) (omega arith) (omega (arith, start-suc (suc r))))
+        rw at at (h (suc r) (n - start (suc r)) (omega arith) (omega (arith, start_suc (suc r))))
 
 module _ (r : ℕ) (pyramid : List ℤ) (long : needed r ≤ length pyramid) where
-  abbrev small-in : List ℤ → ℕ → Type 0
-  small-in l n = T (isSmall (get_or l n (pos 0)))
+  abbrev small_in : List ℤ → ℕ → Type 0
+  small_in l n = T (is_small (get_or l n (pos 0)))
 
   -- row after row, the entry at place i of level k is that at the place of its row and column; and back
-  rows-place : (k i : ℕ) → k ≤ r → i < 2 ^ k * 2 ^ k
+  rows_place : (k i : ℕ) → k ≤ r → i < 2 ^ k * 2 ^ k
       → get_or (rows_from r pyramid) (start k + i) (pos 0)
-      ≡ get_or pyramid (start k + interleaved k (row_at k i) (columnAt k i)) (pos 0)
-  unfolding entry quarterEntry
-  rows-place k i le lt =
-      ap (λ (n : ℕ). get_or (rows_from r pyramid) (start k + n) (pos 0)) (sym (place-row-column k i))
-      ∙ rows-entry r pyramid k (row_at k i) (columnAt k i) le (row_lt k i lt) (column-lt k i)
+      ≡ get_or pyramid (start k + interleaved k (row_at k i) (column_at k i)) (pos 0)
+  unfolding entry quarter_entry
+  rows_place k i le lt =
+      ap (λ (n : ℕ). get_or (rows_from r pyramid) (start k + n) (pos 0)) (sym (place_row_column k i))
+      ∙ rows_entry r pyramid k (row_at k i) (column_at k i) le (row_lt k i lt) (column_lt k i)
 
-  place-rows : (k i : ℕ) → k ≤ r → i < 2 ^ k * 2 ^ k
+  place_rows : (k i : ℕ) → k ≤ r → i < 2 ^ k * 2 ^ k
       → get_or pyramid (start k + i) (pos 0)
-      ≡ get_or (rows_from r pyramid) (start k + place_in k (row_of k i) (columnOf k i)) (pos 0)
-  unfolding entry quarterEntry
-  place-rows k i le lt =
-      ap (λ (n : ℕ). get_or pyramid (start k + n) (pos 0)) (sym (interleaved-of k i lt))
-      ∙ sym (rows-entry r pyramid k (row_of k i) (columnOf k i) le (row-of-lt k i) (column-of-lt k i))
+      ≡ get_or (rows_from r pyramid) (start k + place_in k (row_of k i) (column_of k i)) (pos 0)
+  unfolding entry quarter_entry
+  place_rows k i le lt =
+      ap (λ (n : ℕ). get_or pyramid (start k + n) (pos 0)) (sym (interleaved_of k i lt))
+      ∙ sym (rows_entry r pyramid k (row_of k i) (column_of k i) le (row_of_lt k i) (column_of_lt k i))
 
-  in-needed : (k i : ℕ) → k ≤ r → i < 2 ^ k * 2 ^ k → start k + i < needed r
-  in-needed k i le lt = omega (arith, start-suc k, start-mono (suc k) (suc r) (omega arith))
+  in_needed : (k i : ℕ) → k ≤ r → i < 2 ^ k * 2 ^ k → start k + i < needed r
+  in_needed k i le lt = omega (arith, start_suc k, start_mono (suc k) (suc r) (omega arith))
 
-  as-rows-at : (n : ℕ) → n < needed r → get_or (asRows r pyramid) n (pos 0) ≡ get_or (rows_from r pyramid) n (pos 0)
-  as-rows-at n lt =
-      sym (get_or-take (needed r) (asRows r pyramid) n (pos 0) lt)
+  as_rows_at : (n : ℕ) → n < needed r → get_or (as_rows r pyramid) n (pos 0) ≡ get_or (rows_from r pyramid) n (pos 0)
+  as_rows_at n lt =
+      sym (get_or-take (needed r) (as_rows r pyramid) n (pos 0) lt)
       ∙ ap (λ (l : List ℤ). get_or l n (pos 0)) (rows_take r pyramid long)
 
-  rows-small : T (entriesSmall (needed r) pyramid) → T (entriesSmall (needed r) (asRows r pyramid))
-  unfolding entriesSmall
-  rows-small t =
-      allTo-all (needed r) (λ n. isSmall (get_or (asRows r pyramid) n (pos 0)))
-      (by-levels (small-in (asRows r pyramid)) r (λ k i le lt.
-      rw (as-rows-at (start k + i) (in-needed k i le lt), rows-place k i le lt)
-      (allTo-at (needed r) (λ n. isSmall (get_or pyramid n (pos 0))) t _
-      (in-needed k _ le (interleaved-lt k (row_at k i) (columnAt k i))))))
+  rows_small : T (entries_small (needed r) pyramid) → T (entries_small (needed r) (as_rows r pyramid))
+  unfolding entries_small
+  rows_small t =
+      all_to_all (needed r) (λ n. is_small (get_or (as_rows r pyramid) n (pos 0)))
+      (by_levels (small_in (as_rows r pyramid)) r (λ k i le lt.
+      rw (as_rows_at (start k + i) (in_needed k i le lt), rows_place k i le lt)
+      (all_to_at (needed r) (λ n. is_small (get_or pyramid n (pos 0))) t _
+      (in_needed k _ le (interleaved_lt k (row_at k i) (column_at k i))))))
 
-  small-rows : T (entriesSmall (needed r) (asRows r pyramid)) → T (entriesSmall (needed r) pyramid)
-  unfolding entriesSmall
-  small-rows t =
-      allTo-all (needed r) (λ n. isSmall (get_or pyramid n (pos 0)))
-      (by-levels (small-in pyramid) r (λ k i le lt.
-      let at = in-needed k _ le (place-lt k (row_of k i) (columnOf k i) (row-of-lt k i) (column-of-lt k i)) in
-      rw (place-rows k i le lt, ← as-rows-at _ at)
-      (allTo-at (needed r) (λ n. isSmall (get_or (asRows r pyramid) n (pos 0))) t _ at)))
+  small_rows : T (entries_small (needed r) (as_rows r pyramid)) → T (entries_small (needed r) pyramid)
+  unfolding entries_small
+  small_rows t =
+      all_to_all (needed r) (λ n. is_small (get_or pyramid n (pos 0)))
+      (by_levels (small_in pyramid) r (λ k i le lt.
+      let at = in_needed k _ le (place_lt k (row_of k i) (column_of k i) (row_of_lt k i) (column_of_lt k i)) in
+      rw (place_rows k i le lt, ← as_rows_at _ at)
+      (all_to_at (needed r) (λ n. is_small (get_or (as_rows r pyramid) n (pos 0))) t _ at)))
 
 -- ---- what the test says
 module _ (side row column : ℕ) (pyramid : List ℤ) where
   abbrev r : ℕ
-  r = powerOf side
+  r = power_of side
 
-  abbrev map-there : Bool
-  map-there = not (eqb r 0) && leb (needed r) (length pyramid) && ltb row side && ltb column side
+  abbrev map_there : Bool
+  map_there = not (eqb r 0) && leb (needed r) (length pyramid) && ltb row side && ltb column side
 
   record Fitting : Type 0 where
     power : 0 < r
     long : needed r ≤ length pyramid
     above : row < side
     left : column < side
-    small : T (entriesSmall (needed r) pyramid)
+    small : T (entries_small (needed r) pyramid)
 
   fitting : T (renewable side row column pyramid) → Fitting
   unfolding renewable
   fitting t =
-      let u = T_and map-there (entriesSmall (needed r) pyramid) t in
-      let v = T-four (not (eqb r 0)) (leb (needed r) (length pyramid)) (ltb row side) (ltb column side) u.0 in
+      let u = T_and map_there (entries_small (needed r) pyramid) t in
+      let v = T_four (not (eqb r 0)) (leb (needed r) (length pyramid)) (ltb row side) (ltb column side) u.0 in
       record { power = omega tests; long = omega tests; above = omega tests; left = omega tests; small = u.1 }
 
   fits_all : Fitting → T (renewable side row column pyramid)
   unfolding renewable
   fits_all h =
-      and_T map-there (entriesSmall (needed r) pyramid)
-      (four-T (not (eqb r 0)) (leb (needed r) (length pyramid)) (ltb row side) (ltb column side)
+      and_T map_there (entries_small (needed r) pyramid)
+      (four_T (not (eqb r 0)) (leb (needed r) (length pyramid)) (ltb row side) (ltb column side)
       (omega (tests, h.power)) (omega (tests, h.long)) (omega (tests, h.above)) (omega (tests, h.left)))
       h.small
 
@@ -165,21 +165,21 @@ module _ (side row column : ℕ) (pyramid : List ℤ) where
   unfit h = same_test false (renewable side row column pyramid) (λ t. absurd t) (λ t. absurd (h (fitting t)))
 
   module _ {p : ℕ} (ep : p ≡ r) where
-    pub no-side : p ≡ 0 → false ≡ renewable side row column pyramid
-    no-side e = unfit (λ h. omega (arith, h.power))
+    pub no_side : p ≡ 0 → false ≡ renewable side row column pyramid
+    no_side e = unfit (λ h. omega (arith, h.power))
 
     pub too_short : {n : ℕ} → n ≡ needed p → length pyramid < n → false ≡ renewable side row column pyramid
     too_short e lt = unfit (λ h. omega (arith, h.long, ap needed ep))
 
-    pub off-row : side ≤ row → false ≡ renewable side row column pyramid
-    off-row le = unfit (λ h. omega (arith, h.above))
+    pub off_row : side ≤ row → false ≡ renewable side row column pyramid
+    off_row le = unfit (λ h. omega (arith, h.above))
 
-    pub off-column : side ≤ column → false ≡ renewable side row column pyramid
-    off-column le = unfit (λ h. omega (arith, h.left))
+    pub off_column : side ≤ column → false ≡ renewable side row column pyramid
+    off_column le = unfit (λ h. omega (arith, h.left))
 
-    pub then-small : (p ≡ 0 → ⊥) → {n : ℕ} → n ≡ needed p → n ≤ length pyramid → row < side → column < side → {b : Bool}
-        → b ≡ entriesSmall n pyramid → b ≡ renewable side row column pyramid
-    then-small some {n} en long above left {b} e =
+    pub then_small : (p ≡ 0 → ⊥) → {n : ℕ} → n ≡ needed p → n ≤ length pyramid → row < side → column < side → {b : Bool}
+        → b ≡ entries_small n pyramid → b ≡ renewable side row column pyramid
+    then_small some {n} en long above left {b} e =
         let en' : n ≡ needed r = en ∙ ap needed ep in
         same_test b (renewable side row column pyramid)
         (λ t. fits_all (record {
@@ -201,26 +201,26 @@ module _ (side row column : ℕ) (pyramid : List ℤ) where
 -- the same test in either layout
 module _ (side row column : ℕ) (pyramid : List ℤ) where
   abbrev shown : List ℤ
-  shown = asRows (powerOf side) pyramid
+  shown = as_rows (power_of side) pyramid
 
-  renewable-rows : renewable side row column shown ≡ renewable side row column pyramid
-  renewable-rows =
+  renewable_rows : renewable side row column shown ≡ renewable side row column pyramid
+  renewable_rows =
       same_test (renewable side row column shown) (renewable side row column pyramid)
       (λ t. fits_all side row column pyramid (to (fitting side row column shown t)))
       (λ t. fits_all side row column shown (from (fitting side row column pyramid t)))
     where
       same : length shown ≡ length pyramid
-      same = rows-length (powerOf side) pyramid
+      same = rows_length (power_of side) pyramid
 
       to : Fitting side row column shown → Fitting side row column pyramid
       to h =
-          let long : needed (powerOf side) ≤ length pyramid = omega (arith, h.long, same) in
+          let long : needed (power_of side) ≤ length pyramid = omega (arith, h.long, same) in
           record {
             power = h.power;
             long = long;
             above = h.above;
             left = h.left;
-            small = small-rows (powerOf side) pyramid long h.small;
+            small = small_rows (power_of side) pyramid long h.small;
           }
 
       from : Fitting side row column pyramid → Fitting side row column shown
@@ -230,113 +230,113 @@ module _ (side row column : ℕ) (pyramid : List ℤ) where
             long = omega (arith, h.long, same);
             above = h.above;
             left = h.left;
-            small = rows-small (powerOf side) pyramid h.long h.small;
+            small = rows_small (power_of side) pyramid h.long h.small;
           }
 
 -- the definition's two cases
 module _ (side row column : ℕ) (l : List ℤ) where
-  not_made : renewable side row column l ≡ false → renewalOf side row column l ≡ (false, l)
-  unfolding renewalOf
-  not_made e = rw (renewalOf, e)
+  not_made : renewable side row column l ≡ false → renewal_of side row column l ≡ (false, l)
+  unfolding renewal_of
+  not_made e = rw (renewal_of, e)
 
   is_made : renewable side row column l ≡ true
-      → renewalOf side row column l
+      → renewal_of side row column l
       ≡ (
         true,
-        renewed (powerOf side) (isNear row column) (take (needed (powerOf side)) l) ++ drop (needed (powerOf side)) l,
+        renewed (power_of side) (is_near row column) (take (needed (power_of side)) l) ++ drop (needed (power_of side)) l,
       )
-  unfolding renewalOf
-  is_made e = rw (renewalOf, e)
+  unfolding renewal_of
+  is_made e = rw (renewal_of, e)
 
 -- ---- where the code finds it so, or not
 module _ (side row column : ℕ) (pyramid : List ℤ) where
   abbrev turned : Bool × List ℤ → Bool × List ℤ
-  turned out = (out.0, asQuarters (powerOf side) out.1)
+  turned out = (out.0, as_quarters (power_of side) out.1)
 
   pub left_alone : {b : Bool} → b ≡ renewable side row column pyramid → not b ≡ true
-      → (false, pyramid) ≡ renewalByQuarters side row column pyramid
-  unfolding renewalByQuarters
+      → (false, pyramid) ≡ renewal_by_quarters side row column pyramid
+  unfolding renewal_by_quarters
   left_alone e f =
-      let lent = asRows (powerOf side) pyramid in
-      ap (λ (p : List ℤ). (false, p)) (sym (quarters-rows (powerOf side) pyramid))
-      ∙ sym (ap turned (not_made side row column lent (renewable-rows side row column pyramid ∙ failed e f)))
+      let lent = as_rows (power_of side) pyramid in
+      ap (λ (p : List ℤ). (false, p)) (sym (quarters_rows (power_of side) pyramid))
+      ∙ sym (ap turned (not_made side row column lent (renewable_rows side row column pyramid ∙ failed e f)))
 
-  module _ {p n : ℕ} (ep : p ≡ powerOf side) (en : n ≡ needed p)
+  module _ {p n : ℕ} (ep : p ≡ power_of side) (en : n ≡ needed p)
       {b : Bool} (eb : b ≡ renewable side row column pyramid) (f : not b ≡ false) where
     found : Fitting side row column pyramid
     found = fitting side row column pyramid (T_true _ (held eb f))
 
-    n-is : n ≡ needed (powerOf side)
-    n-is = en ∙ ap needed ep
+    n_is : n ≡ needed (power_of side)
+    n_is = en ∙ ap needed ep
 
     pub part_in : n ≤ length pyramid
-    part_in = omega (arith, n-is, found.long)
+    part_in = omega (arith, n_is, found.long)
 
     pub length_part : n ≡ length (take n pyramid)
     length_part = sym (length-take-le n pyramid part_in)
 
-    part-whole : Whole (take n pyramid) p
-    part-whole = record { most = power_small side ep; long = sym length_part ∙ en ∙ ap start (sym (add-one p)) }
+    part_whole : Whole (take n pyramid) p
+    part_whole = record { most = power_small side ep; long = sym length_part ∙ en ∙ ap start (sym (add-one p)) }
 
-    row-on-map : row < 2 ^ p
-    row-on-map = omega (arith, found.above, side-pow side found.power, ap (λ (k : ℕ). 2 ^ k) ep)
+    row_on_map : row < 2 ^ p
+    row_on_map = omega (arith, found.above, side_pow side found.power, ap (λ (k : ℕ). 2 ^ k) ep)
 
-    column-on-map : column < 2 ^ p
-    column-on-map = omega (arith, found.left, side-pow side found.power, ap (λ (k : ℕ). 2 ^ k) ep)
+    column_on_map : column < 2 ^ p
+    column_on_map = omega (arith, found.left, side_pow side found.power, ap (λ (k : ℕ). 2 ^ k) ep)
 
     small_at : (i : ℕ) → Dec (i < n) → Within (2 ^ 40) (get_or (take n pyramid) i (pos 0))
     small_at i (yes lt) =
         rw (get_or-take n pyramid i (pos 0) lt)
-        (within-small (get_or pyramid i (pos 0))
-        (allTo-at (needed (powerOf side)) (λ j. isSmall (get_or pyramid j (pos 0)))
-        (unfold entriesSmall in found.small) i (rw n-is at lt)))
+        (within_small (get_or pyramid i (pos 0))
+        (all_to_at (needed (power_of side)) (λ j. is_small (get_or pyramid j (pos 0)))
+        (unfold entries_small in found.small) i (rw n_is at lt)))
     small_at i (no ge) =
-        rw (get_or-eq_default (take n pyramid) (pos 0) {n = i} (omega (arith, length_part))) (zero-within (2 ^ 40))
+        rw (get_or-eq_default (take n pyramid) (pos 0) {n = i} (omega (arith, length_part))) (zero_within (2 ^ 40))
 
     part_small : SmallPyramid (take n pyramid)
     part_small = record { small = λ i. small_at i (dec_lt i n) }
 
     -- the parts around the cell, and all that the renewal asks
-    pub around-asked : {length-side : ℕ} → length-side ≡ 2 ^ p → AroundAsked length-side row column
-    around-asked es =
+    pub around_asked : {length_side : ℕ} → length_side ≡ 2 ^ p → AroundAsked length_side row column
+    around_asked es =
         rw es
         (record {
           most = pow_mono {i = p} {j = 8} (power_small side ep);
-          above = row-on-map;
-          left = column-on-map;
+          above = row_on_map;
+          left = column_on_map;
         })
 
-    pub renew-asked : {length-side : ℕ} {parts : Parts} → length-side ≡ 2 ^ p
-        → parts ≡ partsAround length-side row column → RenewAsked (take n pyramid) p parts row column
-    renew-asked es eq =
+    pub renew_asked : {length_side : ℕ} {parts : Parts} → length_side ≡ 2 ^ p
+        → parts ≡ parts_around length_side row column → RenewAsked (take n pyramid) p parts row column
+    renew_asked es eq =
         record {
-          whole = part-whole;
+          whole = part_whole;
           small = part_small;
           some = omega (arith, ep, found.power);
-          above = row-on-map;
-          left = column-on-map;
+          above = row_on_map;
+          left = column_on_map;
           parts_are = rw es at eq;
         }
 
     -- the part as it comes back, and the rest
     module _ (z : List ℤ) (ez : length z ≡ length (take n pyramid))
-        (e : rows_from p z ≡ renewed p (isNear row column) (rows_from p (take n pyramid))) where
+        (e : rows_from p z ≡ renewed p (is_near row column) (rows_from p (take n pyramid))) where
       abbrev power : ℕ
-      power = powerOf side
+      power = power_of side
 
-      part-is : renewed power (isNear row column) (take (needed power) (asRows power pyramid)) ≡ rows_from power z
-      part-is =
-          ap (renewed power (isNear row column))
+      part_is : renewed power (is_near row column) (take (needed power) (as_rows power pyramid)) ≡ rows_from power z
+      part_is =
+          ap (renewed power (is_near row column))
           (rows_take power pyramid found.long ∙ sym (rows_taken power pyramid))
-          ∙ sym (rw (n-is, ep) at e)
+          ∙ sym (rw (n_is, ep) at e)
 
-      pub made : (true, z ++ drop n pyramid) ≡ renewalByQuarters side row column pyramid
-      unfolding renewalByQuarters
+      pub made : (true, z ++ drop n pyramid) ≡ renewal_by_quarters side row column pyramid
+      unfolding renewal_by_quarters
       made =
-          sym (ap turned (is_made side row column (asRows power pyramid)
-          (renewable-rows side row column pyramid ∙ held eb f)
-          ∙ ap (λ (l : List ℤ). (true, l)) (ap₂ ◌++◌ part-is (rows_drop power pyramid)))
+          sym (ap turned (is_made side row column (as_rows power pyramid)
+          (renewable_rows side row column pyramid ∙ held eb f)
+          ∙ ap (λ (l : List ℤ). (true, l)) (ap₂ ◌++◌ part_is (rows_drop power pyramid)))
           ∙ ap (λ (l : List ℤ). (true, l))
-          (as-quarters-part power (rows_from power z) (drop (needed power) pyramid) (length-rows power z)
-          ∙ ap₂ ◌++◌ (quarters-back power z (ez ∙ sym length_part ∙ n-is))
-          (ap (λ (m : ℕ). drop m pyramid) (sym n-is))))
+          (as_quarters_part power (rows_from power z) (drop (needed power) pyramid) (length_rows power z)
+          ∙ ap₂ ◌++◌ (quarters_back power z (ez ∙ sym length_part ∙ n_is))
+          (ap (λ (m : ℕ). drop m pyramid) (sym n_is))))

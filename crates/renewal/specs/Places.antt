@@ -1,11 +1,11 @@
--- What one changed entry does to the entries (`elsewhere`) and to the sums of four (`below-changed`), by places of the
+-- What one changed entry does to the entries (`elsewhere`) and to the sums of four (`below_changed`), by places of the
 -- whole pyramid.
 use Rattle.std.specs.Prelude.{◌≡◌, List, length, set, ℤ, pos, ◌+ℤ◌, ◌-ℤ◌}
 use Rattle.std.proofs.Common.{ap, arith, get_or-set_same, get_or-set_other}
 use Prim.Native.Nat.{ℕ, ◌+◌, ◌*◌, ◌-◌, ◌<◌}
 use Rattle.std.proofs.Math.Decide.{ℕ_discrete}
 use Rattle.integers.specs.Linear.{zz, ints}
-use Rattle.pyramid.specs.PyramidPart.{fourAt}
+use Rattle.pyramid.specs.PyramidPart.{four_at}
 use Rattle.renewal.specs.OverPlaces.{at, below, over}
 
 -- ---- what is below a place, after a change
@@ -25,9 +25,9 @@ module _ (p : List ℤ) (x : ℕ) (z : ℤ) (some : 0 < x) (lt : x < length p) w
   away : (i : ℕ) → (i ≡ x → ⊥) → at changed i ≡ at p i
   away = elsewhere p x z
 
-  pub below-changed : below changed (over x) ≡ below p (over x) -ℤ at p x +ℤ z
-  unfolding fourAt
-  below-changed = go (ℕ_discrete (x - 1) (4 * o)) (ℕ_discrete (x - 1) (4 * o + 1)) (ℕ_discrete (x - 1) (4 * o + 2))
+  pub below_changed : below changed (over x) ≡ below p (over x) -ℤ at p x +ℤ z
+  unfolding four_at
+  below_changed = go (ℕ_discrete (x - 1) (4 * o)) (ℕ_discrete (x - 1) (4 * o + 1)) (ℕ_discrete (x - 1) (4 * o + 2))
     where
       o : ℕ
       o = over x

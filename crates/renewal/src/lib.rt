@@ -10,11 +10,11 @@
 //
 // The pyramid lies by quarters: over the entry at place i of the whole pyramid is the one at (i - 1) / 4.
 ghost use Rattle.std.specs.Prelude.{◌≡◌, ◌≤◌, ◌<◌, length, set};
-ghost use Rattle.definition.specs.Refusals.{powerOf};
-ghost use Rattle.definition.specs.Renewal.{isNear, renewed, isSmall, entriesSmall, renewable};
+ghost use Rattle.definition.specs.Refusals.{power_of};
+ghost use Rattle.definition.specs.Renewal.{is_near, renewed, is_small, entries_small, renewable};
 ghost use Rattle.definition.specs.Quarters.{rows_from};
-ghost use Rattle.definition.specs.ByQuarters.{renewalByQuarters};
-ghost use Rattle.renewal.specs.OverPlaces.{at, below, over, fourMadeUp, fourRenewed};
+ghost use Rattle.definition.specs.ByQuarters.{renewal_by_quarters};
+ghost use Rattle.renewal.specs.OverPlaces.{at, below, over, four_made_up, four_renewed};
 ghost use Rattle.renewal.specs.OverPlaces.{AtAsked, FourPlaces, CarryAsked, Rising, InLevel, Corners, RenewAsked};
 
 use places::Parts;
@@ -58,7 +58,7 @@ fn four_apart(pyramid: &[i64], i: usize) -> i64
 // south east. All are added up before one is stored, so that no sum waits for a store.
 fn renew_four(pyramid: &mut [i64], nw: usize, ne: usize, sw: usize, se: usize)
     requires { FourPlaces pyramid.old nw ne sw se }
-    ensures { pyramid.new ≡ fourRenewed pyramid.old nw ne sw se }
+    ensures { pyramid.new ≡ four_renewed pyramid.old nw ne sw se }
 {
     let first = four_below(pyramid, nw);
     let second = four_below(pyramid, ne);
@@ -87,7 +87,7 @@ fn carry(pyramid: &mut [i64], i: usize, sum: i64) -> i64
 // Renews one entry of a level and every entry over it, up to the top: one path of the report.
 fn carry_up(pyramid: &mut [i64], level: usize, place: usize)
     requires { Rising pyramid.old level × InLevel level place }
-    ensures { pyramid.new ≡ fourMadeUp level place place place place pyramid.old }
+    ensures { pyramid.new ≡ four_made_up level place place place place pyramid.old }
 {
     let mut k = level;
     let mut i = place;
@@ -104,7 +104,7 @@ fn carry_up(pyramid: &mut [i64], level: usize, place: usize)
 // the report, level by level, and one path from where they are one entry on.
 fn renew_up(pyramid: &mut [i64], level: usize, a: usize, b: usize, c: usize, d: usize)
     requires { Rising pyramid.old level × Corners level a b c d }
-    ensures { pyramid.new ≡ fourMadeUp level a b c d pyramid.old }
+    ensures { pyramid.new ≡ four_made_up level a b c d pyramid.old }
 {
     let mut k = level;
     let mut nw = a;
@@ -126,7 +126,7 @@ fn renew_up(pyramid: &mut [i64], level: usize, a: usize, b: usize, c: usize, d: 
 // those of the places around the cell; only the contract has a use for its row and column.
 pub fn renew(pyramid: &mut [i64], r: usize, p: Parts, row: usize, column: usize)
     requires { RenewAsked pyramid.old r p row column }
-    ensures { rows_from r pyramid.new ≡ renewed r (isNear row column) (rows_from r pyramid.old) }
+    ensures { rows_from r pyramid.new ≡ renewed r (is_near row column) (rows_from r pyramid.old) }
 {
     let cells = sizes::level_start(r);
     let nw = cells + p.above + p.left;
@@ -150,7 +150,7 @@ const MOST: i64 = 1099511627776;
 
 // Whether an entry is from -2^40 to 2^40.
 fn is_small(entry: i64) -> bool
-    ensures { result ≡ isSmall entry }
+    ensures { result ≡ is_small entry }
 {
     if entry < LEAST {
         return false;
@@ -161,7 +161,7 @@ fn is_small(entry: i64) -> bool
 // Whether the first `count` entries are.
 fn entries_small(pyramid: &[i64], count: usize) -> bool
     requires { count ≤ length pyramid.now }
-    ensures { result ≡ entriesSmall count pyramid.now }
+    ensures { result ≡ entries_small count pyramid.now }
 {
     let mut i = 0;
     while i < count {
@@ -175,7 +175,7 @@ fn entries_small(pyramid: &[i64], count: usize) -> bool
 
 // Whether the renewal can be made around this cell (S 12.3), r being the side's power.
 fn is_renewable(side: u32, r: usize, row: u32, column: u32, pyramid: &[i64]) -> bool
-    requires { r ≡ powerOf side }
+    requires { r ≡ power_of side }
     ensures { result ≡ renewable side row column pyramid.now }
 {
     if r == 0 {
@@ -196,7 +196,7 @@ fn is_renewable(side: u32, r: usize, row: u32, column: u32, pyramid: &[i64]) -> 
 
 // The renewal by itself (S 12.3), for any numbers and any pyramid: whether it was made.
 pub fn renew_lent(side: u32, row: u32, column: u32, pyramid: &mut [i64]) -> bool
-    ensures { (result, pyramid.new) ≡ renewalByQuarters side row column pyramid.old }
+    ensures { (result, pyramid.new) ≡ renewal_by_quarters side row column pyramid.old }
 {
     let r = sizes::power_of(side);
     if !is_renewable(side, r, row, column, pyramid) {

@@ -3,8 +3,8 @@
 ghost use Rattle.std.specs.Prelude.{◌≡◌, cond, suc, ◌<◌, eqb, length};
 ghost use Rattle.definition.specs.Pyramid.{needed};
 ghost use Rattle.definition.specs.Quarters.{rows_from};
-ghost use Rattle.definition.specs.Diffusion.{kernelOf};
-ghost use Rattle.heads.specs.TwoHeads.{across, workAll, macroblocks, rounds, mostRounds};
+ghost use Rattle.definition.specs.Diffusion.{kernel_of};
+ghost use Rattle.heads.specs.TwoHeads.{across, work_all, macroblocks, rounds, most_rounds};
 ghost use Rattle.places.specs.Table.{places};
 ghost use Rattle.macroblock.specs.FourBlocks.{LargeSheet};
 ghost use Rattle.rounds.specs.Offsets.{AcrossAsked};
@@ -38,7 +38,7 @@ fn round(
       order = order.new;
       dots = result;
     }
-        ≡ workAll (kernelOf knit) r
+        ≡ work_all (kernel_of knit) r
         (record {
           pyramid = rows_from r pyramid.entry.now;
           serials = serials.old;
@@ -90,7 +90,7 @@ pub fn run(
       order = order.new;
       result = result;
     }
-        ≡ rounds (kernelOf knit) r (macroblocks r) (mostRounds r) 0 0
+        ≡ rounds (kernel_of knit) r (macroblocks r) (most_rounds r) 0 0
         (record {
           pyramid = rows_from r pyramid.entry.now;
           serials = serials.old;

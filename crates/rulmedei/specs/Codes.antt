@@ -12,34 +12,34 @@ use Rattle.definition.specs.Answers.{
   refused,
   Compared,
   before,
-  beforeAt,
+  before_at,
   same,
   after_at,
   after,
 }
-use Rattle.definition.specs.Checkpoints.{keepOf}
-use Rattle.definition.specs.ByQuarters.{loadByQuarters, advanceByQuarters, restoreByQuarters, RelayOutcome}
-use Rattle.definition.specs.Survey.{tally_of, levelsOf}
+use Rattle.definition.specs.Checkpoints.{keep_of}
+use Rattle.definition.specs.ByQuarters.{load_by_quarters, advance_by_quarters, restore_by_quarters, RelayOutcome}
+use Rattle.definition.specs.Survey.{tally_of, levels_of}
 use Rattle.definition.specs.Text.{TextOutcome}
 use Rattle.definition.specs.LowerText.{LowerTextOutcome}
 use Rattle.definition.specs.SketchQuote.{SketchOutcome}
 use Rattle.definition.specs.Shelf.{ShelfOutcome}
-use Rattle.heads.specs.TwoHeads.{twoHeadsByQuarters}
+use Rattle.heads.specs.TwoHeads.{two_heads_by_quarters}
 
 -- 102 to 106 for what a comparison says
-unfoldable pub comparedCode : Compared → ℕ
-comparedCode before = 102
-comparedCode (beforeAt row column) = 103
-comparedCode same = 104
-comparedCode (after_at row column) = 105
-comparedCode after = 106
+unfoldable pub compared_code : Compared → ℕ
+compared_code before = 102
+compared_code (before_at row column) = 103
+compared_code same = 104
+compared_code (after_at row column) = 105
+compared_code after = 106
 
 -- 0 where the call did its work, 100 for "more", a comparison's code, else the number of the refusal
 unfoldable pub code_of : Said → ℕ
 code_of (returned values) = 0
 code_of finished = 0
 code_of more = 100
-code_of (comparison c) = comparedCode c
+code_of (comparison c) = compared_code c
 code_of (refused n) = n
 
 -- the first value returned; 0 where there is none
@@ -60,9 +60,9 @@ pub record LoadCode : Type 0 where
   pub serials : List ℕ
   pub order : List ℕ
 
-unfoldable pub loadCode : ℕ → ℕ → List ℕ → List ℤ → List ℕ → List ℕ → LoadCode
-loadCode side knit greys pyramid serials order =
-    let o = loadByQuarters side knit greys pyramid serials order in
+unfoldable pub load_code : ℕ → ℕ → List ℕ → List ℤ → List ℕ → List ℕ → LoadCode
+load_code side knit greys pyramid serials order =
+    let o = load_by_quarters side knit greys pyramid serials order in
     record {
       code = code_of o.said;
       side = o.progress.side;
@@ -81,9 +81,9 @@ pub record AdvanceCode : Type 0 where
   pub serials : List ℕ
   pub order : List ℕ
 
-unfoldable pub advanceCode : ℕ → ℕ → ℕ → ℕ → List ℤ → List ℕ → List ℕ → AdvanceCode
-advanceCode side dots knit budget pyramid serials order =
-    let o = advanceByQuarters (record { side = side; dots = dots; knit = knit }) budget pyramid serials order in
+unfoldable pub advance_code : ℕ → ℕ → ℕ → ℕ → List ℤ → List ℕ → List ℕ → AdvanceCode
+advance_code side dots knit budget pyramid serials order =
+    let o = advance_by_quarters (record { side = side; dots = dots; knit = knit }) budget pyramid serials order in
     record {
       code = code_of o.reply.said;
       dots = o.reply.progress.dots;
@@ -100,7 +100,7 @@ pub record KeepCode : Type 0 where
 
 unfoldable pub keep_code : ℕ → ℕ → ℕ → List ℕ → ℕ → KeepCode
 keep_code side dots knit kept name =
-    let o = keepOf (record { side = side; dots = dots; knit = knit }) (record { kept = kept }) name in
+    let o = keep_of (record { side = side; dots = dots; knit = knit }) (record { kept = kept }) name in
     record { code = code_of o.said; kept = o.checkpoints.kept }
 
 -- Restore: the value is only read
@@ -114,7 +114,7 @@ pub record RestoreCode : Type 0 where
 unfoldable pub restore_code :
     ℕ → ℕ → ℕ → List ℕ → ℕ → List ℕ → List ℤ → List ℕ → List ℕ → RestoreCode
 restore_code side dots knit kept name greys pyramid serials order =
-    let o = restoreByQuarters (record { side = side; dots = dots; knit = knit }) (record { kept = kept }) name
+    let o = restore_by_quarters (record { side = side; dots = dots; knit = knit }) (record { kept = kept }) name
     greys pyramid serials order in
     record {
       code = code_of o.said;
@@ -128,8 +128,8 @@ pub record TallyCode : Type 0 where
   pub code : ℕ
   pub value : ℕ
 
-unfoldable pub tallyCode : ℕ → List ℕ → ℕ → ℕ → ℕ → TallyCode
-tallyCode side serials level row column =
+unfoldable pub tally_code : ℕ → List ℕ → ℕ → ℕ → ℕ → TallyCode
+tally_code side serials level row column =
     let said = tally_of side serials level row column in record { code = code_of said; value = value_of said }
 
 pub record LevelsCode : Type 0 where
@@ -137,9 +137,9 @@ pub record LevelsCode : Type 0 where
   pub sums : List ℕ
 
 -- the nine sums are stored in the first places, as far as there are places
-unfoldable pub levelsCode : ℕ → List ℕ → List ℕ → List ℕ → LevelsCode
-levelsCode side greys serials sums =
-    let o = levelsOf side greys serials in record { code = code_of o.said; sums = sets sums 0 o.sums }
+unfoldable pub levels_code : ℕ → List ℕ → List ℕ → List ℕ → LevelsCode
+levels_code side greys serials sums =
+    let o = levels_of side greys serials in record { code = code_of o.said; sums = sets sums 0 o.sums }
 
 -- Map Text and the sample
 pub record GreysCode : Type 0 where
@@ -147,8 +147,8 @@ pub record GreysCode : Type 0 where
   pub value : ℕ
   pub greys : List ℕ
 
-unfoldable pub greysCode : GreysOutcome → GreysCode
-greysCode o = record { code = code_of o.said; value = value_of o.said; greys = o.greys }
+unfoldable pub greys_code : GreysOutcome → GreysCode
+greys_code o = record { code = code_of o.said; value = value_of o.said; greys = o.greys }
 
 -- Drill List and Quote Page
 pub record TextCode : Type 0 where
@@ -156,8 +156,8 @@ pub record TextCode : Type 0 where
   pub length : ℕ
   pub output : List ℕ
 
-unfoldable pub textCode : TextOutcome → TextCode
-textCode o = record { code = code_of o.said; length = value_of o.said; output = o.output }
+unfoldable pub text_code : TextOutcome → TextCode
+text_code o = record { code = code_of o.said; length = value_of o.said; output = o.output }
 
 -- Lower Text: the lowered greys beside it
 pub record LowerTextCode : Type 0 where
@@ -166,17 +166,17 @@ pub record LowerTextCode : Type 0 where
   pub greys : List ℕ
   pub output : List ℕ
 
-unfoldable pub lowerTextCode : LowerTextOutcome → LowerTextCode
-lowerTextCode o =
+unfoldable pub lower_text_code : LowerTextOutcome → LowerTextCode
+lower_text_code o =
     record { code = code_of o.said; length = value_of o.said; greys = o.greys; output = o.output }
 
 -- all values returned; none where there are none
-unfoldable pub valuesIn : Said → List ℕ
-valuesIn (returned values) = values
-valuesIn finished = []
-valuesIn more = []
-valuesIn (comparison c) = []
-valuesIn (refused n) = []
+unfoldable pub values_in : Said → List ℕ
+values_in (returned values) = values
+values_in finished = []
+values_in more = []
+values_in (comparison c) = []
+values_in (refused n) = []
 
 -- Sketch Quote: the side, the least total and the greatest, each 0 where it refuses
 pub record SketchCode : Type 0 where
@@ -188,9 +188,9 @@ pub record SketchCode : Type 0 where
   pub highs : List ℕ
   pub caps : List ℕ
 
-unfoldable pub sketchCode : SketchOutcome → SketchCode
-sketchCode o =
-    let values = valuesIn o.said in
+unfoldable pub sketch_code : SketchOutcome → SketchCode
+sketch_code o =
+    let values = values_in o.said in
     record {
       code = code_of o.said;
       side = get_or values 0 0;
@@ -213,9 +213,9 @@ pub record TwoHeadsCode : Type 0 where
   pub serials : List ℕ
   pub order : List ℕ
 
-unfoldable pub twoHeadsCode : ℕ → ℕ → List ℕ → List ℤ → List ℕ → List ℕ → TwoHeadsCode
-twoHeadsCode side knit greys pyramid serials order =
-    let o = twoHeadsByQuarters side knit greys pyramid serials order in
+unfoldable pub two_heads_code : ℕ → ℕ → List ℕ → List ℤ → List ℕ → List ℕ → TwoHeadsCode
+two_heads_code side knit greys pyramid serials order =
+    let o = two_heads_by_quarters side knit greys pyramid serials order in
     record {
       code = code_of o.said;
       side = o.progress.side;
@@ -234,7 +234,7 @@ cell_of (returned values) = (0, 0)
 cell_of finished = (0, 0)
 cell_of more = (0, 0)
 cell_of (comparison before) = (0, 0)
-cell_of (comparison (beforeAt row column)) = (row, column)
+cell_of (comparison (before_at row column)) = (row, column)
 cell_of (comparison same) = (0, 0)
 cell_of (comparison (after_at row column)) = (row, column)
 cell_of (comparison after) = (0, 0)
@@ -252,21 +252,21 @@ pub record ShelfCode : Type 0 where
   pub code : ℕ
   pub list : List ℕ
 
-unfoldable pub shelfCode : ShelfOutcome → ShelfCode
-shelfCode o = record { code = code_of o.said; list = o.list }
+unfoldable pub shelf_code : ShelfOutcome → ShelfCode
+shelf_code o = record { code = code_of o.said; list = o.list }
 
 -- Relay: the second pyramid
 pub record RelayCode : Type 0 where
   pub code : ℕ
   pub second : List ℤ
 
-unfoldable pub relayCode : RelayOutcome → RelayCode
-relayCode o = record { code = code_of o.said; second = o.second }
+unfoldable pub relay_code : RelayOutcome → RelayCode
+relay_code o = record { code = code_of o.said; second = o.second }
 
 -- the renewal by itself: whether it is made, and the pyramid
 pub record RenewCode : Type 0 where
   pub code : ℕ
   pub pyramid : List ℤ
 
-unfoldable pub renewCode : Bool × List ℤ → RenewCode
-renewCode outcome = record { code = cond outcome.0 0 101; pyramid = outcome.1 }
+unfoldable pub renew_code : Bool × List ℤ → RenewCode
+renew_code outcome = record { code = cond outcome.0 0 101; pyramid = outcome.1 }

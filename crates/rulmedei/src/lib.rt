@@ -8,19 +8,19 @@
 // include/rulmedei.h; the safe functions of the Rust crate (S 16.3) call these, and see to it.
 ghost use Rattle.std.specs.Prelude.{◌≡◌, set};
 ghost use Rattle.std.proofs.lemmas.List.Edits.{sets};
-ghost use Rattle.definition.specs.Answers.{checkpointSays, textSays, compareSays};
+ghost use Rattle.definition.specs.Answers.{checkpoint_says, text_says, compare_says};
 ghost use Rattle.definition.specs.Lowering.{lowered};
-ghost use Rattle.definition.specs.MapText.{mapTextOf};
-ghost use Rattle.definition.specs.LowerText.{lowerTextOf};
-ghost use Rattle.definition.specs.QuotePage.{quotePageOf};
-ghost use Rattle.definition.specs.SketchQuote.{sketchQuoteOf};
-ghost use Rattle.definition.specs.ByQuarters.{drillListByQuarters, renewalByQuarters, relayOf};
-ghost use Rattle.definition.specs.Sample.{sampleOf};
-ghost use Rattle.definition.specs.Shelf.{compareOf, shelfOf};
-ghost use Rattle.rulmedei.specs.Codes.{code_of, value_of, loadCode, advanceCode, tallyCode, levelsCode};
+ghost use Rattle.definition.specs.MapText.{map_text_of};
+ghost use Rattle.definition.specs.LowerText.{lower_text_of};
+ghost use Rattle.definition.specs.QuotePage.{quote_page_of};
+ghost use Rattle.definition.specs.SketchQuote.{sketch_quote_of};
+ghost use Rattle.definition.specs.ByQuarters.{drill_list_by_quarters, renewal_by_quarters, relay_of};
+ghost use Rattle.definition.specs.Sample.{sample_of};
+ghost use Rattle.definition.specs.Shelf.{compare_of, shelf_of};
+ghost use Rattle.rulmedei.specs.Codes.{code_of, value_of, load_code, advance_code, tally_code, levels_code};
 ghost use Rattle.rulmedei.specs.Codes.{keep_code, restore_code};
-ghost use Rattle.rulmedei.specs.Codes.{lowerTextCode, sketchCode, twoHeadsCode};
-ghost use Rattle.rulmedei.specs.Codes.{greysCode, textCode, compare_code, shelfCode, relayCode, renewCode};
+ghost use Rattle.rulmedei.specs.Codes.{lower_text_code, sketch_code, two_heads_code};
+ghost use Rattle.rulmedei.specs.Codes.{greys_code, text_code, compare_code, shelf_code, relay_code, renew_code};
 
 use definition::{
     AdvanceStatus, CheckpointStatus, Checkpoints, CompareAnswer, LevelsStatus, LoadStatus,
@@ -50,7 +50,7 @@ pub extern "C" fn rulmedei_load(
       serials = serials.new;
       order = order.new;
     }
-        ≡ loadCode side knit
+        ≡ load_code side knit
         greys.now pyramid.old serials.old order.old }
 {
     let answer = load::load(side, knit, greys, pyramid, serials, order);
@@ -87,7 +87,7 @@ pub extern "C" fn rulmedei_advance(
       serials = serials.new;
       order = order.new;
     }
-        ≡ advanceCode side dots knit budget
+        ≡ advance_code side dots knit budget
         pyramid.old serials.old order.old }
 {
     let answer = advance::advance(
@@ -110,7 +110,7 @@ pub extern "C" fn rulmedei_advance(
 
 // The code of a call on names.
 fn status_code(status: CheckpointStatus) -> u32
-    ensures { result ≡ code_of (checkpointSays status) }
+    ensures { result ≡ code_of (checkpoint_says status) }
 {
     match status {
         CheckpointStatus::Done => 0,
@@ -194,7 +194,7 @@ pub extern "C" fn rulmedei_tally(
       code = result;
       value = dots.new;
     }
-        ≡ tallyCode side serials.now level row column }
+        ≡ tally_code side serials.now level row column }
 {
     match survey::tally(side, serials, level, row, column) {
         TallyAnswer::Dots(n) => {
@@ -237,7 +237,7 @@ pub extern "C" fn rulmedei_levels(side: u32, greys: &[u8], serials: &[u32], sums
       code = result;
       sums = sums.new;
     }
-        ≡ levelsCode side greys.now serials.now sums.old }
+        ≡ levels_code side greys.now serials.now sums.old }
 {
     let answer = survey::levels(side, greys, serials);
     let nine = answer.sums;
@@ -257,7 +257,7 @@ pub extern "C" fn rulmedei_map_text(text: &[u8], greys: &mut [u8], side: &mut u3
       value = side.new;
       greys = greys.new;
     }
-        ≡ greysCode (mapTextOf text.now greys.old) }
+        ≡ greys_code (map_text_of text.now greys.old) }
 {
     match map_text::map_text(text, greys) {
         MapTextAnswer::Side(n) => {
@@ -273,7 +273,7 @@ pub extern "C" fn rulmedei_map_text(text: &[u8], greys: &mut [u8], side: &mut u3
 
 // The code of a call that writes a text. The text's length is written to `length`, 0 where it refuses.
 fn text_code(answer: TextAnswer, length: &mut usize) -> u32
-    ensures { (result ≡ code_of (textSays answer)) × (length.new ≡ value_of (textSays answer)) }
+    ensures { (result ≡ code_of (text_says answer)) × (length.new ≡ value_of (text_says answer)) }
 {
     match answer {
         TextAnswer::Length(n) => {
@@ -296,7 +296,7 @@ pub extern "C" fn rulmedei_lower_text(
     length: &mut usize,
 ) -> u32
     ensures { record { code = result; length = length.new; greys = greys.new; output = out.new }
-        ≡ lowerTextCode (lowerTextOf text.now greys.old out.old) }
+        ≡ lower_text_code (lower_text_of text.now greys.old out.old) }
 {
     let answer = map_text::lower_text(text, greys, out);
     text_code(answer, length)
@@ -316,8 +316,8 @@ pub extern "C" fn rulmedei_drill_list(
     length: &mut usize,
 ) -> u32
     ensures { record { code = result; length = length.new; output = out.new }
-        ≡ textCode
-        (drillListByQuarters (record { side = side; dots = dots; knit = knit })
+        ≡ text_code
+        (drill_list_by_quarters (record { side = side; dots = dots; knit = knit })
         pyramid.now serials.now order.now out.old) }
 {
     let progress = Progress { side, dots, knit };
@@ -340,7 +340,7 @@ pub extern "C" fn rulmedei_quote_page(
       length = length.new;
       output = out.new;
     }
-        ≡ textCode (quotePageOf side greys.now serials.now level out.old) }
+        ≡ text_code (quote_page_of side greys.now serials.now level out.old) }
 {
     let answer = quote_page::quote_page(side, greys, serials, level, out);
     text_code(answer, length)
@@ -368,8 +368,8 @@ pub extern "C" fn rulmedei_sketch_quote(
       highs = highs.new;
       caps = caps.new;
     }
-        ≡ sketchCode
-        (sketchQuoteOf text.now level lows.old highs.old caps.old) }
+        ≡ sketch_code
+        (sketch_quote_of text.now level lows.old highs.old caps.old) }
 {
     *side_read = 0;
     *least = 0;
@@ -412,7 +412,7 @@ pub extern "C" fn rulmedei_two_heads(
       serials = serials.new;
       order = order.new;
     }
-        ≡ twoHeadsCode side knit
+        ≡ two_heads_code side knit
         greys.now pyramid.old serials.old order.old }
 {
     let ran = laser::two_heads(side, knit, greys, pyramid, serials, order);
@@ -438,7 +438,7 @@ pub extern "C" fn rulmedei_sample(seed: u32, side: u32, greys: &mut [u8], state:
       value = state.new;
       greys = greys.new;
     }
-        ≡ greysCode (sampleOf seed side greys.old) }
+        ≡ greys_code (sample_of seed side greys.old) }
 {
     match sample_map::sample(seed, side, greys) {
         SampleAnswer::State(n) => {
@@ -463,7 +463,7 @@ pub extern "C" fn rulmedei_compare(
     column: &mut u32,
 ) -> u32
     ensures { record { code = result; row = row.new; column = column.new }
-        ≡ compare_code (compareOf side left.now right.now) }
+        ≡ compare_code (compare_of side left.now right.now) }
 {
     *row = 0;
     *column = 0;
@@ -489,7 +489,7 @@ pub extern "C" fn rulmedei_compare(
 #[unsafe(no_mangle)]
 pub extern "C" fn rulmedei_shelf(side: u32, n: u32, plates: &[u32], list: &mut [u32]) -> u32
     ensures { record { code = result; list = list.new }
-        ≡ shelfCode (shelfOf side n plates.now list.old) }
+        ≡ shelf_code (shelf_of side n plates.now list.old) }
 {
     match shelf::shelf(side, n, plates, list) {
         ShelfAnswer::Sorted => 0,
@@ -509,8 +509,8 @@ pub extern "C" fn rulmedei_relay(
     second: &mut [i64],
 ) -> u32
     ensures { record { code = result; second = second.new }
-        ≡ relayCode
-        (relayOf (record { side = side; dots = dots; knit = knit })
+        ≡ relay_code
+        (relay_of (record { side = side; dots = dots; knit = knit })
         pyramid.now serials.now order.now second.old) }
 {
     let older = Progress { side, dots, knit };
@@ -532,7 +532,7 @@ pub extern "C" fn rulmedei_lower(greys: &mut [u8])
 #[unsafe(no_mangle)]
 pub extern "C" fn rulmedei_renew(side: u32, row: u32, column: u32, pyramid: &mut [i64]) -> u32
     ensures { record { code = result; pyramid = pyramid.new }
-        ≡ renewCode (renewalByQuarters side row column pyramid.old) }
+        ≡ renew_code (renewal_by_quarters side row column pyramid.old) }
 {
     if renewal::renew_lent(side, row, column, pyramid) {
         return 0;

@@ -1,39 +1,39 @@
--- What a loop that fills greys by a run of the generator leaves after n turns (`Sampled`, `sampled-all`).
+-- What a loop that fills greys by a run of the generator leaves after n turns (`Sampled`, `sampled_all`).
 use Rattle.std.specs.Prelude.{◌≡◌, refl, List, ◌++◌, ℕ, ◌+◌, ◌≤◌, ◌<◌, length, set, drop}
 use Rattle.std.proofs.Common.{ap, ◌∙◌, arith}
-use Rattle.definition.specs.Sample.{nextState, greyOf, sampleGreys, stateAfter}
-use Rattle.integers.specs.Fill.{front-store, length_front}
-use Rattle.sample_runs.specs.Runs.{greys-in-turn, state-in-turn, length-greys}
+use Rattle.definition.specs.Sample.{next_state, grey_of, sample_greys, state_after}
+use Rattle.integers.specs.Fill.{front_store, length_front}
+use Rattle.sample_runs.specs.Runs.{greys_in_turn, state_in_turn, length_greys}
 
 -- after n steps from a seed on: the state reached, and the greys in the first n places
 pub record Sampled (seed n : ℕ) (before : List ℕ) (state : ℕ) (after : List ℕ) : Type 0 where
-  pub reached : state ≡ stateAfter n seed
-  pub stored : after ≡ sampleGreys n seed ++ drop n before
+  pub reached : state ≡ state_after n seed
+  pub stored : after ≡ sample_greys n seed ++ drop n before
 
-pub sampled-none : (seed : ℕ) (before : List ℕ) → Sampled seed 0 before seed before
-unfolding stateAfter sampleGreys
-sampled-none seed before = record { reached = refl; stored = refl }
+pub sampled_none : (seed : ℕ) (before : List ℕ) → Sampled seed 0 before seed before
+unfolding state_after sample_greys
+sampled_none seed before = record { reached = refl; stored = refl }
 
 -- one step more: `next` and `grey` are what the code has worked out
-pub sampled-more : {seed n state : ℕ} {before greys : List ℕ} → Sampled seed n before state greys → n < length before
-    → {next grey : ℕ} → next ≡ nextState state → grey ≡ greyOf next
+pub sampled_more : {seed n state : ℕ} {before greys : List ℕ} → Sampled seed n before state greys → n < length before
+    → {next grey : ℕ} → next ≡ next_state state → grey ≡ grey_of next
     → Sampled seed (n + 1) before next (set greys n grey)
-unfolding stateAfter sampleGreys
-sampled-more {seed} {n} {state} {before} s h {next} {grey} en eg =
+unfolding state_after sample_greys
+sampled_more {seed} {n} {state} {before} s h {next} {grey} en eg =
     record {
-      reached = en ∙ rw (s.reached, state-in-turn n 1 seed);
+      reached = en ∙ rw (s.reached, state_in_turn n 1 seed);
       stored =
           ap (λ (l : List ℕ). set l n grey) s.stored
-          ∙ front-store (sampleGreys n seed) before grey (length-greys n seed) h
-          ∙ rw (greys-in-turn n 1 seed, ← s.reached, ← en, ← eg);
+          ∙ front_store (sample_greys n seed) before grey (length_greys n seed) h
+          ∙ rw (greys_in_turn n 1 seed, ← s.reached, ← en, ← eg);
     }
 
 -- all of them, once the loop's count is not below the number asked for
-pub sampled-all : {seed n count state : ℕ} {before greys : List ℕ} → n ≤ count → count ≤ n
+pub sampled_all : {seed n count state : ℕ} {before greys : List ℕ} → n ≤ count → count ≤ n
     → Sampled seed n before state greys → Sampled seed count before state greys
-sampled-all {n = n} {count = count} h k s = let e : n ≡ count = omega arith in rw e at s
+sampled_all {n = n} {count = count} h k s = let e : n ≡ count = omega arith in rw e at s
 
-pub length-sampled : {seed n state : ℕ} {before greys : List ℕ} → n ≤ length before → Sampled seed n before state greys
+pub length_sampled : {seed n state : ℕ} {before greys : List ℕ} → n ≤ length before → Sampled seed n before state greys
     → length greys ≡ length before
-length-sampled {seed} {n} {before = before} h s =
-    ap length s.stored ∙ length_front (sampleGreys n seed) before (length-greys n seed) h
+length_sampled {seed} {n} {before = before} h s =
+    ap length s.stored ∙ length_front (sample_greys n seed) before (length_greys n seed) h

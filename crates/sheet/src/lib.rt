@@ -1,12 +1,12 @@
 // The check of the calls that take a sheet: refusals 1, 11, 3, 4 and 5 (`check_sheet`; `check_lengths` and `sound_lent`
 // are its halves).
 ghost use Rattle.std.specs.Prelude.{◌≡◌, true, ◌≤◌, length};
-ghost use Rattle.definition.specs.Sound.{isSound};
-ghost use Rattle.definition.specs.Advance.{sheetIn, advanceRefusal};
-ghost use Rattle.definition.specs.Quarters.{asRows};
+ghost use Rattle.definition.specs.Sound.{is_sound};
+ghost use Rattle.definition.specs.Advance.{sheet_in, advance_refusal};
+ghost use Rattle.definition.specs.Quarters.{as_rows};
 ghost use Rattle.places.specs.Table.{places};
 ghost use Rattle.checks.specs.Checks.{checked};
-ghost use Rattle.sheet.specs.Sheets.{SheetLent, shownRows};
+ghost use Rattle.sheet.specs.Sheets.{SheetLent, shown_rows};
 
 use checks::Check;
 use definition::Refusal;
@@ -14,7 +14,7 @@ use definition::Refusal;
 // Refusals 1, 11, 3, 4 (S 5.2), from the side's power, the knit and the lengths lent.
 pub fn check_lengths(r: usize, knit: u32, pyramid: usize, serials: usize, order: usize) -> Check
     requires { r ≤ 8 }
-    ensures { checked result ≡ advanceRefusal r knit pyramid serials order true }
+    ensures { checked result ≡ advance_refusal r knit pyramid serials order true }
 {
     let cells = sizes::cell_count(r);
     let needed = sizes::needed(r);
@@ -49,8 +49,8 @@ pub fn sound_lent(
     requires r_bound { (r ≤ 8) × SheetLent r (length pyramid.now) (length serials.now) (length order.now) }
     requires table_value { table.now ≡ places }
     ensures { result
-        ≡ isSound r
-        (sheetIn r dots (shownRows rows r pyramid.now) serials.now order.now) }
+        ≡ is_sound r
+        (sheet_in r dots (shown_rows rows r pyramid.now) serials.now order.now) }
 {
     let needed = sizes::needed(r);
     let cells = sizes::cell_count(r);
@@ -78,9 +78,9 @@ pub fn check_sheet(
     requires r_bound { r ≤ 8 }
     requires table_value { table.now ≡ places }
     ensures { checked result
-        ≡ advanceRefusal r knit
+        ≡ advance_refusal r knit
         (length pyramid.now) (length serials.now) (length order.now)
-        (isSound r (sheetIn r dots (asRows r pyramid.now) serials.now order.now)) }
+        (is_sound r (sheet_in r dots (as_rows r pyramid.now) serials.now order.now)) }
 {
     match check_lengths(r, knit, pyramid.len(), serials.len(), order.len()) {
         Check::Failed(why) => Check::Failed(why),

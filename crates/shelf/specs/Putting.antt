@@ -1,4 +1,4 @@
--- A number put into a list: those behind it move up by one (`Carrying`, `carry-next`, `carry-last`).
+-- A number put into a list: those behind it move up by one (`Carrying`, `carry_next`, `carry_last`).
 use Rattle.std.specs.Prelude.{◌≡◌, refl, List, [], ◌∷◌, ◌++◌, length, get_or, set, take, drop}
 use Rattle.std.proofs.Math.Path.{sym, ap}
 use Rattle.std.proofs.Common.{ap₂, ◌∙◌, append_assoc, add-one, take-suc-set, drop-set-lt, drop-cons}
@@ -12,16 +12,16 @@ unfoldable pub carried : ℕ → ℕ → ℕ → List ℕ → List ℕ
 carried zero j x l = set l j x
 carried (suc k) j x l = carried k (suc j) (get_or l j 0) (set l j x)
 
-pub carried-is : (k j x : ℕ) (l : List ℕ) → j + k < length l
+pub carried_is : (k j x : ℕ) (l : List ℕ) → j + k < length l
     → carried k j x l ≡ take j l ++ x ∷ (take k (drop j l) ++ drop (j + k + 1) l)
 unfolding carried
-carried-is zero j x l h =
+carried_is zero j x l h =
     let z : suc j ≡ j + 0 + 1 = omega arith in
     set_split l j x (omega arith) ∙ ap (λ (n : ℕ). take j l ++ x ∷ drop n l) z
-carried-is (suc k) j x l h =
+carried_is (suc k) j x l h =
     let y = get_or l j 0 in
     let tail = take k (drop (suc j) l) ++ drop (suc j + k + 1) l in
-    carried-is k (suc j) y (set l j x) (omega (arith, length-set l j x))
+    carried_is k (suc j) y (set l j x) (omega (arith, length-set l j x))
     ∙ ap₂ (λ (a b : List ℕ). a ++ y ∷ b) (take-suc-set l j x (omega arith))
     (ap₂ (λ (a b : List ℕ). take k a ++ b) (drop-set-lt (suc j) l j x (omega arith))
     (drop-set-lt (suc j + k + 1) l j x (omega arith)))
@@ -38,13 +38,13 @@ pub record Carrying (l₀ : List ℕ) (p n x : ℕ) (l : List ℕ) (carry j : �
   pub long : length l ≡ length l₀
   pub left : carried (n - p) p x l₀ ≡ carried (n - j) j carry l
 
-pub carry-start : (l : List ℕ) (p n x : ℕ) → p ≤ n → Carrying l p n x l x p
-carry-start l p n x h = record { most = h; long = refl; left = refl }
+pub carry_start : (l : List ℕ) (p n x : ℕ) → p ≤ n → Carrying l p n x l x p
+carry_start l p n x h = record { most = h; long = refl; left = refl }
 
 module _ {l₀ : List ℕ} {p n x : ℕ} {l : List ℕ} {carry j : ℕ} (h : Carrying l₀ p n x l carry j) where
-  pub carry-next : j < n → Carrying l₀ p n x (set l j carry) (get_or l j 0) (j + 1)
+  pub carry_next : j < n → Carrying l₀ p n x (set l j carry) (get_or l j 0) (j + 1)
   unfolding carried
-  carry-next lt =
+  carry_next lt =
       let z : n - j ≡ suc (n - suc j) = omega arith in
       rw (add-one j)
       (record {
@@ -53,9 +53,9 @@ module _ {l₀ : List ℕ} {p n x : ℕ} {l : List ℕ} {carry j : ℕ} (h : Car
         left = h.left ∙ ap (λ (k : ℕ). carried k j carry l) z;
       })
 
-  pub carry-last : n ≤ j → set l n carry ≡ carried (n - p) p x l₀
+  pub carry_last : n ≤ j → set l n carry ≡ carried (n - p) p x l₀
   unfolding carried
-  carry-last le =
+  carry_last le =
       let e : j ≡ n = omega (arith, h.most) in
       let z : n - n ≡ 0 = omega arith in
       sym (h.left ∙ ap (λ (k : ℕ). carried (n - k) k carry l) e ∙ ap (λ (k : ℕ). carried k n carry l) z)

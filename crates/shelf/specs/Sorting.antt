@@ -1,25 +1,25 @@
--- The list with a plate put at its place, and plate after plate (`Sorting`, `sort-next`, `sort-end`).
+-- The list with a plate put at its place, and plate after plate (`Sorting`, `sort_next`, `sort_end`).
 use Rattle.std.specs.Prelude.{◌≡◌, refl, ℕ, suc, ◌+◌, ◌*◌, ◌-◌, ◌≤◌, ◌<◌, length}
 use Rattle.std.proofs.Math.Path.{sym, ap, ap₂}
 use Rattle.std.proofs.Common.{◌∙◌, arith, mul-le-mul_right, suc-mul, add-one, length-append, length-drop, take-append-drop, take_at, take-add, drop-drop}
 use mathlib.Core.List.{List, ◌∷◌, ◌++◌, append_assoc}
 use Rattle.std.proofs.Math.ListN.{take, drop}
 use Rattle.std.proofs.Math.Seq.{length-take-le, drop_at, take-take}
-use Rattle.definition.specs.Pyramid.{cellCount}
-use Rattle.definition.specs.Shelf.{inOrder}
-use Rattle.shelf_order.specs.Insertion.{in-order-length, insert-at}
+use Rattle.definition.specs.Pyramid.{cell_count}
+use Rattle.definition.specs.Shelf.{in_order}
+use Rattle.shelf_order.specs.Insertion.{in_order_length, insert_at}
 use Rattle.shelf.specs.PlatesLent.{PlaceAsked, PlaceFor, PutAsked, SortAsked}
-use Rattle.shelf.specs.Putting.{carried, carried-is}
-use Rattle.shelf.specs.Searching.{before-place}
+use Rattle.shelf.specs.Putting.{carried, carried_is}
+use Rattle.shelf.specs.Searching.{before_place}
 
 -- ---- plate n put at its place
 module _ {plates list : List ℕ} {r n : ℕ} (h : PlaceAsked plates list r n) where
   put_is : (p : ℕ) → PlaceFor plates list r n p
-      → take p list ++ n ∷ take (n - p) (drop p list) ≡ inOrder r plates (suc n)
-  unfolding inOrder
+      → take p list ++ n ∷ take (n - p) (drop p list) ≡ in_order r plates (suc n)
+  unfolding in_order
   put_is p w =
-      let ys = inOrder r plates n in
-      let count = in-order-length r plates n in
+      let ys = in_order r plates n in
+      let count = in_order_length r plates n in
       let front : take p ys ≡ take p list = ap (take p) (sym h.sorted) ∙ take-take p n list w.most in
       let d : p + (n - p) ≡ n = omega (arith, w.most) in
       let long = length-take-le p list (omega (arith, w.most, h.places)) in
@@ -27,9 +27,9 @@ module _ {plates list : List ℕ} {r n : ℕ} (h : PlaceAsked plates list r n) w
       = ap (drop p) (sym h.sorted) ∙ ap (λ (k : ℕ). drop p (take k list)) (sym d)
       ∙ ap (drop p) (take-add p (n - p) list) ∙ drop_at (take p list) (take (n - p) (drop p list)) p long in
       let put
-      = insert-at r plates n ys p (omega (arith, w.most, count))
-      (λ i lt. before-place h i (omega (arith, w.most)) ∙ w.none i lt)
-      (λ lt. before-place h p (omega (arith, count)) ∙ w.next (omega (arith, count))) in
+      = insert_at r plates n ys p (omega (arith, w.most, count))
+      (λ i lt. before_place h i (omega (arith, w.most)) ∙ w.none i lt)
+      (λ lt. before_place h p (omega (arith, count)) ∙ w.next (omega (arith, count))) in
       sym (put ∙ ap₂ (λ (a b : List ℕ). a ++ n ∷ b) front rest)
 
 -- ---- plate after plate
@@ -37,42 +37,42 @@ module _ {plates list : List ℕ} {r n : ℕ} (h : PlaceAsked plates list r n) w
 pub record Sorting (plates list₀ list : List ℕ) (r n i : ℕ) : Type 0 where
   pub most : i ≤ n
   pub long : length list ≡ length list₀
-  pub sorted : take i list ≡ inOrder r plates i
+  pub sorted : take i list ≡ in_order r plates i
   pub rest : drop i list ≡ drop i list₀
 
-pub sort-start : (plates list : List ℕ) (r n : ℕ) → Sorting plates list list r n 0
-unfolding inOrder
-sort-start plates list r n = record { most = omega arith; long = refl; sorted = refl; rest = refl }
+pub sort_start : (plates list : List ℕ) (r n : ℕ) → Sorting plates list list r n 0
+unfolding in_order
+sort_start plates list r n = record { most = omega arith; long = refl; sorted = refl; rest = refl }
 
 module _ {plates list₀ list : List ℕ} {r n i : ℕ} (h : SortAsked (length plates) (length list₀) r n)
     (s : Sorting plates list₀ list r n i) (lt : i < n) where
-  pub place-asked : PlaceAsked plates list r i
-  place-asked =
+  pub place_asked : PlaceAsked plates list r i
+  place_asked =
       record {
         power = h.power;
         powers = h.powers;
-        room = omega (arith, mul-le-mul_right (cellCount r) lt, suc-mul i (cellCount r), h.room);
+        room = omega (arith, mul-le-mul_right (cell_count r) lt, suc-mul i (cell_count r), h.room);
         places = omega (arith, h.places, s.long);
         sorted = s.sorted;
       }
 
-  pub put-asked : {p : ℕ} → PlaceFor plates list r i p → PutAsked (length list) p i
-  put-asked w = record { most = w.most; room = omega (arith, h.places, s.long) }
+  pub put_asked : {p : ℕ} → PlaceFor plates list r i p → PutAsked (length list) p i
+  put_asked w = record { most = w.most; room = omega (arith, h.places, s.long) }
 
-  pub sort-next : {p : ℕ} → PlaceFor plates list r i p → {after : List ℕ} → after ≡ carried (i - p) p i list
+  pub sort_next : {p : ℕ} → PlaceFor plates list r i p → {after : List ℕ} → after ≡ carried (i - p) p i list
       → Sorting plates list₀ after r n (i + 1)
-  sort-next {p} w {after} e =
+  sort_next {p} w {after} e =
       let d : p + (i - p) ≡ i = omega (arith, w.most) in
       let rows = take p list ++ i ∷ take (i - p) (drop p list) in
       let is : after ≡ rows ++ drop (i + 1) list
-      = e ∙ carried-is (i - p) p i list (omega (arith, d, h.places, s.long))
+      = e ∙ carried_is (i - p) p i list (omega (arith, d, h.places, s.long))
       ∙ ap (λ (k : ℕ). take p list ++ i ∷ (take (i - p) (drop p list) ++ drop (k + 1) list)) d
       ∙ sym (append_assoc (take p list) (i ∷ take (i - p) (drop p list)) (drop (i + 1) list)) in
-      let ys = inOrder r plates (i + 1) in
+      let ys = in_order r plates (i + 1) in
       let zs = drop (i + 1) list in
-      let front : rows ≡ ys = put_is place-asked p w ∙ ap (inOrder r plates) (sym (add-one i)) in
+      let front : rows ≡ ys = put_is place_asked p w ∙ ap (in_order r plates) (sym (add-one i)) in
       let whole : after ≡ ys ++ zs = is ∙ ap (λ (l : List ℕ). l ++ zs) front in
-      let count = in-order-length r plates (i + 1) in
+      let count = in_order_length r plates (i + 1) in
       let lengths : length (ys ++ zs) ≡ length list₀
       = omega (arith, length-append ys zs, count, length-drop (i + 1) list, s.long, h.places) in
       let one_more : drop (i + 1) list ≡ drop (i + 1) list₀
@@ -84,9 +84,9 @@ module _ {plates list₀ list : List ℕ} {r n i : ℕ} (h : SortAsked (length p
         rest = ap (drop (i + 1)) whole ∙ drop_at ys zs (i + 1) count ∙ one_more;
       }
 
-pub sort-end : {plates list₀ list : List ℕ} {r n i : ℕ} → Sorting plates list₀ list r n i → n ≤ i
-    → list ≡ inOrder r plates n ++ drop n list₀
-sort-end {plates} {list₀} {list} {r} {n} {i} s h =
+pub sort_end : {plates list₀ list : List ℕ} {r n i : ℕ} → Sorting plates list₀ list r n i → n ≤ i
+    → list ≡ in_order r plates n ++ drop n list₀
+sort_end {plates} {list₀} {list} {r} {n} {i} s h =
     let e : i ≡ n = omega (arith, s.most) in
     sym (take-append-drop i list) ∙ ap₂ ◌++◌ s.sorted s.rest
-    ∙ ap (λ (k : ℕ). inOrder r plates k ++ drop k list₀) e
+    ∙ ap (λ (k : ℕ). in_order r plates k ++ drop k list₀) e

@@ -1,11 +1,11 @@
 // Shelf (`shelf`): the numbers of a shelf's plates in order. Each plate is put among those before it, at the place that
 // a search by halves finds; no space beside the list is used.
 ghost use Rattle.std.specs.Prelude.{◌≡◌, ◌++◌, ◌-◌, ◌≤◌, length, drop};
-ghost use Rattle.definition.specs.Answers.{compareSays, shelfSays};
-ghost use Rattle.definition.specs.Shelf.{compared, plateAt, isBefore, inOrder, shelfRefusal, shelfOf};
+ghost use Rattle.definition.specs.Answers.{compare_says, shelf_says};
+ghost use Rattle.definition.specs.Shelf.{compared, plate_at, is_before, in_order, shelf_refusal, shelf_of};
 ghost use Rattle.checks.specs.Checks.{checked};
 ghost use Rattle.shelf.specs.PlatesLent.{PairAsked, PlaceAsked, PlaceFor, PutAsked, SortAsked};
-ghost use Rattle.shelf.specs.Pairs.{saysBefore};
+ghost use Rattle.shelf.specs.Pairs.{says_before};
 ghost use Rattle.shelf.specs.Putting.{carried};
 
 use checks::Check;
@@ -13,7 +13,7 @@ use definition::{CompareAnswer, Refusal, ShelfAnswer};
 
 // Whether an answer says before.
 fn says_before(answer: CompareAnswer) -> bool
-    ensures { result ≡ saysBefore (compareSays answer) }
+    ensures { result ≡ says_before (compare_says answer) }
 {
     match answer {
         CompareAnswer::Before => true,
@@ -28,7 +28,7 @@ fn says_before(answer: CompareAnswer) -> bool
 // Whether plate x of a shelf comes before plate y.
 fn plate_before(plates: &[u32], r: usize, x: usize, y: usize) -> bool
     requires { PairAsked (length plates.now) r x y }
-    ensures { result ≡ isBefore (compared r (plateAt r plates.now x) (plateAt r plates.now y)) }
+    ensures { result ≡ is_before (compared r (plate_at r plates.now x) (plate_at r plates.now y)) }
 {
     let cells = sizes::cell_count(r);
     let a = x * cells;
@@ -74,7 +74,7 @@ fn put_at(list: &mut [u32], p: usize, n: usize, x: u32)
 // The numbers of the first n plates in order, in the first n places of the list.
 fn sort(plates: &[u32], list: &mut [u32], r: usize, n: u32)
     requires { SortAsked (length plates.now) (length list.old) r n }
-    ensures { list.new ≡ inOrder r plates.now n ++ drop n list.old }
+    ensures { list.new ≡ in_order r plates.now n ++ drop n list.old }
 {
     let mut i = 0;
     while i < n {
@@ -87,7 +87,7 @@ fn sort(plates: &[u32], list: &mut [u32], r: usize, n: u32)
 // Shelf's refusals 1, 4, 8 (S 5.2), for n plates and lengths lent. The shelf's length is worked out in 64 bits.
 fn check_shelf(r: usize, n: u32, plates: usize, list: usize) -> Check
     requires { r ≤ 8 }
-    ensures { checked result ≡ shelfRefusal r n plates list }
+    ensures { checked result ≡ shelf_refusal r n plates list }
 {
     if r == 0 {
         return Check::Failed(Refusal::SideUnknown);
@@ -105,8 +105,8 @@ fn check_shelf(r: usize, n: u32, plates: usize, list: usize) -> Check
 
 // Shelf (S 11.2): the plate numbers 0 to n - 1 in order, equal plates as they stood; or a refusal with nothing written.
 pub fn shelf(side: u32, n: u32, plates: &[u32], list: &mut [u32]) -> ShelfAnswer
-    ensures { record { said = shelfSays result; list = list.new }
-        ≡ shelfOf side n plates.now list.old }
+    ensures { record { said = shelf_says result; list = list.new }
+        ≡ shelf_of side n plates.now list.old }
 {
     let r = sizes::power_of(side);
     match check_shelf(r, n, plates.len(), list.len()) {

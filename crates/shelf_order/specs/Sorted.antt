@@ -1,29 +1,29 @@
--- What the list of a shelf is (`sorted`), and that no other list is so (`only-list`); the same of what the call leaves
--- (`shelf-list`, `shelf-rest`).
+-- What the list of a shelf is (`sorted`), and that no other list is so (`only_list`); the same of what the call leaves
+-- (`shelf_list`, `shelf_rest`).
 use Rattle.std.specs.Prelude.{◌≡◌, ◌≢◌, ◌↔◌, ◌⊎◌, true, false, List, [], ◌∷◌, ◌++◌, ℕ, zero, suc, ◌+◌, ◌≤◌, ◌<◌, eqb, ltb, length, get_or, take, drop}
 use Rattle.std.proofs.Math.Path.{refl}
 use Rattle.std.proofs.Common.{sym, ap, ap₂, ◌∙◌, inl, inr, true≢false, arith, take_at, drop_at, eq-eqb, ne_eqb}
 use Rattle.std.proofs.Math.Decide.{ℕ_discrete}
 use Rattle.definition.specs.Answers.{returned, same}
-use Rattle.definition.specs.Refusals.{powerOf}
-use Rattle.definition.specs.Shelf.{isBefore, compared, plateAt, inOrder, shelfRefusal, ShelfOutcome, shelfOf}
+use Rattle.definition.specs.Refusals.{power_of}
+use Rattle.definition.specs.Shelf.{is_before, compared, plate_at, in_order, shelf_refusal, ShelfOutcome, shelf_of}
 use Rattle.integers.specs.Tests.{bit}
-use Rattle.shelf_order.specs.Differences.{not-before}
-use Rattle.shelf_order.specs.Order.{OneWay, goes_before, is_same, goes_after, one_way, same-iff}
+use Rattle.shelf_order.specs.Differences.{not_before}
+use Rattle.shelf_order.specs.Order.{OneWay, goes_before, is_same, goes_after, one_way, same_iff}
 use Rattle.shelf_order.specs.Insertion.{
   Each,
   Pairs,
   each_map,
-  pairs-at,
+  pairs_at,
   times,
   stands,
   Precedes,
-  precedes-chain,
+  precedes_chain,
   not_itself,
   precedes,
-  times-in-order,
-  in-order-length,
-  in-order-pairs,
+  times_in_order,
+  in_order_length,
+  in_order_pairs,
 }
 
 -- ---- two lists with the same numbers, both in a strict order
@@ -40,43 +40,43 @@ module _ (R : ℕ → ℕ → Type 0) (through : (x y z : ℕ) → R x y → R y
 times_none : (x : ℕ) → times x [] ≡ 0
 times_none x = unfold times in refl
 
-times-here : (z x : ℕ) (xs : List ℕ) → z ≡ x → times z (x ∷ xs) ≡ suc (times z xs)
+times_here : (z x : ℕ) (xs : List ℕ) → z ≡ x → times z (x ∷ xs) ≡ suc (times z xs)
 unfolding times bit
-times-here z x xs e = rw (eq-eqb z x e) (omega arith)
+times_here z x xs e = rw (eq-eqb z x e) (omega arith)
 
-times-other : (z x : ℕ) (xs : List ℕ) → z ≢ x → times z (x ∷ xs) ≡ times z xs
+times_other : (z x : ℕ) (xs : List ℕ) → z ≢ x → times z (x ∷ xs) ≡ times z xs
 unfolding times bit
-times-other z x xs ne = rw (ne_eqb z x ne) (omega arith)
+times_other z x xs ne = rw (ne_eqb z x ne) (omega arith)
 
 -- what holds of each holds of a number that stands there
-stands-there : (P : ℕ → Type 0) (z : ℕ) (xs : List ℕ) → 1 ≤ times z xs → Each P xs → P z
-stands-there P z [] l h = absurd (unfold times in omega (arith, l))
-stands-there P z (x ∷ xs) l h = go (ℕ_discrete z x) (λ m. stands-there P z xs m h.1)
+stands_there : (P : ℕ → Type 0) (z : ℕ) (xs : List ℕ) → 1 ≤ times z xs → Each P xs → P z
+stands_there P z [] l h = absurd (unfold times in omega (arith, l))
+stands_there P z (x ∷ xs) l h = go (ℕ_discrete z x) (λ m. stands_there P z xs m h.1)
   where
     go : Dec (z ≡ x) → (1 ≤ times z xs → P z) → P z
     go (yes e) later = rw e h.0
-    go (no e) later = later (omega (arith, times-other z x xs e))
+    go (no e) later = later (omega (arith, times_other z x xs e))
 
 module _ (R : ℕ → ℕ → Type 0) (through : (x y z : ℕ) → R x y → R y z → R x z)
     (strict : (x : ℕ) → R x x → ⊥) where
   only : (l m : List ℕ) → Pairs R l → Pairs R m → ((z : ℕ) → times z l ≡ times z m) → l ≡ m
   only [] [] p q e = refl
-  only [] (y ∷ ys) p q e = absurd (omega (arith, e y, times_none y, times-here y y ys refl))
-  only (x ∷ xs) [] p q e = absurd (omega (arith, e x, times_none x, times-here x x xs refl))
+  only [] (y ∷ ys) p q e = absurd (omega (arith, e y, times_none y, times_here y y ys refl))
+  only (x ∷ xs) [] p q e = absurd (omega (arith, e x, times_none x, times_here x x xs refl))
   only (x ∷ xs) (y ∷ ys) p q e = go (ℕ_discrete x y) (only xs ys p.1 q.1)
     where
       fewer : x ≡ y → (z : ℕ) → Dec (z ≡ x) → times z xs ≡ times z ys
-      fewer s z (yes d) = omega (arith, e z, times-here z x xs d, times-here z y ys (d ∙ s))
-      fewer s z (no d) = omega (arith, e z, times-other z x xs d, times-other z y ys (λ w. d (w ∙ sym s)))
+      fewer s z (yes d) = omega (arith, e z, times_here z x xs d, times_here z y ys (d ∙ s))
+      fewer s z (no d) = omega (arith, e z, times_other z x xs d, times_other z y ys (λ w. d (w ∙ sym s)))
 
       -- if the heads differ, each stands in the other's tail
       other : x ≢ y → R x y
       other ne =
-          let far = times-other y x xs (λ d. ne (sym d)) in
-          stands-there (R x) y xs (omega (arith, e y, times-here y y ys refl, far)) p.0
+          let far = times_other y x xs (λ d. ne (sym d)) in
+          stands_there (R x) y xs (omega (arith, e y, times_here y y ys refl, far)) p.0
 
       other' : x ≢ y → R y x
-      other' ne = stands-there (R y) x ys (omega (arith, e x, times-here x x xs refl, times-other x y ys ne)) q.0
+      other' ne = stands_there (R y) x ys (omega (arith, e x, times_here x x xs refl, times_other x y ys ne)) q.0
 
       go : Dec (x ≡ y) → (((z : ℕ) → times z xs ≡ times z ys) → xs ≡ ys) → x ∷ xs ≡ y ∷ ys
       go (yes d) ih = ap₂ ◌∷◌ d (ih (λ z. fewer d z (ℕ_discrete z x)))
@@ -85,71 +85,71 @@ module _ (R : ℕ → ℕ → Type 0) (through : (x y z : ℕ) → R x y → R y
 module _ (r : ℕ) (plates : List ℕ) where
   pub record Sorted (n : ℕ) (l : List ℕ) : Type 0 where
     -- each number below n stands in it once, and no other number
-    pub each-once : (x : ℕ) → times x l ≡ bit (ltb x n)
+    pub each_once : (x : ℕ) → times x l ≡ bit (ltb x n)
     -- of two neighbours the first is not after the second
     pub neighbours : (i : ℕ) → suc i < length l
-        → isBefore (stands r plates (get_or l (suc i) 0) (get_or l i 0)) ≡ false
+        → is_before (stands r plates (get_or l (suc i) 0) (get_or l i 0)) ≡ false
     -- of equal plates the lower number comes first
-    pub lower-first : (i j : ℕ) → i < j → j < length l → stands r plates (get_or l i 0) (get_or l j 0) ≡ same
+    pub lower_first : (i j : ℕ) → i < j → j < length l → stands r plates (get_or l i 0) (get_or l j 0) ≡ same
         → get_or l i 0 < get_or l j 0
 
   -- the list of a shelf is so
-  pub sorted : (n : ℕ) → Sorted n (inOrder r plates n)
+  pub sorted : (n : ℕ) → Sorted n (in_order r plates n)
   sorted n =
       record {
-        each-once = times-in-order r plates n;
+        each_once = times_in_order r plates n;
         neighbours = λ i lt. not_back (pair i (suc i) (omega arith) lt);
-        lower-first = λ i j lt l e. lower (pair i j lt l) e;
+        lower_first = λ i j lt l e. lower (pair i j lt l) e;
       }
     where
-      pair : (i j : ℕ) → i < j → j < length (inOrder r plates n)
-          → Precedes r plates (get_or (inOrder r plates n) i 0) (get_or (inOrder r plates n) j 0)
-      pair i j lt l = pairs-at (Precedes r plates) (inOrder r plates n) i j lt l (in-order-pairs r plates n)
+      pair : (i j : ℕ) → i < j → j < length (in_order r plates n)
+          → Precedes r plates (get_or (in_order r plates n) i 0) (get_or (in_order r plates n) j 0)
+      pair i j lt l = pairs_at (Precedes r plates) (in_order r plates n) i j lt l (in_order_pairs r plates n)
 
-      not_back : {x y : ℕ} → Precedes r plates x y → isBefore (stands r plates y x) ≡ false
-      not_back {x} {y} h = go (one_way r (plateAt r plates x) (plateAt r plates y)) h
+      not_back : {x y : ℕ} → Precedes r plates x y → is_before (stands r plates y x) ≡ false
+      not_back {x} {y} h = go (one_way r (plate_at r plates x) (plate_at r plates y)) h
         where
-          go : OneWay r (plateAt r plates x) (plateAt r plates y) → Precedes r plates x y
-              → isBefore (stands r plates y x) ≡ false
+          go : OneWay r (plate_at r plates x) (plate_at r plates y) → Precedes r plates x y
+              → is_before (stands r plates y x) ≡ false
           go (goes_before p q s) h = q
           go (is_same p q s) h = s
           go (goes_after p q s) (inl k) = absurd (true≢false (sym k ∙ q))
-          go (goes_after p q s) (inr k) = absurd (s ((same-iff r _ _).0 k.0))
+          go (goes_after p q s) (inr k) = absurd (s ((same_iff r _ _).0 k.0))
 
       lower : {x y : ℕ} → Precedes r plates x y → stands r plates x y ≡ same → x < y
-      lower (inl h) e = not-before e h
+      lower (inl h) e = not_before e h
       lower (inr h) e = h.1
 
   -- and no other list is (S 15.12)
-  pub only-list : (n : ℕ) (l : List ℕ) → Sorted n l → l ≡ inOrder r plates n
-  only-list n l h =
-      only (Precedes r plates) (precedes-chain r plates) (λ x. not_itself r plates x) l (inOrder r plates n)
-      (linked (Precedes r plates) (precedes-chain r plates) l
-      (λ i lt. precedes r plates _ _ (h.neighbours i lt) (h.lower-first i (suc i) (omega arith) lt)))
-      (in-order-pairs r plates n)
-      (λ z. h.each-once z ∙ sym (times-in-order r plates n z))
+  pub only_list : (n : ℕ) (l : List ℕ) → Sorted n l → l ≡ in_order r plates n
+  only_list n l h =
+      only (Precedes r plates) (precedes_chain r plates) (λ x. not_itself r plates x) l (in_order r plates n)
+      (linked (Precedes r plates) (precedes_chain r plates) l
+      (λ i lt. precedes r plates _ _ (h.neighbours i lt) (h.lower_first i (suc i) (omega arith) lt)))
+      (in_order_pairs r plates n)
+      (λ z. h.each_once z ∙ sym (times_in_order r plates n z))
 
 -- ---- the call
 module _ (side n : ℕ) (plates list : List ℕ)
-    (accepted : shelfRefusal (powerOf side) n (length plates) (length list) ≡ 0) where
-  outcome : shelfOf side n plates list
-      ≡ record { said = returned []; list = inOrder (powerOf side) plates n ++ drop n list }
-  outcome = unfold shelfOf in rw (accepted, shelfOf)
+    (accepted : shelf_refusal (power_of side) n (length plates) (length list) ≡ 0) where
+  outcome : shelf_of side n plates list
+      ≡ record { said = returned []; list = in_order (power_of side) plates n ++ drop n list }
+  outcome = unfold shelf_of in rw (accepted, shelf_of)
 
-  is-left : (shelfOf side n plates list).list ≡ inOrder (powerOf side) plates n ++ drop n list
-  is-left = ap (λ (o : ShelfOutcome). o.list) outcome
+  is_left : (shelf_of side n plates list).list ≡ in_order (power_of side) plates n ++ drop n list
+  is_left = ap (λ (o : ShelfOutcome). o.list) outcome
 
   -- what Shelf writes is the one list that is so (S 11.2, S 15.12)
-  pub shelf-list : (l : List ℕ)
-      → Sorted (powerOf side) plates n l ↔ (l ≡ take n (shelfOf side n plates list).list)
-  shelf-list l =
-      let r = powerOf side in
-      let first : take n (shelfOf side n plates list).list ≡ inOrder r plates n
-      = ap (take n) is-left ∙ take_at (inOrder r plates n) (drop n list) n (in-order-length r plates n) in
-      (λ h. only-list r plates n l h ∙ sym first, λ e. rw (e, first) (sorted r plates n))
+  pub shelf_list : (l : List ℕ)
+      → Sorted (power_of side) plates n l ↔ (l ≡ take n (shelf_of side n plates list).list)
+  shelf_list l =
+      let r = power_of side in
+      let first : take n (shelf_of side n plates list).list ≡ in_order r plates n
+      = ap (take n) is_left ∙ take_at (in_order r plates n) (drop n list) n (in_order_length r plates n) in
+      (λ h. only_list r plates n l h ∙ sym first, λ e. rw (e, first) (sorted r plates n))
 
   -- and the places past the n-th stay (S 11.2)
-  pub shelf-rest : drop n (shelfOf side n plates list).list ≡ drop n list
-  shelf-rest =
-      ap (drop n) is-left
-      ∙ drop_at (inOrder (powerOf side) plates n) (drop n list) n (in-order-length (powerOf side) plates n)
+  pub shelf_rest : drop n (shelf_of side n plates list).list ≡ drop n list
+  shelf_rest =
+      ap (drop n) is_left
+      ∙ drop_at (in_order (power_of side) plates n) (drop n list) n (in_order_length (power_of side) plates n)

@@ -15,12 +15,12 @@ even_power (suc k) =
     rw (e, pow-succ' 2 (suc (2 * k)), pow-succ' 2 (2 * k), pow-succ' 4 k) (omega (arith, even_power k))
 
 module _ (k : ℕ) (h : k ≤ 9) where
-  shifted-twice : 1 * 2 ^ (2 * k) % 2 ^ 64 ≡ 4 ^ k
-  shifted-twice = shifted (2 * k) (omega arith) ∙ even_power k
+  shifted_twice : 1 * 2 ^ (2 * k) % 2 ^ 64 ≡ 4 ^ k
+  shifted_twice = shifted (2 * k) (omega arith) ∙ even_power k
 
-  pub shifted-some : 1 ≤ 1 * 2 ^ (2 * k) % 2 ^ 64
-  shifted-some = omega (arith, shifted (2 * k) (omega arith), pow_pos (2 * k))
+  pub shifted_some : 1 ≤ 1 * 2 ^ (2 * k) % 2 ^ 64
+  shifted_some = omega (arith, shifted (2 * k) (omega arith), pow_pos (2 * k))
 
   pub shifted_start : (1 * 2 ^ (2 * k) % 2 ^ 64 - 1) / 3 ≡ start k
   unfolding start
-  shifted_start = ap (λ (n : ℕ). (n - 1) / 3) shifted-twice
+  shifted_start = ap (λ (n : ℕ). (n - 1) / 3) shifted_twice

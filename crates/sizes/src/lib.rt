@@ -1,12 +1,12 @@
 // Sides, powers of two, level starts and lengths: the numbers that every call works with (`power_of`, `pow2`,
 // `cell_count`, `level_start`, `needed`).
 ghost use Rattle.std.specs.Prelude.{◌≡◌, ◌^◌, ◌≤◌, min};
-ghost use Rattle.definition.specs.Pyramid.{cellCount, needed, start};
-ghost use Rattle.definition.specs.Refusals.{powerOf};
+ghost use Rattle.definition.specs.Pyramid.{cell_count, needed, start};
+ghost use Rattle.definition.specs.Refusals.{power_of};
 
 // The power of a side (S 2.1): 1 to 8, or 0 if the side isn't one of the eight.
 pub fn power_of(side: u32) -> usize
-    ensures { result ≡ powerOf side }
+    ensures { result ≡ power_of side }
 {
     match side {
         2 => 1,
@@ -32,7 +32,7 @@ pub fn pow2(k: usize) -> usize
 // The number of cells of a map of power r (S 2.1).
 pub fn cell_count(r: usize) -> usize
     requires { r ≤ 8 }
-    ensures { result ≡ cellCount r }
+    ensures { result ≡ cell_count r }
 {
     let side = pow2(r);
     side * side

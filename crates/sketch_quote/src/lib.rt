@@ -1,12 +1,12 @@
 // Sketch Quote (`sketch_quote`): the figures of a rough sketch, which has a low and a high grey for each cell. They are
 // the least and the greatest total of the maps between, and the greatest cap of each square of a level.
 ghost use Rattle.std.specs.Prelude.{◌≡◌, ◌≤◌, min, length};
-ghost use Rattle.definition.specs.Answers.{sketchSays};
-ghost use Rattle.definition.specs.SketchQuote.{sketchQuoteOf};
+ghost use Rattle.definition.specs.Answers.{sketch_says};
+ghost use Rattle.definition.specs.SketchQuote.{sketch_quote_of};
 ghost use Rattle.checks.specs.Checks.{checked};
 ghost use Rattle.text_cells.specs.Cells.{CellsAsked};
 ghost use Rattle.text_cells.specs.FirstLine.{GoodSide};
-ghost use Rattle.sketch_quote.specs.Checks.{sketchCheck};
+ghost use Rattle.sketch_quote.specs.Checks.{sketch_check};
 ghost use Rattle.sketch_quote.specs.WaysOut.{FiguresAsked, FiguresPut};
 
 use checks::Check;
@@ -16,7 +16,7 @@ use text_cells::FirstLine;
 // The refusals behind a good first line, for a level k and so many places for caps: 7, 12, 13, 6, 8 (S 5.2).
 fn check_sketch(text: &[u8], from: usize, side: usize, r: usize, k: usize, caps: usize) -> Check
     requires { CellsAsked side 240 × (r ≤ 8) }
-    ensures { checked result ≡ sketchCheck text.now from side r k caps }
+    ensures { checked result ≡ sketch_check text.now from side r k caps }
 {
     let found = text_cells::find_cells(text, from, side, true, 240);
     if !found.all {
@@ -64,8 +64,8 @@ fn quote_cells(
     caps: &mut [u32],
 ) -> SketchAnswer
     requires { GoodSide text.now (min (length lows.old) (length highs.old)) side from }
-    ensures { record { said = sketchSays result; lows = lows.new; highs = highs.new; caps = caps.new }
-        ≡ sketchQuoteOf text.now level lows.old highs.old caps.old }
+    ensures { record { said = sketch_says result; lows = lows.new; highs = highs.new; caps = caps.new }
+        ≡ sketch_quote_of text.now level lows.old highs.old caps.old }
 {
     let n = side as usize;
     let cells = n * n;
@@ -88,8 +88,8 @@ pub fn sketch_quote(
     highs: &mut [u8],
     caps: &mut [u32],
 ) -> SketchAnswer
-    ensures { record { said = sketchSays result; lows = lows.new; highs = highs.new; caps = caps.new }
-        ≡ sketchQuoteOf text.now level lows.old highs.old caps.old }
+    ensures { record { said = sketch_says result; lows = lows.new; highs = highs.new; caps = caps.new }
+        ≡ sketch_quote_of text.now level lows.old highs.old caps.old }
 {
     let room = sizes::shorter(lows.len(), highs.len());
     match text_cells::first_line(text, room) {

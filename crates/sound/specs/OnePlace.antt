@@ -2,34 +2,34 @@
 -- `SummedAsked`).
 use Rattle.std.specs.Prelude.{◌≡◌, Bool, true, false, cond, not, ◌&&◌, ◌||◌, List, ℕ, suc, ◌+◌, ◌*◌, ◌-◌, ◌/◌, ◌%◌, ◌^◌, ◌≤◌, ◌<◌, leb, ltb, eqb, length, get_or, ℤ, pos, neg_ℤ}
 use Rattle.std.specs.Int.Signed.{le_z}
-use Rattle.definition.specs.Lists.{sum_to, allTo, eqZ}
-use Rattle.definition.specs.Pyramid.{oneDot, cellCount, needed, start, entry, four}
+use Rattle.definition.specs.Lists.{sum_to, all_to, eq_z}
+use Rattle.definition.specs.Pyramid.{one_dot, cell_count, needed, start, entry, four}
 use Rattle.definition.specs.Blocks.{burnt}
-use Rattle.definition.specs.Diffusion.{rowNear, columnNear}
-use Rattle.definition.specs.Quarters.{interleaved, quarterEntry, rows_from}
-use Rattle.pyramid.specs.PyramidPart.{fourAt, Within, FourAsked}
+use Rattle.definition.specs.Diffusion.{row_near, column_near}
+use Rattle.definition.specs.Quarters.{interleaved, quarter_entry, rows_from}
+use Rattle.pyramid.specs.PyramidPart.{four_at, Within, FourAsked}
 
 -- ════ either layout
 
 -- a pyramid of power r that lies row after row, or by quarters, row after row
-unfoldable pub inRows : Bool → ℕ → List ℤ → List ℤ
-inRows true r pyramid = pyramid
-inRows false r pyramid = rows_from r pyramid
+unfoldable pub in_rows : Bool → ℕ → List ℤ → List ℤ
+in_rows true r pyramid = pyramid
+in_rows false r pyramid = rows_from r pyramid
 
 -- its entry (a, b) of level k
-unfoldable pub entryIn : Bool → List ℤ → ℕ → ℕ → ℕ → ℤ
-entryIn true pyramid k a b = entry pyramid k a b
-entryIn false pyramid k a b = quarterEntry pyramid k a b
+unfoldable pub entry_in : Bool → List ℤ → ℕ → ℕ → ℕ → ℤ
+entry_in true pyramid k a b = entry pyramid k a b
+entry_in false pyramid k a b = quarter_entry pyramid k a b
 
 -- the place of a cell within the level of the cells is the sum of two parts: that of row a of a map of side `side`,
 -- and that of column b
-unfoldable pub rowPlace : Bool → ℕ → ℕ → ℕ
-rowPlace true side a = a * side
-rowPlace false side a = interleaved 8 a 0
+unfoldable pub row_place : Bool → ℕ → ℕ → ℕ
+row_place true side a = a * side
+row_place false side a = interleaved 8 a 0
 
-unfoldable pub columnPlace : Bool → ℕ → ℕ
-columnPlace true b = b
-columnPlace false b = interleaved 8 0 b
+unfoldable pub column_place : Bool → ℕ → ℕ
+column_place true b = b
+column_place false b = interleaved 8 0 b
 
 -- a row of a map of side `side`
 pub record LineAsked (side a : ℕ) : Type 0 where
@@ -39,7 +39,7 @@ pub record LineAsked (side a : ℕ) : Type 0 where
 -- a list of the parts of the first n columns
 pub record ColumnPlaces (rows : Bool) (n : ℕ) (columns : List ℕ) : Type 0 where
   pub long : length columns ≡ 256
-  pub is : (b : ℕ) → b < n → get_or columns b 0 ≡ columnPlace rows b
+  pub is : (b : ℕ) → b < n → get_or columns b 0 ≡ column_place rows b
 
 -- ════ serials and order
 
@@ -48,20 +48,20 @@ pub record SoundAsked (r pyramid serials order : ℕ) : Type 0 where
   pub some : 1 ≤ r
   pub most : r ≤ 8
   pub whole : pyramid ≡ needed r
-  pub cells : serials ≡ cellCount r
-  pub places : order ≡ cellCount r
+  pub cells : serials ≡ cell_count r
+  pub places : order ≡ cell_count r
 
 -- a part with a place for each cell
 pub record CellsAsked (r part : ℕ) : Type 0 where
   pub most : r ≤ 8
-  pub cells : part ≡ cellCount r
+  pub cells : part ≡ cell_count r
 
 -- serials and order, and dots of which each has its order place
 pub record NumberedAsked (r serials order dots : ℕ) : Type 0 where
   pub most : r ≤ 8
-  pub cells : serials ≡ cellCount r
-  pub places : order ≡ cellCount r
-  pub few : dots ≤ cellCount r
+  pub cells : serials ≡ cell_count r
+  pub places : order ≡ cell_count r
+  pub few : dots ≤ cell_count r
 
 -- order place i names a cell, and the serial there is the next after i
 abbrev pub next_at : ℕ → List ℕ → List ℕ → ℕ → Bool
@@ -72,8 +72,8 @@ pub record NextAsked (cells serials order i : ℕ) : Type 0 where
   pub place : i < order
 
 -- a place of the order list is used, or 0
-abbrev pub freeAt : ℕ → List ℕ → ℕ → Bool
-freeAt dots order i = ltb i dots || eqb (get_or order i 0) 0
+abbrev pub free_at : ℕ → List ℕ → ℕ → Bool
+free_at dots order i = ltb i dots || eqb (get_or order i 0) 0
 
 -- ════ cells
 
@@ -81,33 +81,33 @@ freeAt dots order i = ltb i dots || eqb (get_or order i 0) 0
 pub record GridAsked (r pyramid serials : ℕ) : Type 0 where
   pub most : r ≤ 8
   pub whole : pyramid ≡ needed r
-  pub cells : serials ≡ cellCount r
+  pub cells : serials ≡ cell_count r
 
 -- a residual is at most one dot, and at most 0 if the cell is burnt
-abbrev pub boundedCell : ℤ → ℕ → Bool
-boundedCell residual serial = le_z residual (pos oneDot) && (eqb (burnt serial) 0 || le_z residual (pos 0))
+abbrev pub bounded_cell : ℤ → ℕ → Bool
+bounded_cell residual serial = le_z residual (pos one_dot) && (eqb (burnt serial) 0 || le_z residual (pos 0))
 
 -- so for cell i, whose residual is at place `at`
-abbrev pub boundedAt : List ℤ → List ℕ → ℕ → ℕ → Bool
-boundedAt pyramid serials at i = boundedCell (get_or pyramid at (pos 0)) (get_or serials i 0)
+abbrev pub bounded_at : List ℤ → List ℕ → ℕ → ℕ → Bool
+bounded_at pyramid serials at i = bounded_cell (get_or pyramid at (pos 0)) (get_or serials i 0)
 
 pub record CellAsked (at pyramid serials i : ℕ) : Type 0 where
   pub residual : at < pyramid
   pub serial : i < serials
 
 -- a row or column counted from one before the map lies on a map of side `side`
-abbrev pub onSide : ℕ → ℕ → Bool
-onSide side x = leb 1 x && leb x side
+abbrev pub on_side : ℕ → ℕ → Bool
+on_side side x = leb 1 x && leb x side
 
 -- place p of the nine around a cell is another cell, on the map; and 1 if it is burnt too
-abbrev pub isNeighbour : ℕ → ℕ → ℕ → ℕ → Bool
-isNeighbour side row column p = not (eqb p 4) && (onSide side (rowNear row p) && onSide side (columnNear column p))
+abbrev pub is_neighbour : ℕ → ℕ → ℕ → ℕ → Bool
+is_neighbour side row column p = not (eqb p 4) && (on_side side (row_near row p) && on_side side (column_near column p))
 
-abbrev pub burntThere : ℕ → List ℕ → ℕ → ℕ → ℕ → ℕ
-burntThere side serials row column p = burnt (get_or serials ((rowNear row p - 1) * side + (columnNear column p - 1)) 0)
+abbrev pub burnt_there : ℕ → List ℕ → ℕ → ℕ → ℕ → ℕ
+burnt_there side serials row column p = burnt (get_or serials ((row_near row p - 1) * side + (column_near column p - 1)) 0)
 
-abbrev pub nearAt : ℕ → List ℕ → ℕ → ℕ → ℕ → ℕ
-nearAt side serials row column p = cond (isNeighbour side row column p) (burntThere side serials row column p) 0
+abbrev pub near_at : ℕ → List ℕ → ℕ → ℕ → ℕ → ℕ
+near_at side serials row column p = cond (is_neighbour side row column p) (burnt_there side serials row column p) 0
 
 -- a cell of a map of side `side`
 pub record NearAsked (side serials row column : ℕ) : Type 0 where
@@ -124,12 +124,12 @@ pub record NearPlace (side serials x y : ℕ) : Type 0 where
   pub few : serials ≤ 65536
 
 -- a residual is at least −65,280 for each burnt neighbour
-abbrev pub owingCell : ℤ → ℕ → Bool
-owingCell residual near = le_z (neg_ℤ (pos (oneDot * near))) residual
+abbrev pub owing_cell : ℤ → ℕ → Bool
+owing_cell residual near = le_z (neg_ℤ (pos (one_dot * near))) residual
 
-abbrev pub owingAt : ℕ → List ℤ → List ℕ → ℕ → ℕ → ℕ → Bool
-owingAt side pyramid serials at row column =
-    owingCell (get_or pyramid at (pos 0)) (sum_to 9 (nearAt side serials row column))
+abbrev pub owing_at : ℕ → List ℤ → List ℕ → ℕ → ℕ → ℕ → Bool
+owing_at side pyramid serials at row column =
+    owing_cell (get_or pyramid at (pos 0)) (sum_to 9 (near_at side serials row column))
 
 pub record OwingAsked (side at pyramid serials row column : ℕ) : Type 0 where
   pub small : side ≤ 256
@@ -142,19 +142,19 @@ pub record OwingAsked (side at pyramid serials row column : ℕ) : Type 0 where
 -- place `first` on; and of each such cell of a row
 unfoldable pub held_at : ℕ → List ℤ → List ℕ → ℕ → ℕ → ℕ → Bool
 held_at side pyramid serials at row column =
-    boundedAt pyramid serials at (row * side + column) && owingAt side pyramid serials at row column
+    bounded_at pyramid serials at (row * side + column) && owing_at side pyramid serials at row column
 
-abbrev pub heldIn : ℕ → ℕ → List ℕ → List ℤ → List ℕ → ℕ → ℕ → Bool
-heldIn side first columns pyramid serials row column =
+abbrev pub held_in : ℕ → ℕ → List ℕ → List ℤ → List ℕ → ℕ → ℕ → Bool
+held_in side first columns pyramid serials row column =
     held_at side pyramid serials (first + get_or columns column 0) row column
 
-unfoldable pub rowHeld : ℕ → ℕ → List ℕ → List ℤ → List ℕ → ℕ → Bool
-rowHeld side first columns pyramid serials row = allTo side (heldIn side first columns pyramid serials row)
+unfoldable pub row_held : ℕ → ℕ → List ℕ → List ℤ → List ℕ → ℕ → Bool
+row_held side first columns pyramid serials row = all_to side (held_in side first columns pyramid serials row)
 
 -- the same of a row of a map whose cells begin at place `off`
-abbrev pub heldRow : Bool → ℕ → ℕ → List ℕ → List ℤ → List ℕ → ℕ → Bool
-heldRow rows side off columns pyramid serials row =
-    rowHeld side (off + rowPlace rows side row) columns pyramid serials row
+abbrev pub held_row : Bool → ℕ → ℕ → List ℕ → List ℤ → List ℕ → ℕ → Bool
+held_row rows side off columns pyramid serials row =
+    row_held side (off + row_place rows side row) columns pyramid serials row
 
 pub record RowAsked (side first : ℕ) (columns : List ℕ) (pyramid serials row : ℕ) : Type 0 where
   pub small : side ≤ 256
@@ -166,28 +166,28 @@ pub record RowAsked (side first : ℕ) (columns : List ℕ) (pyramid serials row
 -- ════ sums
 
 -- the entry at place `at` is the sum of the four from place `top` on, in rows of `wide`
-abbrev pub sumHolds : List ℤ → ℕ → ℕ → ℕ → Bool
-sumHolds pyramid at top wide = eqZ (get_or pyramid at (pos 0)) (fourAt pyramid top wide)
+abbrev pub sum_holds : List ℤ → ℕ → ℕ → ℕ → Bool
+sum_holds pyramid at top wide = eq_z (get_or pyramid at (pos 0)) (four_at pyramid top wide)
 
 pub record SumAsked (pyramid : List ℤ) (at top wide : ℕ) : Type 0 where
   pub room : at < length pyramid
   pub below : FourAsked pyramid top wide
 
 -- row after row, where the four below place i of a level of side `side` begin, the next finer level beginning at `next`
-abbrev pub belowPlace : ℕ → ℕ → ℕ → ℕ
-belowPlace next side i = next + (2 * (i / side) * (2 * side) + 2 * (i % side))
+abbrev pub below_place : ℕ → ℕ → ℕ → ℕ
+below_place next side i = next + (2 * (i / side) * (2 * side) + 2 * (i % side))
 
 -- place i of a level of side `side` that begins at `off`: row after row, and in either layout
-abbrev pub rowSumAt : List ℤ → ℕ → ℕ → ℕ → ℕ → Bool
-rowSumAt pyramid off next side i = sumHolds pyramid (off + i) (belowPlace next side i) (2 * side)
+abbrev pub row_sum_at : List ℤ → ℕ → ℕ → ℕ → ℕ → Bool
+row_sum_at pyramid off next side i = sum_holds pyramid (off + i) (below_place next side i) (2 * side)
 
 unfoldable pub sum_at : Bool → List ℤ → ℕ → ℕ → ℕ → ℕ → Bool
-sum_at true pyramid off next side i = rowSumAt pyramid off next side i
-sum_at false pyramid off next side i = sumHolds pyramid (off + i) (next + 4 * i) 2
+sum_at true pyramid off next side i = row_sum_at pyramid off next side i
+sum_at false pyramid off next side i = sum_holds pyramid (off + i) (next + 4 * i) 2
 
 -- so for every entry of level k
-abbrev pub levelSummed : Bool → List ℤ → ℕ → ℕ → ℕ → Bool
-levelSummed rows pyramid k a b = eqZ (entryIn rows pyramid k a b) (four (entryIn rows pyramid (suc k)) a b)
+abbrev pub level_summed : Bool → List ℤ → ℕ → ℕ → ℕ → Bool
+level_summed rows pyramid k a b = eq_z (entry_in rows pyramid k a b) (four (entry_in rows pyramid (suc k)) a b)
 
 -- a level of side `side`, and the next finer one, far from overflow
 pub record SidesAsked (pyramid : List ℤ) (off next side : ℕ) : Type 0 where
@@ -208,4 +208,4 @@ pub record LevelAsked (pyramid : List ℤ) (k : ℕ) : Type 0 where
 pub record SummedAsked (rows : Bool) (pyramid : List ℤ) (r : ℕ) : Type 0 where
   pub most : r ≤ 8
   pub whole : length pyramid ≡ needed r
-  pub small : (x y : ℕ) → x < 2 ^ r → y < 2 ^ r → Within (2 ^ 20) (entryIn rows pyramid r x y)
+  pub small : (x y : ℕ) → x < 2 ^ r → y < 2 ^ r → Within (2 ^ 20) (entry_in rows pyramid r x y)

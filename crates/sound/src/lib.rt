@@ -3,24 +3,24 @@
 ghost use Rattle.std.specs.Prelude.{◌≡◌, ◌&&◌, ◌≤◌, ◌<◌, ◌+◌, ◌*◌, ◌-◌, length, get_or};
 ghost use Rattle.definition.specs.Lists.{sum_to};
 ghost use Rattle.definition.specs.Blocks.{burnt};
-ghost use Rattle.definition.specs.Sound.{fewDots, numbered, counted, unused, summed, bounded, owing, isSound};
-ghost use Rattle.definition.specs.Sound.{everyEntry};
+ghost use Rattle.definition.specs.Sound.{few_dots, numbered, counted, unused, summed, bounded, owing, is_sound};
+ghost use Rattle.definition.specs.Sound.{every_entry};
 ghost use Rattle.integers.specs.Totals.{Total};
 ghost use Rattle.places.specs.Table.{places};
-ghost use Rattle.sound.specs.OnePlace.{inRows, SoundAsked, CellsAsked, NumberedAsked, NextAsked, next_at, freeAt};
-ghost use Rattle.sound.specs.OnePlace.{LineAsked, rowPlace, columnPlace, ColumnPlaces, CellAsked, boundedAt};
+ghost use Rattle.sound.specs.OnePlace.{in_rows, SoundAsked, CellsAsked, NumberedAsked, NextAsked, next_at, free_at};
+ghost use Rattle.sound.specs.OnePlace.{LineAsked, row_place, column_place, ColumnPlaces, CellAsked, bounded_at};
 ghost use Rattle.sound.specs.OnePlace.{
-  onSide,
+  on_side,
   NearPlace,
   NearAsked,
-  nearAt,
-  owingCell,
+  near_at,
+  owing_cell,
   OwingAsked,
-  owingAt,
+  owing_at,
   held_at,
 };
-ghost use Rattle.sound.specs.OnePlace.{SumAsked, sumHolds, SidesAsked, rowSumAt, sum_at, LevelAsked, levelSummed};
-ghost use Rattle.sound.specs.OnePlace.{GridAsked, RowAsked, rowHeld, SummedAsked};
+ghost use Rattle.sound.specs.OnePlace.{SumAsked, sum_holds, SidesAsked, row_sum_at, sum_at, LevelAsked, level_summed};
+ghost use Rattle.sound.specs.OnePlace.{GridAsked, RowAsked, row_held, SummedAsked};
 
 // What one dot is worth.
 const DOT: i64 = 65280;
@@ -28,7 +28,7 @@ const DOT: i64 = 65280;
 // Whether there are at most as many dots as cells (S 4.1).
 fn few_dots(r: usize, dots: u32) -> bool
     requires { r ≤ 8 }
-    ensures { result ≡ fewDots r dots }
+    ensures { result ≡ few_dots r dots }
 {
     dots as usize <= sizes::cell_count(r)
 }
@@ -80,7 +80,7 @@ fn counted(r: usize, serials: &[u32], dots: u32) -> bool
 // Whether order place i is one of a dot, or 0.
 fn is_free(order: &[u32], dots: u32, i: usize) -> bool
     requires { i < length order.now }
-    ensures { result ≡ freeAt dots order.now i }
+    ensures { result ≡ free_at dots order.now i }
 {
     if i < dots as usize {
         return true;
@@ -109,7 +109,7 @@ fn unused(r: usize, order: &[u32], dots: u32) -> bool
 fn row_place(rows: bool, table: &[u16; 1024], side: usize, a: usize) -> usize
     requires line_asked { LineAsked side a }
     requires table_value { table.now ≡ places }
-    ensures { result ≡ rowPlace rows side a }
+    ensures { result ≡ row_place rows side a }
 {
     if rows {
         return a * side;
@@ -121,7 +121,7 @@ fn row_place(rows: bool, table: &[u16; 1024], side: usize, a: usize) -> usize
 fn column_place(rows: bool, table: &[u16; 1024], b: usize) -> usize
     requires b_bound { b < 256 }
     requires table_value { table.now ≡ places }
-    ensures { result ≡ columnPlace rows b }
+    ensures { result ≡ column_place rows b }
 {
     if rows {
         return b;
@@ -148,7 +148,7 @@ fn column_places(rows: bool, table: &[u16; 1024], side: usize) -> [usize; 256]
 // (S 4.6).
 fn cell_bounded(at: usize, pyramid: &[i64], serials: &[u32], i: usize) -> bool
     requires { CellAsked at (length pyramid.now) (length serials.now) i }
-    ensures { result ≡ boundedAt pyramid.now serials.now at i }
+    ensures { result ≡ bounded_at pyramid.now serials.now at i }
 {
     let residual = pyramid[at];
     if serials[i] == 0 {
@@ -159,7 +159,7 @@ fn cell_bounded(at: usize, pyramid: &[i64], serials: &[u32], i: usize) -> bool
 
 // Whether a row or column, counted from one before the map, lies on the map.
 fn on_side(side: usize, x: usize) -> bool
-    ensures { result ≡ onSide side x }
+    ensures { result ≡ on_side side x }
 {
     if x == 0 {
         return false;
@@ -179,7 +179,7 @@ fn mark_at(side: usize, serials: &[u32], x: usize, y: usize) -> u32
 fn near_mark(side: usize, serials: &[u32], row: usize, column: usize, p: usize) -> u32
     requires near_asked { NearAsked side (length serials.now) row column }
     requires p_bound { p < 9 }
-    ensures { Total (nearAt side serials.now row column p) 1 result }
+    ensures { Total (near_at side serials.now row column p) 1 result }
 {
     if p == 4 {
         return 0;
@@ -198,7 +198,7 @@ fn near_mark(side: usize, serials: &[u32], row: usize, column: usize, p: usize) 
 // The number of a cell's burnt neighbours.
 fn burnt_near(side: usize, serials: &[u32], row: usize, column: usize) -> u32
     requires { NearAsked side (length serials.now) row column }
-    ensures { Total (sum_to 9 (nearAt side serials.now row column)) 9 result }
+    ensures { Total (sum_to 9 (near_at side serials.now row column)) 9 result }
 {
     let mut sum = 0;
     let mut p = 0;
@@ -212,7 +212,7 @@ fn burnt_near(side: usize, serials: &[u32], row: usize, column: usize) -> u32
 // Whether a residual is at least -65,280 for each of `near` burnt neighbours (S 4.7).
 fn is_owing(residual: i64, near: u32) -> bool
     requires { near ≤ 9 }
-    ensures { result ≡ owingCell residual near }
+    ensures { result ≡ owing_cell residual near }
 {
     0 - DOT * (near as i64) <= residual
 }
@@ -228,7 +228,7 @@ fn cell_owing(
     column: usize,
 ) -> bool
     requires { OwingAsked side at (length pyramid.now) (length serials.now) row column }
-    ensures { result ≡ owingAt side pyramid.now serials.now at row column }
+    ensures { result ≡ owing_at side pyramid.now serials.now at row column }
 {
     let residual = pyramid[at];
     if 0 <= residual {
@@ -266,7 +266,7 @@ fn row_held(
     row: usize,
 ) -> bool
     requires { RowAsked side first columns.now (length pyramid.now) (length serials.now) row }
-    ensures { result ≡ rowHeld side first columns.now pyramid.now serials.now row }
+    ensures { result ≡ row_held side first columns.now pyramid.now serials.now row }
 {
     let mut column = 0;
     while column < side {
@@ -284,8 +284,8 @@ fn cells_held(r: usize, rows: bool, table: &[u16; 1024], pyramid: &[i64], serial
     requires grid_asked { GridAsked r (length pyramid.now) (length serials.now) }
     requires table_value { table.now ≡ places }
     ensures { result
-        ≡ (bounded r (inRows rows r pyramid.now) serials.now
-        && owing r (inRows rows r pyramid.now) serials.now) }
+        ≡ (bounded r (in_rows rows r pyramid.now) serials.now
+        && owing r (in_rows rows r pyramid.now) serials.now) }
 {
     let side = sizes::pow2(r);
     let off = sizes::level_start(r);
@@ -304,7 +304,7 @@ fn cells_held(r: usize, rows: bool, table: &[u16; 1024], pyramid: &[i64], serial
 // Whether the entry at place `at` is the sum of the four from place `top` on, in rows of `wide` entries.
 fn is_sum(pyramid: &[i64], at: usize, top: usize, wide: usize) -> bool
     requires { SumAsked pyramid.now at top wide }
-    ensures { result ≡ sumHolds pyramid.now at top wide }
+    ensures { result ≡ sum_holds pyramid.now at top wide }
 {
     let sum = pyramid::sum_of_four(pyramid, top, wide);
     pyramid[at] == sum
@@ -315,7 +315,7 @@ fn is_sum(pyramid: &[i64], at: usize, top: usize, wide: usize) -> bool
 fn row_summed(pyramid: &[i64], off: usize, next: usize, side: usize, i: usize) -> bool
     requires sides_asked { SidesAsked pyramid.now off next side }
     requires i_bound { i < side * side }
-    ensures { result ≡ rowSumAt pyramid.now off next side i }
+    ensures { result ≡ row_sum_at pyramid.now off next side i }
 {
     let wide = 2 * side;
     let a = i / side;
@@ -338,7 +338,7 @@ fn place_summed(rows: bool, pyramid: &[i64], off: usize, next: usize, side: usiz
 // Whether it holds of every entry of level k.
 fn level_summed(k: usize, rows: bool, pyramid: &[i64]) -> bool
     requires { LevelAsked pyramid.now k }
-    ensures { result ≡ everyEntry k (levelSummed rows pyramid.now k) }
+    ensures { result ≡ every_entry k (level_summed rows pyramid.now k) }
 {
     let side = sizes::pow2(k);
     let off = sizes::level_start(k);
@@ -358,7 +358,7 @@ fn level_summed(k: usize, rows: bool, pyramid: &[i64]) -> bool
 // entries of a level that holds are sums of small entries.
 fn summed(r: usize, rows: bool, pyramid: &[i64]) -> bool
     requires { SummedAsked rows pyramid.now r }
-    ensures { result ≡ summed r (inRows rows r pyramid.now) }
+    ensures { result ≡ summed r (in_rows rows r pyramid.now) }
 {
     let mut k = r;
     while 0 < k {
@@ -384,9 +384,9 @@ pub fn is_sound(
     requires sound_asked { SoundAsked r (length pyramid.now) (length serials.now) (length order.now) }
     requires table_value { table.now ≡ places }
     ensures { result
-        ≡ isSound r
+        ≡ is_sound r
         (record {
-          pyramid = inRows rows r pyramid.entry.now;
+          pyramid = in_rows rows r pyramid.entry.now;
           serials = serials.now;
           order = order.now;
           dots = dots;

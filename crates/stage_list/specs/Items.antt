@@ -1,5 +1,5 @@
--- The list of calls that slices of numbers give (`item_at`, `actionsIn`), and what the caller holds between two of them
--- (`callerOf`).
+-- The list of calls that slices of numbers give (`item_at`, `actions_in`), and what the caller holds between two of them
+-- (`caller_of`).
 use Rattle.std.specs.Prelude.{List, ℕ, zero, suc, length, get_or, ℤ}
 use Rattle.definition.specs.Lists.{tabulate}
 use Rattle.definition.specs.AdvanceList.{Call}
@@ -23,41 +23,41 @@ abbrev pub call_in : Item → Call
 call_in item =
     record {
       budget = item.number;
-      pyramidLent = item.pyramid;
-      serialsLent = item.serials;
-      orderLent = item.order;
+      pyramid_lent = item.pyramid;
+      serials_lent = item.serials;
+      order_lent = item.order;
     }
 
-abbrev pub returnIn : Item → Return
-returnIn item =
+abbrev pub return_in : Item → Return
+return_in item =
     record {
       name = item.number;
-      greysLent = item.greys;
-      pyramidLent = item.pyramid;
-      serialsLent = item.serials;
-      orderLent = item.order;
+      greys_lent = item.greys;
+      pyramid_lent = item.pyramid;
+      serials_lent = item.serials;
+      order_lent = item.order;
     }
 
 -- kind 0 is an Advance, kind 1 a Keep, and any other a Restore
-unfoldable pub actionOf : ℕ → Item → Action
-actionOf zero item = advancing (call_in item)
-actionOf (suc zero) item = keeping item.number
-actionOf (suc (suc n)) item = returning (returnIn item)
+unfoldable pub action_of : ℕ → Item → Action
+action_of zero item = advancing (call_in item)
+action_of (suc zero) item = keeping item.number
+action_of (suc (suc n)) item = returning (return_in item)
 
-abbrev pub actionIn : Item → Action
-actionIn item = actionOf item.kind item
+abbrev pub action_in : Item → Action
+action_in item = action_of item.kind item
 
-abbrev pub actionAt : List ℕ → List ℕ → List ℕ → List ℕ → List ℕ → List ℕ → ℕ → Action
-actionAt kinds numbers maps pyramids sheets orders i = actionIn (item_at kinds numbers maps pyramids sheets orders i)
+abbrev pub action_at : List ℕ → List ℕ → List ℕ → List ℕ → List ℕ → List ℕ → ℕ → Action
+action_at kinds numbers maps pyramids sheets orders i = action_in (item_at kinds numbers maps pyramids sheets orders i)
 
 -- a call for each number
-abbrev pub actionsIn : List ℕ → List ℕ → List ℕ → List ℕ → List ℕ → List ℕ → List Action
-actionsIn kinds numbers maps pyramids sheets orders =
-    tabulate (length numbers) (actionAt kinds numbers maps pyramids sheets orders)
+abbrev pub actions_in : List ℕ → List ℕ → List ℕ → List ℕ → List ℕ → List ℕ → List Action
+actions_in kinds numbers maps pyramids sheets orders =
+    tabulate (length numbers) (action_at kinds numbers maps pyramids sheets orders)
 
 -- what the caller holds with these buffers
-abbrev pub callerOf : Latest → List ℤ → List ℕ → List ℕ → Caller
-callerOf latest p s o =
+abbrev pub caller_of : Latest → List ℤ → List ℕ → List ℕ → Caller
+caller_of latest p s o =
     record {
       held = record { progress = latest.progress; pyramid = p; serials = s; order = o };
       checkpoints = latest.checkpoints;

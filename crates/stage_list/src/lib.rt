@@ -2,9 +2,9 @@
 // on it, each lent parts of the greys and the buffers. What is promised of such a list is promised of what this code
 // leaves.
 ghost use Rattle.std.specs.Prelude.{◌≡◌, ◌<◌, length, replicate};
-ghost use Rattle.definition.specs.Answers.{checkpointSays};
-ghost use Rattle.definition.specs.Stages.{returnOf, act, callerAfterAll};
-ghost use Rattle.stage_list.specs.Items.{item_at, returnIn, actionIn, actionsIn, callerOf};
+ghost use Rattle.definition.specs.Answers.{checkpoint_says};
+ghost use Rattle.definition.specs.Stages.{return_of, act, caller_after_all};
+ghost use Rattle.stage_list.specs.Items.{item_at, return_in, action_in, actions_in, caller_of};
 ghost use Rattle.stage_list.specs.PromiseOfCode.{Promised};
 
 use definition::{CheckpointAnswer, Checkpoints, Progress};
@@ -73,13 +73,13 @@ fn restore_lent(
     ensures { record {
       progress = result.progress;
       checkpoints = result.checkpoints;
-      said = checkpointSays result.status;
+      said = checkpoint_says result.status;
       pyramid = pyramid.new;
       serials = serials.new;
       order = order.new;
     }
-        ≡ returnOf greys.now
-        (callerOf latest pyramid.old serials.old order.old) (returnIn item) }
+        ≡ return_of greys.now
+        (caller_of latest pyramid.old serials.old order.old) (return_in item) }
 {
     let progress = latest.progress;
     let kept = latest.checkpoints;
@@ -119,9 +119,9 @@ fn one_action(
     serials: &mut [u32],
     order: &mut [u32],
 ) -> Latest
-    ensures { callerOf result pyramid.new serials.new order.new
+    ensures { caller_of result pyramid.new serials.new order.new
         ≡ act greys.now
-        (callerOf latest pyramid.old serials.old order.old) (actionIn item) }
+        (caller_of latest pyramid.old serials.old order.old) (action_in item) }
 {
     if item.kind > 1 {
         return answered(restore_lent(item, latest, greys, pyramid, serials, order));
@@ -161,10 +161,10 @@ fn make_actions(
     sheets: &[usize],
     orders: &[usize],
 ) -> Latest
-    ensures { callerOf result pyramid.new serials.new order.new
-        ≡ callerAfterAll greys.now
-        (callerOf first pyramid.old serials.old order.old)
-        (actionsIn kinds.now numbers.now maps.now
+    ensures { caller_of result pyramid.new serials.new order.new
+        ≡ caller_after_all greys.now
+        (caller_of first pyramid.old serials.old order.old)
+        (actions_in kinds.now numbers.now maps.now
         pyramids.now sheets.now orders.now) }
 {
     let mut latest = first;
@@ -195,9 +195,9 @@ pub fn run_stages(
 ) -> Latest
     ensures { Promised side knit
         greys.now pyramid.old serials.old order.old
-        (actionsIn kinds.now numbers.now maps.now
+        (actions_in kinds.now numbers.now maps.now
         pyramids.now sheets.now orders.now)
-        (callerOf result pyramid.new serials.new order.new) }
+        (caller_of result pyramid.new serials.new order.new) }
 {
     let loaded = load::load(side, knit, greys, pyramid, serials, order);
     let progress = loaded.progress;

@@ -1,28 +1,28 @@
--- An instance of `names-hold`, so that it is seen to speak of something (`holds-here`): P3 on ribbed cloth, kept with
+-- An instance of `names_hold`, so that it is seen to speak of something (`holds_here`): P3 on ribbed cloth, kept with
 -- no dot under name 1 and with one dot under name 8, run to its end, and returned to. The buffers are one place longer
 -- than needed.
 use Rattle.std.specs.Prelude.{◌≡◌, refl, List, [], ◌∷◌, ℕ, replicate, ℤ, pos}
 use Rattle.std.proofs.Common.{arith}
-use Rattle.definition.specs.Lists.{sum_to, allTo, tabulateFrom, joined, eqZ}
+use Rattle.definition.specs.Lists.{sum_to, all_to, tabulate_from, joined, eq_z}
 use Rattle.definition.specs.Answers.{Said, returned, finished, more, refused}
 use Rattle.definition.specs.Pyramid.{
   start,
   place_in,
   row_at,
-  columnAt,
-  levelOf,
-  inLevel,
+  column_at,
+  level_of,
+  in_level,
   entry,
   four,
   coarser,
-  pyramidOver,
+  pyramid_over,
 }
-use Rattle.definition.specs.Blocks.{blockSum, greyAt, burnt, burntAt, greySum, greyTotal}
+use Rattle.definition.specs.Blocks.{block_sum, grey_at, burnt, burnt_at, grey_sum, grey_total}
 use Rattle.definition.specs.Descent.{
   candidate,
-  firstOfEquals,
-  lastOfEquals,
-  ofEquals,
+  first_of_equals,
+  last_of_equals,
+  of_equals,
   choice_of,
   better,
   largest,
@@ -30,48 +30,48 @@ use Rattle.definition.specs.Descent.{
 }
 use Rattle.definition.specs.Diffusion.{
   ribbed,
-  weightsOf,
-  placesInTurn,
-  kernelOf,
+  weights_of,
+  places_in_turn,
+  kernel_of,
   within,
-  onMap,
-  weightAt,
+  on_map,
+  weight_at,
   share,
   diffuse,
 }
-use Rattle.definition.specs.Model.{top_of, modelStart, missing, placeDot, step, steps}
+use Rattle.definition.specs.Model.{top_of, model_start, missing, place_dot, step, steps}
 use Rattle.definition.specs.Sound.{
-  burntNear,
-  everyEntry,
-  fewDots,
+  burnt_near,
+  every_entry,
+  few_dots,
   numbered,
   counted,
   unused,
   summed,
   bounded,
   owing,
-  isSound,
+  is_sound,
 }
-use Rattle.definition.specs.Refusals.{powerUpTo, powerOf, lowest}
-use Rattle.definition.specs.Lowering.{noneHigh}
-use Rattle.definition.specs.Load.{lowMap, loadRefusal, loaded, load_of}
-use Rattle.definition.specs.Advance.{dotsDue, saidAt, sheetIn, advanceRefusal, advanced, advanceOf}
+use Rattle.definition.specs.Refusals.{power_up_to, power_of, lowest}
+use Rattle.definition.specs.Lowering.{none_high}
+use Rattle.definition.specs.Load.{low_map, load_refusal, loaded, load_of}
+use Rattle.definition.specs.Advance.{dots_due, said_at, sheet_in, advance_refusal, advanced, advance_of}
 use Rattle.definition.specs.Quarters.{
   interleaved,
   row_of,
-  columnOf,
-  quarterEntry,
-  quarterLevel,
+  column_of,
+  quarter_entry,
+  quarter_level,
   rows_from,
-  quartersFrom,
+  quarters_from,
   relaid,
-  asRows,
-  asQuarters,
+  as_rows,
+  as_quarters,
 }
-use Rattle.definition.specs.ByQuarters.{loadByQuarters, advanceByQuarters, restoreByQuarters}
-use Rattle.definition.specs.AdvanceList.{heldAfterLoad, call_of, heldAfter}
-use Rattle.definition.specs.Checkpoints.{isName, kept_at, keepRefusal, keepOf}
-use Rattle.definition.specs.Checkpoints.{canRestore, restoreRefusal, restored, restoreOf}
+use Rattle.definition.specs.ByQuarters.{load_by_quarters, advance_by_quarters, restore_by_quarters}
+use Rattle.definition.specs.AdvanceList.{held_after_load, call_of, held_after}
+use Rattle.definition.specs.Checkpoints.{is_name, kept_at, keep_refusal, keep_of}
+use Rattle.definition.specs.Checkpoints.{can_restore, restore_refusal, restored, restore_of}
 use Rattle.definition.specs.Stages.{
   Action,
   advancing,
@@ -81,17 +81,17 @@ use Rattle.definition.specs.Stages.{
   replied,
   noted,
   back,
-  callerAtFirst,
-  returnOf,
-  callerAfter,
+  caller_at_first,
+  return_of,
+  caller_after,
   act,
   answer_of,
-  callerAfterAll,
-  answersOf,
+  caller_after_all,
+  answers_of,
 }
 use Rattle.guarantee.specs.PriceList.{Accepted}
 use Rattle.stages.specs.Promise.{NamesHold}
-use Rattle.stages.specs.Theorem.{names-hold}
+use Rattle.stages.specs.Theorem.{names_hold}
 
 abbrev greys : List ℕ
 greys = 128 ∷ 128 ∷ 128 ∷ 128 ∷ []
@@ -103,12 +103,12 @@ abbrev sheet : List ℕ
 sheet = replicate 5 9
 
 abbrev advance : ℕ → Action
-advance budget = advancing (record { budget = budget; pyramidLent = 6; serialsLent = 4; orderLent = 5 })
+advance budget = advancing (record { budget = budget; pyramid_lent = 6; serials_lent = 4; order_lent = 5 })
 
 -- a return to a name, lent so many places of the greys and of the pyramid
 abbrev return : ℕ → ℕ → ℕ → Action
 return name g p =
-    returning (record { name = name; greysLent = g; pyramidLent = p; serialsLent = 4; orderLent = 9 })
+    returning (record { name = name; greys_lent = g; pyramid_lent = p; serials_lent = 4; order_lent = 9 })
 
 -- kept, one dot, kept, no such name, run to the end; then returns: to an empty name, with a pyramid one place short,
 -- with too few greys, to name 8, and from there back to name 1
@@ -118,13 +118,13 @@ actions =
     ∷ return 3 4 5 ∷ return 8 4 4 ∷ return 8 3 5 ∷ return 8 9 5 ∷ return 1 4 6 ∷ []
 
 accepted : Accepted 2 ribbed greys pyramid sheet sheet
-unfolding loadByQuarters asRows relaid rows_from joined levelOf tabulateFrom load_of loadRefusal lowMap noneHigh loaded
-    lowest powerOf powerUpTo start
+unfolding load_by_quarters as_rows relaid rows_from joined level_of tabulate_from load_of load_refusal low_map none_high loaded
+    lowest power_of power_up_to start
 accepted =
     record { bytes = (omega arith, (omega arith, (omega arith, (omega arith, tt)))); said = refl }
 
-pub holds-here : NamesHold 2 ribbed greys pyramid sheet sheet actions
-holds-here = names-hold 2 ribbed greys pyramid sheet sheet accepted actions
+pub holds_here : NamesHold 2 ribbed greys pyramid sheet sheet actions
+holds_here = names_hold 2 ribbed greys pyramid sheet sheet accepted actions
 
 -- what they answer, by computing
 abbrev made : ℕ → ℕ → Said → Answer
@@ -134,18 +134,18 @@ made dots n said = replied
 abbrev returns : ℕ → Said → Answer
 returns dots said = back (record { side = 2; dots = dots; knit = ribbed }) said
 
-pub answers-here : answersOf greys (callerAtFirst 2 ribbed greys pyramid sheet sheet) actions
+pub answers_here : answers_of greys (caller_at_first 2 ribbed greys pyramid sheet sheet) actions
     ≡ noted (returned []) ∷ made 1 1 more ∷ noted (returned []) ∷ noted (refused 10) ∷ made 2 1 finished
     ∷ returns 2 (refused 10) ∷ returns 2 (refused 3) ∷ returns 2 (refused 2) ∷ returns 1 (returned [])
     ∷ returns 0 (returned []) ∷ []
-unfolding sum_to allTo tabulateFrom eqZ start place_in row_at columnAt levelOf inLevel entry four coarser
-    pyramidOver blockSum greyAt burnt burntAt greySum greyTotal candidate firstOfEquals lastOfEquals ofEquals
-    choice_of better largest descend weightsOf placesInTurn kernelOf within onMap weightAt share diffuse top_of
-    modelStart missing placeDot step steps burntNear everyEntry fewDots numbered counted unused summed
-    bounded owing isSound powerUpTo powerOf lowest loadRefusal lowMap noneHigh loaded load_of dotsDue saidAt sheetIn
-    advanceRefusal
-    advanced advanceOf heldAfterLoad call_of heldAfter isName kept_at keepRefusal keepOf canRestore
-    restoreRefusal restored restoreOf callerAtFirst returnOf callerAfter act answer_of callerAfterAll answersOf
-    interleaved row_of columnOf quarterEntry quarterLevel rows_from quartersFrom relaid asRows asQuarters joined
-    loadByQuarters advanceByQuarters restoreByQuarters
-answers-here = refl
+unfolding sum_to all_to tabulate_from eq_z start place_in row_at column_at level_of in_level entry four coarser
+    pyramid_over block_sum grey_at burnt burnt_at grey_sum grey_total candidate first_of_equals last_of_equals of_equals
+    choice_of better largest descend weights_of places_in_turn kernel_of within on_map weight_at share diffuse top_of
+    model_start missing place_dot step steps burnt_near every_entry few_dots numbered counted unused summed
+    bounded owing is_sound power_up_to power_of lowest load_refusal low_map none_high loaded load_of dots_due said_at sheet_in
+    advance_refusal
+    advanced advance_of held_after_load call_of held_after is_name kept_at keep_refusal keep_of can_restore
+    restore_refusal restored restore_of caller_at_first return_of caller_after act answer_of caller_after_all answers_of
+    interleaved row_of column_of quarter_entry quarter_level rows_from quarters_from relaid as_rows as_quarters joined
+    load_by_quarters advance_by_quarters restore_by_quarters
+answers_here = refl

@@ -1,50 +1,50 @@
--- The walk over the blocks: a cell alone (`cell-walked`), and a block from its four quarters (`block_walked`).
+-- The walk over the blocks: a cell alone (`cell_walked`), and a block from its four quarters (`block_walked`).
 use Rattle.std.specs.Prelude.{◌≡◌, refl, Bool, true, false, cond, List, ℕ, suc, ◌+◌, ◌*◌, ◌-◌, ◌^◌, ◌≤◌, ◌<◌, eqb, length, get_or, set, ℤ, ◌+ℤ◌, nat_abs}
 use Rattle.std.proofs.Common.{sym, ap, ◌∙◌, arith, add-one, mul-le-mul, mul-le-mul_right, eq-eqb, ne_eqb, length-set, get_or-set_same, get_or-set_other, pow_mono}
 use Rattle.std.proofs.Math.Nat.{pow-succ'}
 use Rattle.std.proofs.Math.Decide.{ℕ_discrete}
-use Rattle.definition.specs.Blocks.{blockSumZ, greyAt, burntAt}
-use Rattle.definition.specs.Survey.{errorAt, squared}
-use Rattle.integers.specs.Totals.{TotalZ, addZ, read}
-use Rattle.quadtree.specs.Levels.{quadruple, cells-few, cell-lt}
-use Rattle.quadtree.specs.Quarters.{blockZ-quarters, blockZ-cell}
+use Rattle.definition.specs.Blocks.{block_sum_z, grey_at, burnt_at}
+use Rattle.definition.specs.Survey.{error_at, squared}
+use Rattle.integers.specs.Totals.{TotalZ, add_z, read}
+use Rattle.quadtree.specs.Levels.{quadruple, cells_few, cell_lt}
+use Rattle.quadtree.specs.Quarters.{block_z_quarters, block_z_cell}
 use Rattle.blocks.specs.Blocks.{BlockAsked}
-use Rattle.survey.specs.Errors.{cellError, word}
-use Rattle.survey.specs.BlockErrors.{cells, share, quarterMost, added}
+use Rattle.survey.specs.Errors.{cell_error, word}
+use Rattle.survey.specs.BlockErrors.{cells, share, quarter_most, added}
 use Rattle.survey.specs.BlockErrors.{Room, WalkAsked, AddAsked, JoinAsked, Joined, Walked}
-use Rattle.survey.specs.Within.{within, squareOf, withinQuarters, within-coarser, within-quarters, within-cell}
+use Rattle.survey.specs.Within.{within, square_of, within_quarters, within_coarser, within_quarters_lem, within_cell}
 
-length-added : (l : List ℕ) (k v : ℕ) → length (added l k v) ≡ length l
+length_added : (l : List ℕ) (k v : ℕ) → length (added l k v) ≡ length l
 unfolding added
-length-added l k v = length-set l k (get_or l k 0 + v)
+length_added l k v = length-set l k (get_or l k 0 + v)
 
-added-at : (l : List ℕ) (k v : ℕ) → k < length l → (i : ℕ) → get_or (added l k v) i 0 ≡ get_or l i 0 + cond (eqb i k) v 0
+added_at : (l : List ℕ) (k v : ℕ) → k < length l → (i : ℕ) → get_or (added l k v) i 0 ≡ get_or l i 0 + cond (eqb i k) v 0
 unfolding added
-added-at l k v h i = go (ℕ_discrete i k)
+added_at l k v h i = go (ℕ_discrete i k)
   where
     go : Dec (i ≡ k) → get_or (set l k (get_or l k 0 + v)) i 0 ≡ get_or l i 0 + cond (eqb i k) v 0
     go (yes e) = rw (e, eq-eqb k k refl) (get_or-set_same l k (get_or l k 0 + v) 0 h)
     go (no e) = rw (ne_eqb i k e) (get_or-set_other l k i (get_or l k 0 + v) 0 e ∙ omega arith)
 
 -- the square of a small number is small
-squared-most : (e : ℤ) (m : ℕ) → nat_abs e ≤ m → squared e ≤ m * m
+squared_most : (e : ℤ) (m : ℕ) → nat_abs e ≤ m → squared e ≤ m * m
 unfolding squared
-squared-most e m h = mul-le-mul h h
+squared_most e m h = mul-le-mul h h
 
 -- what a square adds to the sum of its level, where its error is at most 255 for each of n cells
-own-most : (e : ℤ) (n : ℕ) → n ≤ 65536 → nat_abs e ≤ 255 * n → squared e ≤ share * n
-own-most e n few h = omega (arith, squared-most e (255 * n) h, mul-le-mul_right n few)
+own_most : (e : ℤ) (n : ℕ) → n ≤ 65536 → nat_abs e ≤ 255 * n → squared e ≤ share * n
+own_most e n few h = omega (arith, squared_most e (255 * n) h, mul-le-mul_right n few)
 
 -- a number in a place of the list, or none
-cond-most : (t : Bool) {v m : ℕ} → v ≤ m → cond t v 0 ≤ m
-cond-most true h = h
-cond-most false h = omega arith
+cond_most : (t : Bool) {v m : ℕ} → v ≤ m → cond t v 0 ≤ m
+cond_most true h = h
+cond_most false h = omega arith
 
 -- a walk whose error is returned, as a word
 pub returned : {lent r k a b : ℕ} {f : ℕ → ℕ → ℤ} {before after : List ℕ} {e : ℤ} → BlockAsked lent r k a b
     → Walked r f k a b before e after → Walked r f k a b before (word e) after
 returned {r = r} {k} h w =
-    let few = cells-few (r - k) (omega (arith, h.powers)) in
+    let few = cells_few (r - k) (omega (arith, h.powers)) in
     record { error = read w.error (omega arith); long = w.long; sums = w.sums; most = w.most }
 
 -- ════ a cell alone
@@ -54,41 +54,41 @@ pub record Place (lent at : ℕ) : Type 0 where
   pub inside : at < lent
   pub few : at < 65536
 
-pub cell-place : {lent r a b side : ℕ} → BlockAsked lent r r a b → side ≡ 2 ^ r → Place lent (a * side + b)
-cell-place {r = r} {a} {b} h e =
-    let lt = cell-lt (2 ^ r) a b h.above h.before in
-    rw e (record { inside = omega (arith, h.room); few = omega (arith, cells-few r h.powers) })
+pub cell_place : {lent r a b side : ℕ} → BlockAsked lent r r a b → side ≡ 2 ^ r → Place lent (a * side + b)
+cell_place {r = r} {a} {b} h e =
+    let lt = cell_lt (2 ^ r) a b h.above h.before in
+    rw e (record { inside = omega (arith, h.room); few = omega (arith, cells_few r h.powers) })
 
-cells-one : (r : ℕ) → cells r r ≡ 1
-cells-one r = let z : r - r ≡ 0 = omega arith in rw z
+cells_one : (r : ℕ) → cells r r ≡ 1
+cells_one r = let z : r - r ≡ 0 = omega arith in rw z
 
-pub cell-add : {lent r a b : ℕ} {sums : List ℕ} (e : ℤ) → BlockAsked lent r r a b → Room r r sums → nat_abs e ≤ 255
+pub cell_add : {lent r a b : ℕ} {sums : List ℕ} (e : ℤ) → BlockAsked lent r r a b → Room r r sums → nat_abs e ≤ 255
     → AddAsked sums r e
-cell-add {r = r} e h room small =
+cell_add {r = r} e h room small =
     record {
       level = h.powers;
       small = omega arith;
-      fits = omega (arith, room.room r, own-most e 1 (omega arith) small, cells-one r);
+      fits = omega (arith, room.room r, own_most e 1 (omega arith) small, cells_one r);
     }
 
-pub cell-walked : {lent r a b side : ℕ} (greys serials : List ℕ) {before after : List ℕ} {e : ℤ}
+pub cell_walked : {lent r a b side : ℕ} (greys serials : List ℕ) {before after : List ℕ} {e : ℤ}
     → BlockAsked lent r r a b → Room r r before → side ≡ 2 ^ r
-    → TotalZ (cellError (get_or greys (a * side + b) 0) (get_or serials (a * side + b) 0)) 255 e
+    → TotalZ (cell_error (get_or greys (a * side + b) 0) (get_or serials (a * side + b) 0)) 255 e
     → after ≡ added before r (squared e)
-    → Walked r (errorAt r greys serials) r a b before e after
-unfolding errorAt greyAt burntAt
-cell-walked {r = r} {a} {b} greys serials {before} {e = e} h room es d s =
-    let f = errorAt r greys serials in
-    let is : e ≡ blockSumZ r f r a b = d.is ∙ rw es (sym (blockZ-cell r f a b)) in
-    let own : squared e ≡ squareOf r f r a b = ap squared is in
-    let at = added-at before r (squared e) (omega (arith, room.nine, h.powers)) in
+    → Walked r (error_at r greys serials) r a b before e after
+unfolding error_at grey_at burnt_at
+cell_walked {r = r} {a} {b} greys serials {before} {e = e} h room es d s =
+    let f = error_at r greys serials in
+    let is : e ≡ block_sum_z r f r a b = d.is ∙ rw es (sym (block_z_cell r f a b)) in
+    let own : squared e ≡ square_of r f r a b = ap squared is in
+    let at = added_at before r (squared e) (omega (arith, room.nine, h.powers)) in
     rw s
     (record {
-      error = record { is = is; small = omega (arith, d.small, cells-one r) };
-      long = length-added before r (squared e);
-      sums = λ i. at i ∙ rw (own, within-cell r f a b i);
+      error = record { is = is; small = omega (arith, d.small, cells_one r) };
+      long = length_added before r (squared e);
+      sums = λ i. at i ∙ rw (own, within_cell r f a b i);
       most = λ i.
-          omega (arith, at i, cond-most (eqb i r) (own-most e 1 (omega arith) d.small), cells-one r);
+          omega (arith, at i, cond_most (eqb i r) (own_most e 1 (omega arith) d.small), cells_one r);
     })
 
 -- ════ a block of level k, from its four quarters, which are blocks of the level below
@@ -109,26 +109,26 @@ deeper {r = r} {k} h room n =
     record { block = h; next = refl; level = omega (arith, h.level); room = room }
 
 module _ {lent r k below a b : ℕ} {l₀ : List ℕ} (h : WalkAsked lent r k below a b l₀) where
-  cells-four : cells r k ≡ 4 * cells r below
-  cells-four =
+  cells_four : cells r k ≡ 4 * cells r below
+  cells_four =
       let e : r - k ≡ suc (r - below) = omega (arith, h.next, h.level) in
       rw e (quadruple (r - below))
 
-  cells-quarter : cells r below ≤ 16384
-  cells-quarter =
+  cells_quarter : cells r below ≤ 16384
+  cells_quarter =
       let e : r - below ≤ 7 = omega (arith, h.next, h.level, h.block.powers) in
       let side : 2 ^ (r - below) ≤ 128 = pow_mono {i = r - below} {j = 7} e in
       mul-le-mul side side
 
   -- the place of the block is small
-  pub block-few : Few a b
-  block-few =
+  pub block_few : Few a b
+  block_few =
       let most : 2 ^ k ≤ 256 = pow_mono {i = k} {j = 8} (omega (arith, h.block.level, h.block.powers)) in
       record { row = omega (arith, h.block.above); column = omega (arith, h.block.before) }
 
   -- its quarters
-  pub quarter-asked : (x y : ℕ) → x < 2 * a + 2 → y < 2 * b + 2 → BlockAsked lent r below x y
-  quarter-asked x y u v =
+  pub quarter_asked : (x y : ℕ) → x < 2 * a + 2 → y < 2 * b + 2 → BlockAsked lent r below x y
+  quarter_asked x y u v =
       let two : 2 ^ below ≡ 2 * 2 ^ k = rw (h.next, add-one k) (pow-succ' 2 k) in
       record {
         power = h.block.power;
@@ -140,62 +140,62 @@ module _ {lent r k below a b : ℕ} {l₀ : List ℕ} (h : WalkAsked lent r k be
       }
 
   -- room for each of them, after those before it
-  pub room-first : Room r below l₀
-  room-first = record { nine = h.room.nine; room = λ i. omega (arith, h.room.room i, cells-four) }
+  pub room_first : Room r below l₀
+  room_first = record { nine = h.room.nine; room = λ i. omega (arith, h.room.room i, cells_four) }
 
   module _ {f : ℕ → ℕ → ℤ} {a₁ b₁ : ℕ} {p : ℤ} {l₁ : List ℕ} (hp : Walked r f below a₁ b₁ l₀ p l₁) where
-    pub room-second : Room r below l₁
-    room-second =
+    pub room_second : Room r below l₁
+    room_second =
         record {
           nine = hp.long ∙ h.room.nine;
-          room = λ i. omega (arith, h.room.room i, hp.most i, cells-four);
+          room = λ i. omega (arith, h.room.room i, hp.most i, cells_four);
         }
 
     module _ {a₂ b₂ : ℕ} {q : ℤ} {l₂ : List ℕ} (hq : Walked r f below a₂ b₂ l₁ q l₂) where
-      pub room-third : Room r below l₂
-      room-third =
+      pub room_third : Room r below l₂
+      room_third =
           record {
-            nine = hq.long ∙ room-second.nine;
-            room = λ i. omega (arith, h.room.room i, hp.most i, hq.most i, cells-four);
+            nine = hq.long ∙ room_second.nine;
+            room = λ i. omega (arith, h.room.room i, hp.most i, hq.most i, cells_four);
           }
 
       module _ {a₃ b₃ : ℕ} {s : ℤ} {l₃ : List ℕ} (hs : Walked r f below a₃ b₃ l₂ s l₃) where
-        pub room-fourth : Room r below l₃
-        room-fourth =
+        pub room_fourth : Room r below l₃
+        room_fourth =
             record {
-              nine = hs.long ∙ room-third.nine;
-              room = λ i. omega (arith, h.room.room i, hp.most i, hq.most i, hs.most i, cells-four);
+              nine = hs.long ∙ room_third.nine;
+              room = λ i. omega (arith, h.room.room i, hp.most i, hq.most i, hs.most i, cells_four);
             }
 
         module _ {a₄ b₄ : ℕ} {t : ℤ} {l₄ : List ℕ} (ht : Walked r f below a₄ b₄ l₃ t l₄) where
           -- the errors of the quarters, as words, and their sum
-          as-word : {v z : ℤ} → TotalZ v (255 * cells r below) z → TotalZ v (255 * cells r below) (word z)
-          as-word d = read d (omega (arith, cells-quarter))
+          as_word : {v z : ℤ} → TotalZ v (255 * cells r below) z → TotalZ v (255 * cells r below) (word z)
+          as_word d = read d (omega (arith, cells_quarter))
 
-          small : {v z : ℤ} → TotalZ v (255 * cells r below) z → nat_abs (word z) ≤ quarterMost
-          small d = omega (arith, (as-word d).small, cells-quarter)
+          small : {v z : ℤ} → TotalZ v (255 * cells r below) z → nat_abs (word z) ≤ quarter_most
+          small d = omega (arith, (as_word d).small, cells_quarter)
 
           abbrev four : ℤ
           four = word p +ℤ word q +ℤ word s +ℤ word t
 
-          abbrev sums-of : ℤ
-          sums-of =
-              blockSumZ r f below a₁ b₁ +ℤ blockSumZ r f below a₂ b₂
-              +ℤ blockSumZ r f below a₃ b₃ +ℤ blockSumZ r f below a₄ b₄
+          abbrev sums_of : ℤ
+          sums_of =
+              block_sum_z r f below a₁ b₁ +ℤ block_sum_z r f below a₂ b₂
+              +ℤ block_sum_z r f below a₃ b₃ +ℤ block_sum_z r f below a₄ b₄
 
-          four-error : TotalZ sums-of (255 * cells r k) four
-          four-error =
-              let two = addZ (as-word hp.error) (as-word hq.error) in
-              let all = addZ (addZ two (as-word hs.error)) (as-word ht.error) in
-              record { is = all.is; small = omega (arith, all.small, cells-four) }
+          four_error : TotalZ sums_of (255 * cells r k) four
+          four_error =
+              let two = add_z (as_word hp.error) (as_word hq.error) in
+              let all = add_z (add_z two (as_word hs.error)) (as_word ht.error) in
+              record { is = all.is; small = omega (arith, all.small, cells_four) }
 
           own : squared four ≤ share * cells r k
-          own = own-most four (cells r k) (omega (arith, cells-four, cells-quarter)) four-error.small
+          own = own_most four (cells r k) (omega (arith, cells_four, cells_quarter)) four_error.small
 
           -- the quarters add nothing to the sum of the block's own level
           kept : get_or l₄ k 0 ≡ get_or l₀ k 0
           kept =
-              let none = within-coarser r f below in
+              let none = within_coarser r f below in
               let lt : k < below = omega (arith, h.next) in
               omega (
                 arith,
@@ -209,34 +209,34 @@ module _ {lent r k below a b : ℕ} {l₀ : List ℕ} (h : WalkAsked lent r k be
                 none a₄ b₄ k lt,
               )
 
-          pub join-asked : JoinAsked l₄ k (word p) (word q) (word s) (word t)
-          join-asked =
+          pub join_asked : JoinAsked l₄ k (word p) (word q) (word s) (word t)
+          join_asked =
               record {
                 level = omega (arith, h.block.level, h.block.powers);
-                small-p = small hp.error;
-                small-q = small hq.error;
-                small-s = small hs.error;
-                small-t = small ht.error;
+                small_p = small hp.error;
+                small_q = small hq.error;
+                small_s = small hs.error;
+                small_t = small ht.error;
                 fits = omega (arith, kept, own, h.room.room k);
               }
 
           module _ {e : ℤ} {after : List ℕ} (j : Joined l₄ k (word p) (word q) (word s) (word t) e after) where
             long : length after ≡ length l₀
-            long = ap length j.sums ∙ length-added l₄ k (squared e) ∙ ht.long ∙ hs.long ∙ hq.long ∙ hp.long
+            long = ap length j.sums ∙ length_added l₄ k (squared e) ∙ ht.long ∙ hs.long ∙ hq.long ∙ hp.long
 
             at : (i : ℕ) → get_or after i 0 ≡ get_or l₄ i 0 + cond (eqb i k) (squared e) 0
             at i =
-                let nine = ht.long ∙ room-fourth.nine in
+                let nine = ht.long ∙ room_fourth.nine in
                 let lt : k < length l₄ = omega (arith, nine, h.block.level, h.block.powers) in
-                ap (λ (l : List ℕ). get_or l i 0) j.sums ∙ added-at l₄ k (squared e) lt i
+                ap (λ (l : List ℕ). get_or l i 0) j.sums ∙ added_at l₄ k (squared e) lt i
 
             most : (i : ℕ) → Dec (i ≡ k) → get_or after i 0 ≤ get_or l₀ i 0 + share * cells r k
             most i (yes z) =
                 let few : squared e ≤ share * cells r k = rw j.error own in
-                rw z (omega (arith, at k, cond-most (eqb k k) few, kept))
+                rw z (omega (arith, at k, cond_most (eqb k k) few, kept))
             most i (no z) =
                 let other : cond (eqb i k) (squared e) 0 ≡ 0 = rw (ne_eqb i k z) in
-                omega (arith, at i, other, hp.most i, hq.most i, hs.most i, ht.most i, cells-four)
+                omega (arith, at i, other, hp.most i, hq.most i, hs.most i, ht.most i, cells_four)
 
   -- the block, of which these are the quarters
   module _ {f : ℕ → ℕ → ℤ} {p q s t e : ℤ} {l₁ l₂ l₃ l₄ after : List ℕ}
@@ -245,21 +245,21 @@ module _ {lent r k below a b : ℕ} {l₀ : List ℕ} (h : WalkAsked lent r k be
       (hs : Walked r f below (2 * a + 1) (2 * b) l₂ s l₃)
       (ht : Walked r f below (2 * a + 1) (2 * b + 1) l₃ t l₄)
       (j : Joined l₄ k (word p) (word q) (word s) (word t) e after) where
-    error : TotalZ (blockSumZ r f k a b) (255 * cells r k) e
+    error : TotalZ (block_sum_z r f k a b) (255 * cells r k) e
     error =
-        let d = four-error hp hq hs ht in
-        let whole = blockZ-quarters r f k a b (omega (arith, h.next, h.level)) in
+        let d = four_error hp hq hs ht in
+        let whole = block_z_quarters r f k a b (omega (arith, h.next, h.level)) in
         rw j.error (record { is = d.is ∙ rw (h.next, add-one k) (sym whole); small = d.small })
 
-    quarters : (i : ℕ) → get_or l₄ i 0 ≡ get_or l₀ i 0 + withinQuarters r f k a b i
+    quarters : (i : ℕ) → get_or l₄ i 0 ≡ get_or l₀ i 0 + within_quarters r f k a b i
     quarters i = rw (← h.next) (omega (arith, hp.sums i, hq.sums i, hs.sums i, ht.sums i))
 
-    sums : (i : ℕ) → get_or l₄ i 0 + cond (eqb i k) (squareOf r f k a b) 0 ≡ get_or l₀ i 0 + within r f k a b i
-    sums i = omega (arith, quarters i, within-quarters r f k a b i h.block.level)
+    sums : (i : ℕ) → get_or l₄ i 0 + cond (eqb i k) (square_of r f k a b) 0 ≡ get_or l₀ i 0 + within r f k a b i
+    sums i = omega (arith, quarters i, within_quarters_lem r f k a b i h.block.level)
 
     pub block_walked : Walked r f k a b l₀ (word e) after
     block_walked =
-        let own_square : squared e ≡ squareOf r f k a b = ap squared error.is in
+        let own_square : squared e ≡ square_of r f k a b = ap squared error.is in
         returned h.block
         (record {
           error = error;

@@ -1,8 +1,8 @@
 // Tally, the dots of a block (`tally`); and Levels, for each level the summed squares of its blocks' errors (`levels`).
 ghost use Rattle.std.specs.Prelude.{◌≡◌, ◌+◌, ◌≤◌, min, length, leb, cond};
 ghost use Rattle.definition.specs.Lists.{tabulate};
-ghost use Rattle.definition.specs.Answers.{tallySays, levelsSays};
-ghost use Rattle.definition.specs.Survey.{errorAt, squared, levelSum, tallyRefusal, tally_of, levelsRefusal, levelsOf};
+ghost use Rattle.definition.specs.Answers.{tally_says, levels_says};
+ghost use Rattle.definition.specs.Survey.{error_at, squared, level_sum, tally_refusal, tally_of, levels_refusal, levels_of};
 ghost use Rattle.checks.specs.Checks.{checked};
 ghost use Rattle.integers.specs.Totals.{TotalZ};
 ghost use Rattle.blocks.specs.Blocks.{BlockAsked};
@@ -16,14 +16,14 @@ ghost use Rattle.survey.specs.BlockErrors.{
   Walked,
   added,
 };
-ghost use Rattle.survey.specs.Errors.{cellError};
+ghost use Rattle.survey.specs.Errors.{cell_error};
 
 use checks::Check;
 use definition::{LevelsAnswer, LevelsStatus, Refusal, TallyAnswer};
 
 // The error of a cell: its grey, less 255 if it has a dot (S 8.2).
 fn cell_error(grey: u8, serial: u32) -> i64
-    ensures { TotalZ (cellError grey serial) 255 result }
+    ensures { TotalZ (cell_error grey serial) 255 result }
 {
     if serial == 0 {
         return grey as i64;
@@ -60,7 +60,7 @@ fn walk_cell(
 ) -> i64
     requires block_asked { BlockAsked (min (length greys.now) (length serials.now)) r r a b }
     requires room { Room r r sums.old }
-    ensures { Walked r (errorAt r greys.now serials.now) r a b sums.old result sums.new }
+    ensures { Walked r (error_at r greys.now serials.now) r a b sums.old result sums.new }
 {
     let at = a * sizes::pow2(r) + b;
     let e = cell_error(greys[at], serials[at]);
@@ -80,7 +80,7 @@ fn walk_cells(
     sums: &mut [u64; 9],
 ) -> i64
     requires { WalkAsked (min (length greys.now) (length serials.now)) r k r a b sums.old }
-    ensures { Walked r (errorAt r greys.now serials.now) k a b sums.old result sums.new }
+    ensures { Walked r (error_at r greys.now serials.now) k a b sums.old result sums.new }
 {
     let row = 2 * a;
     let column = 2 * b;
@@ -104,7 +104,7 @@ fn walk(
     sums: &mut [u64; 9],
 ) -> i64
     requires { WalkAsked (min (length greys.now) (length serials.now)) r k (k + 1) a b sums.old }
-    ensures { Walked r (errorAt r greys.now serials.now) k a b sums.old result sums.new }
+    ensures { Walked r (error_at r greys.now serials.now) k a b sums.old result sums.new }
 {
     let below = k + 1;
     if below == r {
@@ -123,7 +123,7 @@ fn walk(
 pub fn level_sums(greys: &[u8], serials: &[u32], r: usize) -> [u64; 9]
     requires { LevelsAsked (length greys.now) (length serials.now) r }
     ensures { result
-        ≡ tabulate 9 (λ k. cond (leb k r) (levelSum r greys.now serials.now k) 0) }
+        ≡ tabulate 9 (λ k. cond (leb k r) (level_sum r greys.now serials.now k) 0) }
 {
     let mut out = [0u64; 9];
     walk(greys, serials, r, 0, 0, 0, &mut out);
@@ -133,7 +133,7 @@ pub fn level_sums(greys: &[u8], serials: &[u32], r: usize) -> [u64; 9]
 // Tally's refusals 1, 4, 6 (S 5.2), for the aligned square (row, column) of level k.
 fn check_tally(r: usize, serials: usize, k: usize, row: usize, column: usize) -> Check
     requires { r ≤ 8 }
-    ensures { checked result ≡ tallyRefusal r serials k row column }
+    ensures { checked result ≡ tally_refusal r serials k row column }
 {
     if r == 0 {
         return Check::Failed(Refusal::SideUnknown);
@@ -156,7 +156,7 @@ fn check_tally(r: usize, serials: usize, k: usize, row: usize, column: usize) ->
 
 // Tally (S 8.1): the dots of an aligned square.
 pub fn tally(side: u32, serials: &[u32], level: u32, row: u32, column: u32) -> TallyAnswer
-    ensures { tallySays result ≡ tally_of side serials.now level row column }
+    ensures { tally_says result ≡ tally_of side serials.now level row column }
 {
     let r = sizes::power_of(side);
     let k = level as usize;
@@ -171,7 +171,7 @@ pub fn tally(side: u32, serials: &[u32], level: u32, row: u32, column: u32) -> T
 // Levels' refusals 1, 2, 4 (S 5.2).
 fn check_levels(r: usize, greys: usize, serials: usize) -> Check
     requires { r ≤ 8 }
-    ensures { checked result ≡ levelsRefusal r greys serials }
+    ensures { checked result ≡ levels_refusal r greys serials }
 {
     if r == 0 {
         return Check::Failed(Refusal::SideUnknown);
@@ -190,9 +190,9 @@ fn check_levels(r: usize, greys: usize, serials: usize) -> Check
 pub fn levels(side: u32, greys: &[u8], serials: &[u32]) -> LevelsAnswer
     ensures { record {
       sums = result.sums;
-      said = levelsSays result.status;
+      said = levels_says result.status;
     }
-        ≡ levelsOf side greys.now serials.now }
+        ≡ levels_of side greys.now serials.now }
 {
     let r = sizes::power_of(side);
     match check_levels(r, greys.len(), serials.len()) {

@@ -4,9 +4,9 @@
 ghost use Rattle.std.specs.Prelude.{◌≡◌, true, ◌&&◌, ◌<◌, leb, drop};
 ghost use Rattle.definition.specs.Answers.{number_of};
 ghost use Rattle.text_cells.specs.Ends.{end_at};
-ghost use Rattle.text_cells.specs.Cell.{cell_of, cellIn};
+ghost use Rattle.text_cells.specs.Cell.{cell_of, cell_in};
 ghost use Rattle.text_cells.specs.Cells.{CellsAsked, CellsRead};
-ghost use Rattle.text_cells.specs.Found.{CellsFound, whyNot};
+ghost use Rattle.text_cells.specs.Found.{CellsFound, why_not};
 ghost use Rattle.text_cells.specs.FirstLine.{LineSays};
 
 use checks::Check;
@@ -48,7 +48,7 @@ pub fn end_at(side: usize, i: usize) -> u8
 
 // A pair: low, a comma, high, and the byte that ends the cell.
 fn read_pair(text: &[u8], at: usize, most: u32, end: u8) -> Cell
-    ensures { cellIn text.now result ≡ cell_of true most end (drop at text.now) }
+    ensures { cell_in text.now result ≡ cell_of true most end (drop at text.now) }
 {
     let Number::Read(low, behind) = decimals::read_number(text, at, most, b',') else {
         return Cell::Malformed;
@@ -61,7 +61,7 @@ fn read_pair(text: &[u8], at: usize, most: u32, end: u8) -> Cell
 
 // A cell of a sketch, where `pairs` says so, or of a map; no number is above `most`.
 fn read_cell(text: &[u8], at: usize, pairs: bool, most: u32, end: u8) -> Cell
-    ensures { cellIn text.now result ≡ cell_of pairs most end (drop at text.now) }
+    ensures { cell_in text.now result ≡ cell_of pairs most end (drop at text.now) }
 {
     if pairs {
         return read_pair(text, at, most, end);
@@ -130,7 +130,7 @@ pub fn find_cells(text: &[u8], from: usize, side: usize, pairs: bool, most: u32)
 // Why cells are refused that aren't all there with no number above 240: 7 if they break the grammar, and else 12.
 pub fn why_not(text: &[u8], from: usize, side: usize, pairs: bool) -> Refusal
     requires { CellsAsked side 255 }
-    ensures { number_of result ≡ whyNot text.now from side pairs }
+    ensures { number_of result ≡ why_not text.now from side pairs }
 {
     let found = find_cells(text, from, side, pairs, 255);
     if !found.all {

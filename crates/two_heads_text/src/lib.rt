@@ -1,6 +1,6 @@
 // What the program `two_heads` prints, as a function from bytes to bytes (`two_heads_text`).
 ghost use Rattle.std.specs.Prelude.{◌≡◌, ◌≤◌, length, take};
-ghost use Rattle.heads.specs.TwoHeads.{twoHeadsList, twoHeadsText};
+ghost use Rattle.heads.specs.TwoHeads.{two_heads_list, two_heads_text};
 ghost use Rattle.decimals.specs.Printed.{Printed};
 ghost use Rattle.program_texts.specs.Finished.{MapAsked};
 
@@ -19,7 +19,7 @@ const PLAIN: u32 = 0;
 // The list of all holes of a map, or the refusal of a side that has no room for macroblocks.
 fn put_list(side: u32, greys: &[u8], out: &mut [u8]) -> usize
     requires { MapAsked side greys.now 1365 1024 1024 × (11300 ≤ length out.old) }
-    ensures { Printed (twoHeadsList side greys.now) out.old result out.new }
+    ensures { Printed (two_heads_list side greys.now) out.old result out.new }
 {
     let mut pyramid = [0i64; 1365];
     let mut serials = [0u32; 1024];
@@ -44,7 +44,7 @@ fn put_list(side: u32, greys: &[u8], out: &mut [u8]) -> usize
 // What `two_heads` prints.
 fn put_text(input: &[u8], out: &mut [u8]) -> usize
     requires { 11300 ≤ length out.old }
-    ensures { Printed (twoHeadsText input.now) out.old result out.new }
+    ensures { Printed (two_heads_text input.now) out.old result out.new }
 {
     if 4099 < input.len() {
         return refusal_line::put_refused(out, 9);
@@ -58,7 +58,7 @@ fn put_text(input: &[u8], out: &mut [u8]) -> usize
 
 // What `two_heads` prints (S 14.6).
 pub fn two_heads_text(input: &[u8]) -> TwoHeadsText
-    ensures bytes_value { take result.length result.bytes ≡ twoHeadsText input.now }
+    ensures bytes_value { take result.length result.bytes ≡ two_heads_text input.now }
     ensures length_bound { result.length ≤ 11300 }
 {
     let mut bytes = [0u8; 11300];

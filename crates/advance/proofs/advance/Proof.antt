@@ -1,7 +1,7 @@
 -- `advance::advance`: what the check says, told apart.
 use borrow.Author.Rules.{rules}
 use Rattle.refusals.specs.Powers.{power_small}
-use Rattle.advance.specs.Advancing.{refused-is, advance-asked, passed_is}
+use Rattle.advance.specs.Advancing.{refused_is, advance_asked, passed_is}
 use Rattle.advance.proofs.advance.Statement.{statement}
 use Rattle.advance.proofs.advance.Tie as tie
 
@@ -11,11 +11,11 @@ left_alone c =
     let t = c.before.before.before.before in
     let u = t.before.before.before.before.before in
     let a = u.before.before.before.before.args in
-    refused-is a.progress _ _ _ u.power-of.ensures _ t.check-sheet.ensures _
+    refused_is a.progress _ _ _ u.power-of.ensures _ t.check-sheet.ensures _
     c.before.before.why.given.1 c.refused.ensures
 
-pub advance-spec : {M : Type 1} → statement M
-advance-spec =
+pub advance_spec : {M : Type 1} → statement M
+advance_spec =
     tie.close
     (tie.spec
     (λ c κs. search rules)
@@ -28,7 +28,7 @@ advance-spec =
     let t = c.before.before.before.before in
     let u = t.before.before.before.before.before.before.before in
     let a = u.before.before.before.before.args in (
-      advance-asked a.progress _ _ _ u.power-of.ensures _ t.before.before.check-sheet.ensures
+      advance_asked a.progress _ _ _ u.power-of.ensures _ t.before.before.check-sheet.ensures
           t.enum_told.given.1,
       search rules,
     ))  -- advance-sheet-requires

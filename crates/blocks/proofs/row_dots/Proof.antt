@@ -2,18 +2,18 @@
 use Prim.Native.Nat.{◌≤◌, ◌-◌, ◌*◌}
 use native.Mathlib.Omega.{arith}
 use Rattle.integers.specs.Totals.{Total, none, turn, whole}
-use Rattle.blocks.specs.Squares.{rowDots}
+use Rattle.blocks.specs.Squares.{row_dots}
 use Rattle.blocks.proofs.row_dots.Statement.{statement}
 use Rattle.blocks.proofs.row_dots.Tie as tie
 
 abbrev invariant-loop : tie.invariant-loop
-invariant-loop serials from count sum₀ y₀ sum y = (y ≤ count) × Total (rowDots serials from y) (y * 1) sum
+invariant-loop serials from count sum₀ y₀ sum y = (y ≤ count) × Total (row_dots serials from y) (y * 1) sum
 
 abbrev decreases-loop : tie.decreases-loop
 decreases-loop serials from count sum₀ y₀ sum y = count - y
 
-pub row-dots-spec : {M : Type 1} → statement M
-row-dots-spec =
+pub row_dots_spec : {M : Type 1} → statement M
+row_dots_spec =
     tie.close
     (tie.spec
     invariant-loop

@@ -3,18 +3,18 @@ use mathlib.Core.Path.{refl}
 use Prim.Native.Nat.{◌+◌, ◌≤◌, ◌-◌, ◌*◌}
 use native.Mathlib.Omega.{arith}
 use Rattle.integers.specs.Totals.{Total, none, turn, whole}
-use Rattle.blocks.specs.Squares.{rowGreys}
+use Rattle.blocks.specs.Squares.{row_greys}
 use Rattle.blocks.proofs.row_greys.Statement.{statement}
 use Rattle.blocks.proofs.row_greys.Tie as tie
 
 abbrev invariant-loop : tie.invariant-loop
-invariant-loop greys from count sum₀ y₀ sum y = (y ≤ count) × Total (rowGreys greys from y) (y * 255) sum
+invariant-loop greys from count sum₀ y₀ sum y = (y ≤ count) × Total (row_greys greys from y) (y * 255) sum
 
 abbrev decreases-loop : tie.decreases-loop
 decreases-loop greys from count sum₀ y₀ sum y = count - y
 
-pub row-greys-spec : {M : Type 1} → statement M
-row-greys-spec =
+pub row_greys_spec : {M : Type 1} → statement M
+row_greys_spec =
     tie.close
     (tie.spec
     invariant-loop

@@ -5,8 +5,8 @@ use borrow.Author.Rules.{rules}
 use Rattle.call_list.proofs.at.Statement.{statement}
 use Rattle.call_list.proofs.at.Tie as tie
 
-pub at-spec : {M : Type 1} → statement M
-at-spec =
+pub at_spec : {M : Type 1} → statement M
+at_spec =
     tie.close
     (tie.spec
     (λ c. search rules)

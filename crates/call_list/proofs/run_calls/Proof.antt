@@ -4,8 +4,8 @@ use Rattle.call_list.specs.PriceListOfCode.{promised}
 use Rattle.call_list.proofs.run_calls.Statement.{statement}
 use Rattle.call_list.proofs.run_calls.Tie as tie
 
-pub run-calls-spec : {M : Type 1} → statement M
-run-calls-spec =
+pub run_calls_spec : {M : Type 1} → statement M
+run_calls_spec =
     tie.close
     (tie.spec
     (λ c κs. search rules)

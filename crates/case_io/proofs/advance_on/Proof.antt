@@ -5,8 +5,8 @@ use lib.Seq.{length-take-le}
 use Rattle.case_io.proofs.advance_on.Statement.{statement}
 use Rattle.case_io.proofs.advance_on.Tie as tie
 
-pub advance-on-spec : {M : Type 1} → statement M
-advance-on-spec = tie.close (tie.spec
+pub advance_on_spec : {M : Type 1} → statement M
+advance_on_spec = tie.close (tie.spec
     (λ c κs. tt)  -- limit-requires
     (λ c κs. tt)  -- limit-requires-2
     (λ c κs. tt)  -- limit-requires-3

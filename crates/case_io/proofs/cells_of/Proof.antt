@@ -4,7 +4,7 @@ use native.Mathlib.Omega.{arith}
 use Rattle.case_io.proofs.cells_of.Statement.{statement}
 use Rattle.case_io.proofs.cells_of.Tie as tie
 
-pub cells-of-spec : {M : Type 1} → statement M
-cells-of-spec = tie.close (tie.spec
+pub cells_of_spec : {M : Type 1} → statement M
+cells_of_spec = tie.close (tie.spec
     (λ c. omega (arith, mul-le-mul c.requires c.requires))  -- mul-result
     (λ c. omega (arith, mul-le-mul c.requires c.requires)))  -- returns

@@ -12,8 +12,8 @@ invariant-loop values sum₀ i₀ sum i = Unit {0}
 abbrev decreases-loop : tie.decreases-loop
 decreases-loop values sum₀ i₀ sum i = length values - i
 
-pub checksum-i64-spec : {M : Type 1} → statement M
-checksum-i64-spec = tie.close (tie.spec invariant-loop decreases-loop
+pub checksum_i64_spec : {M : Type 1} → statement M
+checksum_i64_spec = tie.close (tie.spec invariant-loop decreases-loop
     (λ c. tt)  -- loop-holds
     (λ c. search rules)  -- mul-word
     (λ c. search rules)  -- shared-slice-copy-out-word

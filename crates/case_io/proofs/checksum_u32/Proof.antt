@@ -12,8 +12,8 @@ invariant-loop values sum₀ i₀ sum i = Unit {0}
 abbrev decreases-loop : tie.decreases-loop
 decreases-loop values sum₀ i₀ sum i = length values - i
 
-pub checksum-u32-spec : {M : Type 1} → statement M
-checksum-u32-spec = tie.close (tie.spec invariant-loop decreases-loop
+pub checksum_u32_spec : {M : Type 1} → statement M
+checksum_u32_spec = tie.close (tie.spec invariant-loop decreases-loop
     (λ c. tt)  -- loop-holds
     (λ c. search rules)  -- mul-wide
     (λ c. search rules)  -- shared-slice-read-wide

@@ -12,8 +12,8 @@ invariant-loop values i₀ i = Unit {0}
 abbrev decreases-loop : tie.decreases-loop
 decreases-loop values i₀ i = length values - i
 
-pub fields-i64-spec : {M : Type 1} → statement M
-fields-i64-spec = tie.close (tie.spec invariant-loop decreases-loop
+pub fields_i64_spec : {M : Type 1} → statement M
+fields_i64_spec = tie.close (tie.spec invariant-loop decreases-loop
     (λ c. tt)  -- loop-holds
     (λ c. search rules)  -- mul-field-i64
     (λ c. search rules)  -- shared-slice-copy-out-field-i64

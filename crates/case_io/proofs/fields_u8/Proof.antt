@@ -12,8 +12,8 @@ invariant-loop values i₀ i = Unit {0}
 abbrev decreases-loop : tie.decreases-loop
 decreases-loop values i₀ i = length values - i
 
-pub fields-u8-spec : {M : Type 1} → statement M
-fields-u8-spec = tie.close (tie.spec invariant-loop decreases-loop
+pub fields_u8_spec : {M : Type 1} → statement M
+fields_u8_spec = tie.close (tie.spec invariant-loop decreases-loop
     (λ c. tt)  -- loop-holds
     (λ c. search rules)  -- shared-slice-read-field-u8
     (λ c κs. tt)  -- field-u8-requires

@@ -5,8 +5,8 @@ use lib.Seq.{length-take-le}
 use Rattle.case_io.proofs.print_number.Statement.{statement}
 use Rattle.case_io.proofs.print_number.Tie as tie
 
-pub print-number-spec : {M : Type 1} → statement M
-print-number-spec = tie.close (tie.spec
+pub print_number_spec : {M : Type 1} → statement M
+print_number_spec = tie.close (tie.spec
     (λ c. search rules)  -- slice-aggregate-put-digits
     (λ c κs. search rules)  -- put-digits-requires
     (λ c. search rules)  -- array-share-prefix-digits

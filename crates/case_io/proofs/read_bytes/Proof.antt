@@ -13,8 +13,8 @@ invariant-loop text from bytes₀ at₀ i₀ bytes at i = length bytes ≡ lengt
 abbrev decreases-loop : tie.decreases-loop
 decreases-loop text from bytes₀ at₀ i₀ bytes at i = length bytes - i
 
-pub read-bytes-spec : {M : Type 1} → statement M
-read-bytes-spec = tie.close (tie.spec invariant-loop decreases-loop
+pub read_bytes_spec : {M : Type 1} → statement M
+read_bytes_spec = tie.close (tie.spec invariant-loop decreases-loop
     (λ c. refl)  -- loop-holds
     (λ c κs. tt)  -- next-requires
     (λ c. omega arith)  -- cast-bytes

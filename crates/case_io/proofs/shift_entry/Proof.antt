@@ -10,35 +10,35 @@ use lib.Signed.{lt_z}
 use mir.Syntax.{w32, w64}
 use mir.Val.{Fits, SFits, to_z, of_z}
 use mir.Facts.{to_z-of_z}
-use Rattle.integers.specs.Machine.{words, machine, ok64, lit64, ltZ-back, of-bits}
+use Rattle.integers.specs.Machine.{words, machine, ok64, lit64, lt_z_back, of_bits}
 use Rattle.case_io.proofs.shift_entry.Statement.{statement}
 use Rattle.case_io.proofs.shift_entry.Tie as tie
 
 module _ (e : ℤ) (f : SFits w64 e) (lo : lt_z (to_z w64 (of_z w64 e)) (to_z w64 (of_z w64 (negsuc 999999999999))) ≡ false)
     (hi : lt_z (to_z w64 1000000000000) (to_z w64 (of_z w64 e)) ≡ false) (p m : ℕ) (hp : Fits w32 p) (hm : Fits w32 m) where
   above : lt_z e (negsuc 999999999999) ≡ false
-  above = ltZ-back f (lit64 (negsuc 999999999999) tt) lo
+  above = lt_z_back f (lit64 (negsuc 999999999999) tt) lo
 
   below : lt_z (pos 1000000000000) e ≡ false
-  below = ltZ-back (lit64 (pos 1000000000000) tt) f hi
+  below = lt_z_back (lit64 (pos 1000000000000) tt) f hi
 
-  plus-fits : SFits w64 (e +ℤ pos p)
-  plus-fits = let a = above in let b = below in let h = hp.fits in simp words (omega machine)
+  plus_fits : SFits w64 (e +ℤ pos p)
+  plus_fits = let a = above in let b = below in let h = hp.fits in simp words (omega machine)
 
-  minus-fits : SFits w64 (e +ℤ pos p -ℤ pos m)
-  minus-fits = let a = above in let b = below in let h = hp.fits in let k = hm.fits in simp words (omega machine)
+  minus_fits : SFits w64 (e +ℤ pos p -ℤ pos m)
+  minus_fits = let a = above in let b = below in let h = hp.fits in let k = hm.fits in simp words (omega machine)
 
   read : (n : ℕ) → Fits w32 n → to_z w64 n ≡ pos n
-  read n h = of-bits n (let k = h.fits in omega arith)
+  read n h = of_bits n (let k = h.fits in omega arith)
 
-  add-asks : SFits w64 (to_z w64 (of_z w64 e) +ℤ to_z w64 p)
-  add-asks = rw (to_z-of_z f, read p hp) plus-fits
+  add_asks : SFits w64 (to_z w64 (of_z w64 e) +ℤ to_z w64 p)
+  add_asks = rw (to_z-of_z f, read p hp) plus_fits
 
-  sub-asks : SFits w64 (to_z w64 (of_z w64 (to_z w64 (of_z w64 e) +ℤ to_z w64 p)) -ℤ to_z w64 m)
-  sub-asks = rw (to_z-of_z f, read p hp, to_z-of_z plus-fits, read m hm) minus-fits
+  sub_asks : SFits w64 (to_z w64 (of_z w64 (to_z w64 (of_z w64 e) +ℤ to_z w64 p)) -ℤ to_z w64 m)
+  sub_asks = rw (to_z-of_z f, read p hp, to_z-of_z plus_fits, read m hm) minus_fits
 
-pub shift-entry-spec : {M : Type 1} → statement M
-shift-entry-spec = tie.close (tie.spec
+pub shift_entry_spec : {M : Type 1} → statement M
+shift_entry_spec = tie.close (tie.spec
     (λ c. search rules)  -- returns
     (λ c. search rules)  -- mul-entry
     (λ c. search rules)  -- slice-copy-out-entry
@@ -46,11 +46,11 @@ shift-entry-spec = tie.close (tie.spec
     (λ c. search rules)  -- returns-3
     (λ c. search rules)  -- cast-pyramid
     (λ c. let s = c.before.before.before.before in let e = get_or s.args.pyramid.now s.args.place (pos 0)
-    in add-asks e (ok64 e c.before.before.entry.given) c.before.if2.false c.if3.false _ _ s.ranges.plus
+    in add_asks e (ok64 e c.before.before.entry.given) c.before.if2.false c.if3.false _ _ s.ranges.plus
     s.ranges.minus)  -- add-pyramid
     (λ c. search rules)  -- cast-pyramid-2
     (λ c. let s = c.before.before.before.before in let e = get_or s.args.pyramid.now s.args.place (pos 0)
-    in sub-asks e (ok64 e c.before.before.entry.given) c.before.if2.false c.if3.false _ _ s.ranges.plus
+    in sub_asks e (ok64 e c.before.before.entry.given) c.before.if2.false c.if3.false _ _ s.ranges.plus
     s.ranges.minus)  -- sub-pyramid
     (λ c. search rules)  -- mul-t6
     (λ c. search rules)  -- slice-set-from-pyramid

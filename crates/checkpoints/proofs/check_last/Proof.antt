@@ -5,9 +5,9 @@ use Rattle.checks.specs.Checks.{checked}
 use Rattle.checkpoints.proofs.check_last.Statement.{statement}
 use Rattle.checkpoints.proofs.check_last.Tie as tie
 
-pub check-last-spec : {M : Type 1} → statement M
+pub check_last_spec : {M : Type 1} → statement M
 unfolding checked number_of lowest
-check-last-spec =
+check_last_spec =
     tie.close
     (tie.spec
     (λ c. rw c.if1.true)

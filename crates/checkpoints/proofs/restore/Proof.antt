@@ -2,7 +2,7 @@
 use native.Mathlib.Omega.{arith}
 use borrow.Author.Rules.{rules}
 use Rattle.refusals.specs.Powers.{power_small}
-use Rattle.checkpoints.specs.WaysOut.{restore-refused, anew-asked, count-asked, restore-done}
+use Rattle.checkpoints.specs.WaysOut.{restore_refused, anew_asked, count_asked, restore_done}
 use Rattle.checkpoints.proofs.restore.Statement.{statement}
 use Rattle.checkpoints.proofs.restore.Tie as tie
 
@@ -12,7 +12,7 @@ left_alone c =
     let t = c.before.before.before.before in
     let u = t.before.before.before.before.before in
     let a = u.before.before.before.before.before.args in
-    restore-refused a.progress a.checkpoints a.name _ _ _ _ u.power-of.ensures _
+    restore_refused a.progress a.checkpoints a.name _ _ _ _ u.power-of.ensures _
     t.check-restore.ensures c.before.before.why.given.1 c.refused.ensures
 
 -- past the check the name's count is small, and all parts are long enough
@@ -21,7 +21,7 @@ counted c κs =
     let t = c.before.before in
     let u = t.before.before.before.before.before in
     let a = u.before.before.before.before.before.args in
-    count-asked _ a.checkpoints a.name a.greys.now a.pyramid.now a.serials.now a.order.now
+    count_asked _ a.checkpoints a.name a.greys.now a.pyramid.now a.serials.now a.order.now
     (power_small a.progress.side u.power-of.ensures) _ _ t.check-restore.ensures c.enum_told.given.1
     (λ i. omega (arith, u.before.before.before.before.shared-slice-known.given i))
 
@@ -31,15 +31,15 @@ lent c κs =
     let t = e.before.before in
     let u = t.before.before.before.before.before in
     let a = u.before.before.before.before.before.args in (
-      anew-asked _ a.checkpoints a.name a.greys.now a.pyramid.now a.serials.now a.order.now
+      anew_asked _ a.checkpoints a.name a.greys.now a.pyramid.now a.serials.now a.order.now
           (power_small a.progress.side u.power-of.ensures) _ _ t.check-restore.ensures
           e.enum_told.given.1
           (λ i. omega (arith, u.before.before.before.before.shared-slice-known.given i)),
       search rules,
     )
 
-pub restore-spec : {M : Type 1} → statement M
-restore-spec =
+pub restore_spec : {M : Type 1} → statement M
+restore_spec =
     tie.close
     (tie.spec
     (λ c κs. search rules)
@@ -58,4 +58,4 @@ restore-spec =
     (λ c. search rules)
     (λ c. search rules)
     (λ c. search rules)
-    (λ c. search (restore-done, rules)))  -- returns-2
+    (λ c. search (restore_done, rules)))  -- returns-2

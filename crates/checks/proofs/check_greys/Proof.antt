@@ -2,14 +2,14 @@
 use borrow.Author.Rules.{rules}
 use borrow.Author.Tests.{eq-eqb, ne_eqb}
 use Rattle.definition.specs.Answers.{number_of}
-use Rattle.definition.specs.Refusals.{lowest, greysRefusal}
+use Rattle.definition.specs.Refusals.{lowest, greys_refusal}
 use Rattle.checks.specs.Checks.{checked, short, enough}
 use Rattle.checks.proofs.check_greys.Statement.{statement}
 use Rattle.checks.proofs.check_greys.Tie as tie
 
-pub check-greys-spec : {M : Type 1} → statement M
-unfolding checked number_of lowest greysRefusal
-check-greys-spec =
+pub check_greys_spec : {M : Type 1} → statement M
+unfolding checked number_of lowest greys_refusal
+check_greys_spec =
     tie.close
     (tie.spec
     (λ c κs. search rules)

@@ -4,9 +4,9 @@ use Rattle.definition.specs.Answers.{number_of}
 use Rattle.checks.proofs.number_of.Statement.{statement}
 use Rattle.checks.proofs.number_of.Tie as tie
 
-pub number-of-spec : {M : Type 1} → statement M
+pub number_of_spec : {M : Type 1} → statement M
 unfolding number_of
-number-of-spec = tie.close (tie.spec
+number_of_spec = tie.close (tie.spec
     (λ c. search rules)
     (λ c. search rules)
     (λ c. search rules)

@@ -3,15 +3,15 @@ use borrow.Author.Rules.{rules}
 use borrow.Author.Tests.{eq-eqb, ne_eqb}
 use Rattle.definition.specs.Answers.{number_of}
 use Rattle.definition.specs.Refusals.{lowest}
-use Rattle.definition.specs.Shelf.{compareRefusal}
+use Rattle.definition.specs.Shelf.{compare_refusal}
 use Rattle.checks.specs.Checks.{checked, short, enough}
 use Rattle.compare.proofs.check_compare.Statement.{statement}
 use Rattle.compare.proofs.check_compare.Tie as tie
 
 -- past the tests neither sheet is too short
-none-short : tie.Need-returns-4
-unfolding checked number_of lowest compareRefusal
-none-short c =
+none_short : tie.Need-returns-4
+unfolding checked number_of lowest compare_refusal
+none_short c =
     let w = c.before.before in
     simp (
       ne_eqb _ 0 w.before.if1.false,
@@ -19,9 +19,9 @@ none-short c =
       enough w.cell-count.ensures c.if3.false,
     )
 
-pub check-compare-spec : {M : Type 1} → statement M
-unfolding checked number_of lowest compareRefusal
-check-compare-spec =
+pub check_compare_spec : {M : Type 1} → statement M
+unfolding checked number_of lowest compare_refusal
+check_compare_spec =
     tie.close
     (tie.spec
     (λ c. simp (eq-eqb _ 0 c.if1.true))  -- returns
@@ -35,4 +35,4 @@ check-compare-spec =
       enough w.cell-count.ensures c.before.if2.false,
       short w.cell-count.ensures c.if3.true,
     ))  -- returns-3
-    none-short)
+    none_short)

@@ -6,7 +6,7 @@ use native.Mathlib.Omega.{arith}
 use borrow.Author.Rules.{rules}
 use borrow.Fn.Kinds.{In}
 use borrow.Fn.PlainCycle.{Measures, is, falls, and}
-use Rattle.decimals.specs.Writing.{one-digit, more-digits, right_end, spaces-end}
+use Rattle.decimals.specs.Writing.{one_digit, more_digits, right_end, spaces_end}
 use Rattle.decimals.proofs.put_right.Reads as put-right
 use Rattle.decimals.proofs.put_right.Kinds as put-right-kinds
 use Rattle.decimals.proofs.+put_right.Lts-put_right as put-right-lts
@@ -19,14 +19,14 @@ use Rattle.decimals.proofs.+put_right.Tie.{close}
 abbrev μ-put-right : Measures 1 put-right-kinds.ps ℕ
 μ-put-right κs a = a.1.1.1.0
 
-abbrev put-right-at : ℕ → In 1 put-right-kinds.ps
-put-right-at t = and 1 put-right-kinds.ps (is 1 put-right-kinds.ps μ-put-right t) put-right.Pre
+abbrev put_right_at : ℕ → In 1 put-right-kinds.ps
+put_right_at t = and 1 put-right-kinds.ps (is 1 put-right-kinds.ps μ-put-right t) put-right.Pre
 
-abbrev put-right-below : ℕ → In 1 put-right-kinds.ps
-put-right-below t = and 1 put-right-kinds.ps (falls 1 put-right-kinds.ps ◌<◌ μ-put-right t) put-right.Pre
+abbrev put_right_below : ℕ → In 1 put-right-kinds.ps
+put_right_below t = and 1 put-right-kinds.ps (falls 1 put-right-kinds.ps ◌<◌ μ-put-right t) put-right.Pre
 
-pub +put-right-spec : {M : Type 1} → statement M
-+put-right-spec =
+pub +put_right_spec : {M : Type 1} → statement M
++put_right_spec =
     close μ-put-right λ t.
     put-right-lts.spec (
       one-less-reads.Asked,
@@ -35,10 +35,10 @@ pub +put-right-spec : {M : Type 1} → statement M
       put-spaces-reads.Learnt,
       put-byte-reads.Asked,
       put-byte-reads.Learnt,
-      put-right-below t,
+      put_right_below t,
       put-right.Post,
     )
-    (put-right-at t) put-right.Post
+    (put_right_at t) put-right.Post
     (λ c κs. search rules)
     (λ c κs. let z = c.before.before in omega
     (arith, z.one_less.ensures, z.before.before.requires.1))  -- put-spaces-requires
@@ -49,7 +49,7 @@ pub +put-right-spec : {M : Type 1} → statement M
     let z = y.before.before.before in
     omega (
       arith,
-      spaces-end z.one_less.result y.put-spaces.ensures,
+      spaces_end z.one_less.result y.put-spaces.ensures,
       z.one_less.ensures,
       z.before.before.requires.1,
     ))  -- put-byte-requires
@@ -57,7 +57,7 @@ pub +put-right-spec : {M : Type 1} → statement M
     (λ c.
     let y = c.before.before.before.before.before.before in
     let z = y.before.before.before in
-    one-digit _ _ z.one_less.ensures y.before.before.if1.true y.put-spaces.ensures
+    one_digit _ _ z.one_less.ensures y.before.before.if1.true y.put-spaces.ensures
     c.before.before.put_byte.ensures)  -- returns
     (λ c κs. let z = c.before.before
     in (
@@ -88,5 +88,5 @@ pub +put-right-spec : {M : Type 1} → statement M
     (λ c.
     let y = c.before.before.before.before.before.before in
     let z = y.before.before.before in
-    more-digits _ _ z.one_less.ensures y.before.before.if1.false y.put-right.ensures
+    more_digits _ _ z.one_less.ensures y.before.before.if1.false y.put-right.ensures
     c.before.before.put-byte2.ensures)  -- returns-2

@@ -4,7 +4,7 @@ use Prim.Native.Nat.{◌+◌}
 use native.Mathlib.Omega.{arith}
 use lib.ListN.{length}
 use Rattle.definition.specs.Text.{decimal}
-use Rattle.decimals.specs.Writing.{length-number, length-five-off}
+use Rattle.decimals.specs.Writing.{length_number, length_five_off}
 use Rattle.decimals.proofs.field_length.Statement.{statement}
 use Rattle.decimals.proofs.field_length.Tie as tie
 
@@ -14,16 +14,16 @@ invariant-loop n rest₀ bytes₀ rest bytes = bytes + length (decimal rest) ≡
 abbrev decreases-loop : tie.decreases-loop
 decreases-loop n rest₀ bytes₀ rest bytes = rest
 
-pub field-length-spec : {M : Type 1} → statement M
-field-length-spec =
+pub field_length_spec : {M : Type 1} → statement M
+field_length_spec =
     tie.close
     (tie.spec
     invariant-loop
     decreases-loop
     (λ c. omega arith)
-    (λ c. omega (arith, length-number c.before.before.args.n (omega arith)))  -- add-bytes
+    (λ c. omega (arith, length_number c.before.before.args.n (omega arith)))  -- add-bytes
     (λ c. omega arith)
-    (λ c. omega (arith, length-five-off c.before.loop.rest (omega arith)))  -- loop-again
+    (λ c. omega (arith, length_five_off c.before.loop.rest (omega arith)))  -- loop-again
     (λ c κs. omega arith)
-    (λ c. omega (arith, length-number c.before.before.before.args.n (omega arith)))  -- add-result
-    (λ c. (omega arith, omega (arith, length-number c.before.before.before.args.n (omega arith)))))  -- returns
+    (λ c. omega (arith, length_number c.before.before.before.args.n (omega arith)))  -- add-result
+    (λ c. (omega arith, omega (arith, length_number c.before.before.before.args.n (omega arith)))))  -- returns

@@ -4,7 +4,7 @@ use mathlib.Core.Path.{◌≡◌}
 use native.Mathlib.Omega.{arith}
 use lib.ListN.{replicate}
 use Rattle.definition.specs.Text.{space}
-use Rattle.decimals.specs.Writing.{Wrote, wrote_none, wrote-length, one-more-space, spaces-end}
+use Rattle.decimals.specs.Writing.{Wrote, wrote_none, wrote_length, one_more_space, spaces_end}
 use Rattle.decimals.proofs.put_spaces.Statement.{statement}
 use Rattle.decimals.proofs.put_spaces.Tie as tie
 
@@ -14,22 +14,22 @@ invariant-loop out₀ from count at₀ i₀ out at i = (i ≤ count) × Wrote ou
 abbrev decreases-loop : tie.decreases-loop
 decreases-loop out₀ from count at₀ i₀ out at i = count - i
 
-pub put-spaces-spec : {M : Type 1} → statement M
-put-spaces-spec =
+pub put_spaces_spec : {M : Type 1} → statement M
+put_spaces_spec =
     tie.close
     (tie.spec
     invariant-loop
     decreases-loop
     (λ c. (omega arith, wrote_none))  -- loop-holds
     (λ c κs. omega
-    (arith, spaces-end c.before.before.loop.i c.before.before.loop.invariant.1))  -- put-byte-requires
+    (arith, spaces_end c.before.before.loop.i c.before.before.loop.invariant.1))  -- put-byte-requires
     (λ c. omega arith)
     (λ c. omega arith)
     (λ c. (
       omega arith,
-      one-more-space c.before.before.before.before.before.loop.i
+      one_more_space c.before.before.before.before.before.loop.i
           c.before.before.before.before.before.loop.invariant.1 c.before.before.put_byte.ensures,
     ))  -- loop-again
-    (λ c. wrote-length c.before.loop.invariant.1)  -- same-length
+    (λ c. wrote_length c.before.loop.invariant.1)  -- same-length
     (λ c. let e : c.before.loop.i ≡ c.before.before.before.args.count = omega arith in rw e
     at c.before.loop.invariant.1))  -- returns

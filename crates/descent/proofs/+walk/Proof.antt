@@ -4,7 +4,7 @@ use native.Mathlib.Omega.{arith}
 use borrow.Author.Rules.{rules}
 use borrow.Fn.Kinds.{In}
 use borrow.Fn.PlainCycle.{Measures, is, falls, and}
-use Rattle.descent.specs.Walk.{number-few, number-here, four-asked, entry-few, part-long, next-asked, next-number}
+use Rattle.descent.specs.Walk.{number_few, number_here, four_asked, entry_few, part_long, next_asked, next_number}
 use Rattle.descent.proofs.walk.Reads as walk
 use Rattle.descent.proofs.walk.Kinds as walk-kinds
 use Rattle.descent.proofs.+walk.Lts-walk as walk-lts
@@ -20,11 +20,11 @@ abbrev μ-walk : Measures 1 walk-kinds.ps ℕ
 abbrev walk_at : ℕ → In 1 walk-kinds.ps
 walk_at t = and 1 walk-kinds.ps (is 1 walk-kinds.ps μ-walk t) walk.Pre
 
-abbrev walk-below : ℕ → In 1 walk-kinds.ps
-walk-below t = and 1 walk-kinds.ps (falls 1 walk-kinds.ps ◌<◌ μ-walk t) walk.Pre
+abbrev walk_below : ℕ → In 1 walk-kinds.ps
+walk_below t = and 1 walk-kinds.ps (falls 1 walk-kinds.ps ◌<◌ μ-walk t) walk.Pre
 
-pub +walk-spec : {M : Type 1} → statement M
-+walk-spec =
+pub +walk_spec : {M : Type 1} → statement M
++walk_spec =
     close μ-walk λ t.
     walk-lts.spec (
       pow2-reads.Asked,
@@ -33,40 +33,40 @@ pub +walk-spec : {M : Type 1} → statement M
       largest-reads.Learnt,
       needed-reads.Asked,
       needed-reads.Learnt,
-      walk-below t,
+      walk_below t,
       walk.Post,
     )
     (walk_at t) walk.Post
     (λ c κs. search rules)
-    (λ c. omega (arith, number-few c.before.before.requires.1 c.pow2.ensures))  -- mul-result
-    (λ c. omega (arith, number-few c.before.before.requires.1 c.pow2.ensures))  -- add-result
-    (λ c. search (number-here, rules))  -- returns
-    (λ c. omega (arith, entry-few c.before.requires.1 c.if1.false))  -- mul-first
-    (λ c. omega (arith, entry-few c.before.requires.1 c.if1.false))  -- add-first
-    (λ c κs. four-asked c.before.requires.1 c.if1.false (omega arith))  -- largest-requires
+    (λ c. omega (arith, number_few c.before.before.requires.1 c.pow2.ensures))  -- mul-result
+    (λ c. omega (arith, number_few c.before.before.requires.1 c.pow2.ensures))  -- add-result
+    (λ c. search (number_here, rules))  -- returns
+    (λ c. omega (arith, entry_few c.before.requires.1 c.if1.false))  -- mul-first
+    (λ c. omega (arith, entry_few c.before.requires.1 c.if1.false))  -- add-first
+    (λ c κs. four_asked c.before.requires.1 c.if1.false (omega arith))  -- largest-requires
     (λ c κs. search rules)
-    (λ c. search (part-long, rules))  -- slice-aggregate-walk
-    (λ c. let e = c.before.before.before in omega (arith, entry-few e.before.requires.1 e.if1.false))  -- add-walk
+    (λ c. search (part_long, rules))  -- slice-aggregate-walk
+    (λ c. let e = c.before.before.before in omega (arith, entry_few e.before.requires.1 e.if1.false))  -- add-walk
     (λ c. let e = c.before.before.before in
     omega (
       arith,
-      entry-few e.before.requires.1 e.if1.false,
+      entry_few e.before.requires.1 e.if1.false,
       c.before.before.largest.ensures.one,
     ))  -- add-walk-2
-    (λ c. let e = c.before.before.before in omega (arith, entry-few e.before.requires.1 e.if1.false))  -- mul-walk
+    (λ c. let e = c.before.before.before in omega (arith, entry_few e.before.requires.1 e.if1.false))  -- mul-walk
     (λ c. let e = c.before.before.before in
     omega (
       arith,
-      entry-few e.before.requires.1 e.if1.false,
+      entry_few e.before.requires.1 e.if1.false,
       c.before.before.largest.ensures.one,
     ))  -- add-walk-3
     (λ c. let e = c.before.before.before in omega
-    (arith, entry-few e.before.requires.1 e.if1.false))  -- mul-walk-2
+    (arith, entry_few e.before.requires.1 e.if1.false))  -- mul-walk-2
     (λ c. let e = c.before.before.before in
     omega (
       arith,
-      entry-few e.before.requires.1 e.if1.false,
+      entry_few e.before.requires.1 e.if1.false,
       c.before.before.largest.ensures.one,
     ))  -- add-walk-4
-    (λ c κs. (search rules, search (next-asked, rules)))  -- walk-requires
-    (λ c. search (next-number, rules))  -- returns-2
+    (λ c κs. (search rules, search (next_asked, rules)))  -- walk-requires
+    (λ c. search (next_number, rules))  -- returns-2

@@ -1,6 +1,6 @@
 -- `diffusion::take`: the numbers fit their words.
 use borrow.Author.Rules.{rules}
-use Rattle.diffusion.specs.Shares.{less-fits, less-stored}
+use Rattle.diffusion.specs.Shares.{less_fits, less_stored}
 use Rattle.diffusion.proofs.take.Statement.{statement}
 use Rattle.diffusion.proofs.take.Tie as tie
 
@@ -11,8 +11,8 @@ take_spec =
     (λ c. search rules)
     (λ c. search rules)
     (λ c. search rules)
-    (λ c. search (less-fits, rules))  -- sub-cells
+    (λ c. search (less_fits, rules))  -- sub-cells
     (λ c. search rules)
     (λ c. search rules)
     (λ c. search rules)
-    (λ c. search (less-stored, rules)))  -- returns
+    (λ c. search (less_stored, rules)))  -- returns

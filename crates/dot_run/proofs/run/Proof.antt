@@ -4,15 +4,15 @@ use borrow.Author.Rules.{rules}
 use Rattle.dot_run.specs.Running.{
   Going,
   begins,
-  same-pyramid,
-  same-serials,
-  same-order,
-  still-long,
+  same_pyramid,
+  same_serials,
+  same_order,
+  still_long,
   top_in,
   few,
   spent,
-  none-due,
-  dot-asked,
+  none_due,
+  dot_asked,
   goes_on,
 }
 use Rattle.dot_run.proofs.run.Statement.{statement}
@@ -27,7 +27,7 @@ decreases-loop pyramid₀ serials₀ order₀ table knit r dots budget made₀ p
 
 -- past the test a dot is due
 due : tie.Need-place-dot-requires invariant-loop decreases-loop
-due c κs = (search (dot-asked, rules), (search (still-long, rules), search rules))
+due c κs = (search (dot_asked, rules), (search (still_long, rules), search rules))
 
 pub run_spec : {M : Type 1} → statement M
 run_spec =
@@ -37,16 +37,16 @@ run_spec =
     decreases-loop
     (λ c. search (begins, rules))  -- loop-holds
     (λ c. search (top_in, rules))  -- slice-copy-out-top
-    (λ c. search (same-pyramid, rules))  -- same-length
-    (λ c. search (same-serials, rules))  -- same-length-2
-    (λ c. search (same-order, rules))  -- same-length-3
-    (λ c. search (none-due, rules))  -- returns
+    (λ c. search (same_pyramid, rules))  -- same-length
+    (λ c. search (same_serials, rules))  -- same-length-2
+    (λ c. search (same_order, rules))  -- same-length-3
+    (λ c. search (none_due, rules))  -- returns
     (λ c. search (few, rules))  -- add-place-dot
     due
     (λ c. search rules)
     (λ c. search rules)
     (λ c. search (goes_on, rules))  -- loop-again
-    (λ c. search (same-pyramid, rules))  -- same-length-4
-    (λ c. search (same-serials, rules))  -- same-length-5
-    (λ c. search (same-order, rules))  -- same-length-6
+    (λ c. search (same_pyramid, rules))  -- same-length-4
+    (λ c. search (same_serials, rules))  -- same-length-5
+    (λ c. search (same_order, rules))  -- same-length-6
     (λ c. search (spent, rules)))  -- returns-2

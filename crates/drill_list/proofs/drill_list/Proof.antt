@@ -1,16 +1,16 @@
 -- `drill_list::drill_list`: what the check says, told apart.
 use borrow.Author.Rules.{rules}
 use Rattle.refusals.specs.Powers.{power_small}
-use Rattle.drill_list.specs.WaysOut.{refused-is, list-asked, listed-is}
+use Rattle.drill_list.specs.WaysOut.{refused_is, list_asked, listed_is}
 use Rattle.drill_list.proofs.drill_list.Statement.{statement}
 use Rattle.drill_list.proofs.drill_list.Tie as tie
 
 -- where it is refused, nothing has changed
 left_alone : tie.Need-returns
-left_alone c = search (refused-is, rules)
+left_alone c = search (refused_is, rules)
 
-pub drill-list-spec : {M : Type 1} → statement M
-drill-list-spec =
+pub drill_list_spec : {M : Type 1} → statement M
+drill_list_spec =
     tie.close
     (tie.spec
     (λ c κs. search rules)
@@ -19,7 +19,7 @@ drill-list-spec =
     (λ c. search rules)
     (λ c. search rules)
     (λ c. search rules)
-    (λ c κs. search (list-asked, rules))  -- write-list-requires
+    (λ c κs. search (list_asked, rules))  -- write-list-requires
     left_alone
     (λ c. search rules)
-    (λ c. search (listed-is, rules)))  -- returns-2
+    (λ c. search (listed_is, rules)))  -- returns-2

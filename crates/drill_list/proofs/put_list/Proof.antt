@@ -1,17 +1,17 @@
 -- `drill_list::put_list`.
 use native.Mathlib.Omega.{arith}
 use borrow.Author.Rules.{rules}
-use Rattle.drill_list.specs.Listing.{head-end, list_wrote}
+use Rattle.drill_list.specs.Listing.{head_end, list_wrote}
 use Rattle.drill_list.proofs.put_list.Statement.{statement}
 use Rattle.drill_list.proofs.put_list.Tie as tie
 
-pub put-list-spec : {M : Type 1} → statement M
-put-list-spec =
+pub put_list_spec : {M : Type 1} → statement M
+put_list_spec =
     tie.close
     (tie.spec
     (λ c κs. search rules)
     (λ c κs. (
-      omega (arith, head-end _ _ (omega arith) (omega arith) c.before.before.before.put-head.ensures),
+      omega (arith, head_end _ _ (omega arith) (omega arith) c.before.before.before.put-head.ensures),
       search
           rules,
     ))  -- put-dots-requires

@@ -4,22 +4,22 @@ use borrow.Author.Rules.{rules}
 use borrow.Author.Tests.{eq-eqb, ne_eqb, lt-ltb, le-ltb}
 use Rattle.definition.specs.Answers.{number_of}
 use Rattle.definition.specs.Refusals.{lowest}
-use Rattle.definition.specs.Load.{loadRefusal}
+use Rattle.definition.specs.Load.{load_refusal}
 use Rattle.checks.specs.Checks.{checked, short, enough}
 use Rattle.fresh_sheet.proofs.check_load.Statement.{statement}
 use Rattle.fresh_sheet.proofs.check_load.Tie as tie
 
 -- a knit above 1 gives 11
-no-knit : tie.Need-returns-2
-unfolding checked number_of lowest loadRefusal
-no-knit c =
+no_knit : tie.Need-returns-2
+unfolding checked number_of lowest load_refusal
+no_knit c =
     let knit = c.before.before.before.before.args.knit in
     simp (ne_eqb _ 0 c.before.if1.false, lt-ltb 1 knit (omega arith))
 
 -- past the tests of lengths, the greys decide
-one-high : tie.Need-returns-7
-unfolding checked number_of lowest loadRefusal
-one-high c =
+one_high : tie.Need-returns-7
+unfolding checked number_of lowest load_refusal
+one_high c =
     let d = c.before in
     simp (
       ne_eqb _ 0 d.before.before.before.before.before.if1.false,
@@ -33,9 +33,9 @@ one-high c =
     )
 
 -- past all of them nothing is amiss
-all-enough : tie.Need-returns-8
-unfolding checked number_of lowest loadRefusal
-all-enough c =
+all_enough : tie.Need-returns-8
+unfolding checked number_of lowest load_refusal
+all_enough c =
     let d = c.before in
     simp (
       ne_eqb _ 0 d.before.before.before.before.before.if1.false,
@@ -48,15 +48,15 @@ all-enough c =
       c.if7.false,
     )
 
-pub check-load-spec : {M : Type 1} → statement M
-unfolding checked number_of lowest loadRefusal
-check-load-spec =
+pub check_load_spec : {M : Type 1} → statement M
+unfolding checked number_of lowest load_refusal
+check_load_spec =
     tie.close
     (tie.spec
     (λ c κs. search rules)
     (λ c κs. search rules)
     (λ c. simp (eq-eqb _ 0 c.if1.true))  -- returns
-    no-knit
+    no_knit
     (λ c.
     simp (
       ne_eqb _ 0 c.before.before.if1.false,
@@ -88,5 +88,5 @@ check-load-spec =
       enough c.before.before.before.before.before.before.before.cell-count.ensures c.before.if5.false,
       short c.before.before.before.before.before.before.before.cell-count.ensures c.if6.true,
     ))  -- returns-6
-    one-high
-    all-enough)
+    one_high
+    all_enough)

@@ -1,7 +1,7 @@
 -- `laser::two_heads`: what the check says, then what Load says, told apart. That greys are bytes is known of the slice.
 use native.Mathlib.Omega.{arith}
 use borrow.Author.Rules.{rules}
-use Rattle.laser.specs.WaysOut.{refused-early, refused-late, sheet-lent, ran-all}
+use Rattle.laser.specs.WaysOut.{refused_early, refused_late, sheet_lent, ran_all}
 use Rattle.laser.proofs.two_heads.Statement.{statement}
 use Rattle.laser.proofs.two_heads.Tie as tie
 
@@ -11,18 +11,18 @@ left_alone c =
     let side = c.before.before.before.before in
     let power = side.before in
     let a = power.before.before.before.before.args in
-    refused-early a.side a.knit power.power-of.ensures _ _ _ _ _ side.check-side.ensures
+    refused_early a.side a.knit power.power-of.ensures _ _ _ _ _ side.check-side.ensures
     c.before.before.why.given.1 c.refused.ensures
 
 -- refused by Load, with nothing changed
-left-by-load : tie.Need-returns-2
-left-by-load c =
+left_by_load : tie.Need-returns-2
+left_by_load c =
     let load = c.before.before.before.before.before.before.before.before.before in
     let passed = load.before.before.before.before in
     let side = passed.before.before in
     let power = side.before in
     let a = power.before.before.before.before.args in
-    refused-late a.side a.knit power.power-of.ensures _ _ _ _ _ side.check-side.ensures
+    refused_late a.side a.knit power.power-of.ensures _ _ _ _ _ side.check-side.ensures
     passed.enum_told.given.1 load.load.ensures c.before.before.status.given.1
     c.refused2.ensures
 
@@ -34,7 +34,7 @@ lent c κs =
     let side = passed.before.before in
     let power = side.before in
     let a = power.before.before.before.before.args in
-    sheet-lent a.side a.knit power.power-of.ensures _ _ _ _ _ side.check-side.ensures
+    sheet_lent a.side a.knit power.power-of.ensures _ _ _ _ _ side.check-side.ensures
     passed.enum_told.given.1 load.load.ensures c.before.before.before.enum-told2.given.1
     (λ i. omega (arith, power.before.before.before.shared-slice-known.given i))
 
@@ -46,14 +46,14 @@ ran c =
     let side = passed.before.before in
     let power = side.before in
     let a = power.before.before.before.before.args in
-    ran-all a.side a.knit power.power-of.ensures _ _ _ _ _ side.check-side.ensures
+    ran_all a.side a.knit power.power-of.ensures _ _ _ _ _ side.check-side.ensures
     passed.enum_told.given.1 load.load.ensures
     sheet.before.before.before.before.enum-told2.given.1
     (λ i. omega (arith, power.before.before.before.shared-slice-known.given i))
-    sheet.run-sheet.ensures
+    sheet.run_sheet.ensures
 
-pub two-heads-spec : {M : Type 1} → statement M
-two-heads-spec =
+pub two_heads_spec : {M : Type 1} → statement M
+two_heads_spec =
     tie.close
     (tie.spec
     (λ c κs. search rules)
@@ -70,7 +70,7 @@ two-heads-spec =
     (λ c. search rules)
     (λ c. search rules)
     (λ c. search rules)
-    left-by-load
+    left_by_load
     (λ c. search rules)
     (λ c. search rules)
     (λ c. search rules)

@@ -1,13 +1,13 @@
 -- `load::load`: what the check says, told apart.
 use borrow.Author.Rules.{rules}
 use Rattle.refusals.specs.Powers.{power_small}
-use Rattle.load.specs.Loading.{refused-is, room, loaded-is}
+use Rattle.load.specs.Loading.{refused_is, room, loaded_is}
 use Rattle.load.proofs.load.Statement.{statement}
 use Rattle.load.proofs.load.Tie as tie
 
 -- where it is refused, nothing has changed
 left_alone : tie.Need-returns
-left_alone c = search (refused-is, rules)
+left_alone c = search (refused_is, rules)
 
 pub load_spec : {M : Type 1} → statement M
 load_spec =
@@ -26,4 +26,4 @@ load_spec =
     (λ c. search rules)
     (λ c. search rules)
     (λ c. search rules)
-    (λ c. search (loaded-is, rules)))  -- returns-2
+    (λ c. search (loaded_is, rules)))  -- returns-2

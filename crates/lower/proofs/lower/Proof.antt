@@ -4,12 +4,12 @@ use mathlib.Core.Path.{◌≡◌}
 use native.Mathlib.Omega.{arith}
 use lib.ListN.{length}
 use borrow.Author.Rules.{rules}
-use Rattle.lower.specs.Loops.{loweredTo, none-lowered, one-lowered, all-lowered, still-as-long}
+use Rattle.lower.specs.Loops.{lowered_to, none_lowered, one_lowered, all_lowered, still_as_long}
 use Rattle.lower.proofs.lower.Statement.{statement}
 use Rattle.lower.proofs.lower.Tie as tie
 
 abbrev invariant-loop : tie.invariant-loop
-invariant-loop greys₀ count i₀ greys i = greys ≡ loweredTo i greys₀
+invariant-loop greys₀ count i₀ greys i = greys ≡ lowered_to i greys₀
 
 abbrev decreases-loop : tie.decreases-loop
 decreases-loop greys₀ count i₀ greys i = count - i
@@ -20,12 +20,12 @@ lower_spec =
     (tie.spec
     invariant-loop
     decreases-loop
-    (λ c. search (none-lowered, rules))  -- loop-holds
-    (λ c. omega (arith, still-as-long _ _ c.before.before.loop.invariant))  -- slice-read-low
+    (λ c. search (none_lowered, rules))  -- loop-holds
+    (λ c. omega (arith, still_as_long _ _ c.before.before.loop.invariant))  -- slice-read-low
     (λ c κs. search rules)
-    (λ c. omega (arith, still-as-long _ _ c.before.before.before.loop.invariant))  -- slice-write-greys
+    (λ c. omega (arith, still_as_long _ _ c.before.before.before.loop.invariant))  -- slice-write-greys
     (λ c. omega arith)
     (λ c. search rules)
-    (λ c. search (one-lowered, rules))  -- loop-again
-    (λ c. search (still-as-long, rules))  -- same-length
-    (λ c. search (all-lowered, rules)))  -- returns
+    (λ c. search (one_lowered, rules))  -- loop-again
+    (λ c. search (still_as_long, rules))  -- same-length
+    (λ c. search (all_lowered, rules)))  -- returns

@@ -1,6 +1,6 @@
 -- `macroblock::is_clear`.
 use borrow.Author.Rules.{rules}
-use Rattle.macroblock.specs.Clear.{clear_first, clear-last, clear-inside}
+use Rattle.macroblock.specs.Clear.{clear_first, clear_last, clear_inside}
 use Rattle.macroblock.proofs.is_clear.Statement.{statement}
 use Rattle.macroblock.proofs.is_clear.Tie as tie
 
@@ -9,10 +9,10 @@ first : tie.Need-returns
 first c = search (clear_first, rules)
 
 last : tie.Need-returns-2
-last c = search (clear-last, rules)
+last c = search (clear_last, rules)
 
-pub is-clear-spec : {M : Type 1} → statement M
-is-clear-spec =
+pub is_clear_spec : {M : Type 1} → statement M
+is_clear_spec =
     tie.close
     (tie.spec
     (λ c. search rules)
@@ -21,4 +21,4 @@ is-clear-spec =
     (λ c κs. search rules)
     (λ c. search rules)
     last
-    (λ c. search (clear-inside, rules)))  -- returns-3
+    (λ c. search (clear_inside, rules)))  -- returns-3

@@ -1,12 +1,12 @@
 -- `macroblock::largest`.
 use borrow.Author.Rules.{rules}
-use Rattle.macroblock.specs.FourBlocks.{largestOf}
+use Rattle.macroblock.specs.FourBlocks.{largest_of}
 use Rattle.macroblock.proofs.largest.Statement.{statement}
 use Rattle.macroblock.proofs.largest.Tie as tie
 
-pub largest-spec : {M : Type 1} → statement M
-unfolding largestOf
-largest-spec =
+pub largest_spec : {M : Type 1} → statement M
+unfolding largest_of
+largest_spec =
     tie.close
     (tie.spec
     (λ c κs. search rules)

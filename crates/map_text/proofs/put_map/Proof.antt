@@ -2,12 +2,12 @@
 use native.Mathlib.Omega.{arith}
 use borrow.Author.Rules.{rules}
 use Rattle.decimals.specs.Writing.{field_end}
-use Rattle.map_text.specs.Written.{map-wrote}
+use Rattle.map_text.specs.Written.{map_wrote}
 use Rattle.map_text.proofs.put_map.Statement.{statement}
 use Rattle.map_text.proofs.put_map.Tie as tie
 
-pub put-map-spec : {M : Type 1} → statement M
-put-map-spec =
+pub put_map_spec : {M : Type 1} → statement M
+put_map_spec =
     tie.close
     (tie.spec
     (λ c κs. search rules)
@@ -16,4 +16,4 @@ put-map-spec =
       search rules,
     ))  -- put-greys-requires
     (λ c. search rules)
-    (λ c. search (map-wrote, rules)))  -- returns
+    (λ c. search (map_wrote, rules)))  -- returns

@@ -5,8 +5,8 @@ use Rattle.names.specs.Names.{below_one, from_one}
 use Rattle.names.proofs.is_name.Statement.{statement}
 use Rattle.names.proofs.is_name.Tie as tie
 
-pub is-name-spec : {M : Type 1} → statement M
-is-name-spec =
+pub is_name_spec : {M : Type 1} → statement M
+is_name_spec =
     tie.close
     (tie.spec
     (λ c. below_one _ (omega arith))  -- returns

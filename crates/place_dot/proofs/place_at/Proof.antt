@@ -2,16 +2,16 @@
 use native.Mathlib.Omega.{arith}
 use borrow.Author.Rules.{rules}
 use Rattle.place_dot.specs.Placed.{
-  around-asked,
+  around_asked,
   parts_are,
-  own-few,
-  off-bytes,
-  off-in,
-  place-asked,
-  renew-asked,
-  numbers-few,
+  own_few,
+  off_bytes,
+  off_in,
+  place_asked,
+  renew_asked,
+  numbers_few,
   cells_fit,
-  note-asked,
+  note_asked,
   placed,
 }
 use Rattle.place_dot.proofs.place_at.Statement.{statement}
@@ -22,32 +22,32 @@ dotted : tie.Need-returns
 dotted c =
     let after = c.before.before.before.before.before.before.before.before in
     let s = after.before.before.before.before.before.before.before.before.before.before.before in
-    let of-sheet = placed _ _ _ _ _ _ _ s.requires.0 s.requires.1.0 in
-    search (of-sheet, rules)
+    let of_sheet = placed _ _ _ _ _ _ _ s.requires.0 s.requires.1.0 in
+    search (of_sheet, rules)
 
-pub place-at-spec : {M : Type 1} → statement M
-place-at-spec =
+pub place_at_spec : {M : Type 1} → statement M
+place_at_spec =
     tie.close
     (tie.spec
     (λ c κs. search rules)
-    (λ c κs. (search rules, search (around-asked, rules)))  -- parts-around-requires
+    (λ c κs. (search rules, search (around_asked, rules)))  -- parts-around-requires
     (λ c κs. search rules)
     (λ c. let s = c.before.before.before.before.before.before in
     omega (
       arith,
-      own-few _ _ _ _ _ _ _ s.requires.0 s.requires.1.0
+      own_few _ _ _ _ _ _ _ s.requires.0 s.requires.1.0
           (parts_are _ _ _ _ _ _ _ s.requires.0 s.requires.1.0 c.before.before.before.pow2.ensures
           c.before.before.parts-around.ensures),
     ))
-    (λ c. search (off-bytes, rules))  -- mul-place
-    (λ c. search (off-in, rules))  -- sub-place
-    (λ c. search (off-in, rules))  -- part-place-start
+    (λ c. search (off_bytes, rules))  -- mul-place
+    (λ c. search (off_in, rules))  -- sub-place
+    (λ c. search (off_in, rules))  -- part-place-start
     (λ c. search rules)
-    (λ c κs. (search (place-asked, parts_are, rules), (search rules, search (parts_are, rules))))  -- place-requires
+    (λ c κs. (search (place_asked, parts_are, rules), (search rules, search (parts_are, rules))))  -- place-requires
     (λ c κs.
     let parts_at = c.before.before.before.before.before.before in
     let s = parts_at.before.before.before.before in
-    let asked = renew-asked _ _ _ _ _ _ _ s.requires.0 s.requires.1.0 in
+    let asked = renew_asked _ _ _ _ _ _ _ s.requires.0 s.requires.1.0 in
     let parts =
     parts_are _ _ _ _ _ _ _ s.requires.0 s.requires.1.0 parts_at.before.pow2.ensures
     parts_at.parts-around.ensures in
@@ -55,18 +55,18 @@ place-at-spec =
     (λ c.
     let side = c.before.before.before.before.before.before.before.before.before.before.before in
     let s = side.before.before.before in
-    let few = numbers-few _ _ _ _ _ _ _ s.requires.0 s.requires.1.0 side.pow2.ensures in
+    let few = numbers_few _ _ _ _ _ _ _ s.requires.0 s.requires.1.0 side.pow2.ensures in
     omega (arith, few, cells_fit _ _ _ _ _ _ _ s.requires.0 s.requires.1.0))  -- mul-note
     (λ c.
     let side = c.before.before.before.before.before.before.before.before.before.before.before in
     let s = side.before.before.before in
-    let few = numbers-few _ _ _ _ _ _ _ s.requires.0 s.requires.1.0 side.pow2.ensures in
+    let few = numbers_few _ _ _ _ _ _ _ s.requires.0 s.requires.1.0 side.pow2.ensures in
     omega (arith, few, cells_fit _ _ _ _ _ _ _ s.requires.0 s.requires.1.0))  -- add-note
     (λ c κs.
     let side = c.before.before.before.before.before.before.before.before.before.before.before in
     let s = side.before.before.before in
-    let few = numbers-few _ _ _ _ _ _ _ s.requires.0 s.requires.1.0 side.pow2.ensures in
-    note-asked _ _ _ _ _ _ _ s.requires.0 s.requires.1.0 _ (omega (arith, few)))  -- note-requires
+    let few = numbers_few _ _ _ _ _ _ _ s.requires.0 s.requires.1.0 side.pow2.ensures in
+    note_asked _ _ _ _ _ _ _ s.requires.0 s.requires.1.0 _ (omega (arith, few)))  -- note-requires
     (λ c. search rules)
     (λ c. search rules)
     (λ c. search rules)

@@ -5,8 +5,8 @@ use native.Mathlib.Omega.{arith}
 use borrow.Author.Rules.{rules}
 use lib.ListN.{length}
 use lib.Pow.{pow_pos}
-use Rattle.decimals.specs.Writing.{wrote-length}
-use Rattle.program_texts.specs.Sketching.{CapsWritten, caps-none, caps-more}
+use Rattle.decimals.specs.Writing.{wrote_length}
+use Rattle.program_texts.specs.Sketching.{CapsWritten, caps_none, caps_more}
 use Rattle.program_texts.proofs.put_caps.Statement.{statement}
 use Rattle.program_texts.proofs.put_caps.Tie as tie
 
@@ -16,14 +16,14 @@ invariant-loop out₀ from k caps count at₀ i₀ out at i = (i ≤ length caps
 abbrev decreases-loop : tie.decreases-loop
 decreases-loop out₀ from k caps count at₀ i₀ out at i = length caps - i
 
-pub put-caps-spec : {M : Type 1} → statement M
-put-caps-spec =
+pub put_caps_spec : {M : Type 1} → statement M
+put_caps_spec =
     tie.close
     (tie.spec
     invariant-loop
     decreases-loop
     (λ c κs. search rules)
-    (λ c. (omega arith, search (caps-none, rules)))  -- loop-holds
+    (λ c. (omega arith, search (caps_none, rules)))  -- loop-holds
     (λ c. omega (arith, c.before.before.before.before.before.before.requires.1.few))
     (λ c. search rules)
     (λ c. omega (arith, c.shared-slice-known2.given c.before.before.before.loop.i))
@@ -41,10 +41,10 @@ put-caps-spec =
     let t = c.before.before.before.before.before.before in
     let put = c.before.before.put-cap.ensures in (
       omega arith,
-      caps-more _ t.loop.i t.loop.invariant.1 t.before.pow2.ensures put.0
+      caps_more _ t.loop.i t.loop.invariant.1 t.before.pow2.ensures put.0
           put.1,
     ))  -- loop-again
-    (λ c. wrote-length c.before.loop.invariant.1.wrote)  -- same-length
+    (λ c. wrote_length c.before.loop.invariant.1.wrote)  -- same-length
     (λ c.
     let e : c.before.loop.i ≡ length c.before.before.before.before.before.args.caps.now = omega arith in
     rw e at c.before.loop.invariant.1))  -- returns

@@ -1,12 +1,12 @@
 -- `program_texts::run_map`: Load leaves the model's start, and Advance the finished sheet.
 use native.Mathlib.Omega.{arith}
 use borrow.Author.Rules.{rules}
-use Rattle.program_texts.specs.Finished.{map-finished}
+use Rattle.program_texts.specs.Finished.{map_finished}
 use Rattle.program_texts.proofs.run_map.Statement.{statement}
 use Rattle.program_texts.proofs.run_map.Tie as tie
 
-pub run-map-spec : {M : Type 1} → statement M
-run-map-spec =
+pub run_map_spec : {M : Type 1} → statement M
+run_map_spec =
     tie.close
     (tie.spec
     (λ c κs. search rules)
@@ -17,5 +17,5 @@ run-map-spec =
     (λ c.
     let last = c.before.before.before.before.before.before in
     let first = last.before.before.before.before.before.before.before.before.before in
-    map-finished _ _ _ _ _ first.before.before.before.before.before.before.before.requires _ first.load.ensures
+    map_finished _ _ _ _ _ first.before.before.before.before.before.before.before.requires _ first.load.ensures
     _ (omega arith) last.advance.ensures))  -- returns

@@ -2,10 +2,10 @@
 use native.Mathlib.Omega.{arith}
 use Rattle.pyramid.specs.Upward.{
   up_in,
-  level-asked,
-  off-in,
-  length-off,
-  next-whole,
+  level_asked,
+  off_in,
+  length_off,
+  next_whole,
   next_small,
   back_done,
   nothing_above,
@@ -25,24 +25,24 @@ use Rattle.pyramid.proofs.+sum_up.Tie.{close}
 abbrev μ-sum-up : Measures 1 sum-up-kinds.ps ℕ
 μ-sum-up κs a = a.1.0
 
-abbrev sum-up-at : ℕ → In 1 sum-up-kinds.ps
-sum-up-at t = and 1 sum-up-kinds.ps (is 1 sum-up-kinds.ps μ-sum-up t) sum-up.Pre
+abbrev sum_up_at : ℕ → In 1 sum-up-kinds.ps
+sum_up_at t = and 1 sum-up-kinds.ps (is 1 sum-up-kinds.ps μ-sum-up t) sum-up.Pre
 
-abbrev sum-up-below : ℕ → In 1 sum-up-kinds.ps
-sum-up-below t = and 1 sum-up-kinds.ps (falls 1 sum-up-kinds.ps ◌<◌ μ-sum-up t) sum-up.Pre
+abbrev sum_up_below : ℕ → In 1 sum-up-kinds.ps
+sum_up_below t = and 1 sum-up-kinds.ps (falls 1 sum-up-kinds.ps ◌<◌ μ-sum-up t) sum-up.Pre
 
-pub +sum-up-spec : {M : Type 1} → statement M
-+sum-up-spec =
+pub +sum_up_spec : {M : Type 1} → statement M
++sum_up_spec =
     close μ-sum-up λ t.
     sum-up-lts.spec (
       level-start-reads.Asked,
       level-start-reads.Learnt,
       fill-level-reads.Asked,
       fill-level-reads.Learnt,
-      sum-up-below t,
+      sum_up_below t,
       sum-up.Post,
     )
-    (sum-up-at t) sum-up.Post
+    (sum_up_at t) sum-up.Post
     (λ c. search rules)
     (λ c κs. search rules)
     (λ c.
@@ -56,12 +56,12 @@ pub +sum-up-spec : {M : Type 1} → statement M
     (λ c. search (up_in, rules))  -- part-fill-level-start
     (λ c. search rules)
     (λ c. search rules)
-    (λ c κs. (search rules, search (level-asked, rules)))  -- fill-level-requires
+    (λ c κs. (search rules, search (level_asked, rules)))  -- fill-level-requires
     (λ c κs. search rules)
-    (λ c. search (off-in, rules))  -- slice-relend-prefix-sum-up
-    (λ c. search (length-off, rules))  -- slice-aggregate-sum-up
+    (λ c. search (off_in, rules))  -- slice-relend-prefix-sum-up
+    (λ c. search (length_off, rules))  -- slice-aggregate-sum-up
     (λ c. search rules)
-    (λ c κs. (search rules, (search (next-whole, rules), search (next_small, rules))))  -- sum-up-requires
+    (λ c κs. (search rules, (search (next_whole, rules), search (next_small, rules))))  -- sum-up-requires
     (λ c. search rules)
     (λ c. search (back_done, rules))  -- returns
     (λ c. search (nothing_above, rules))  -- returns-2

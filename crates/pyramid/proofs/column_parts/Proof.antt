@@ -4,8 +4,8 @@ use Prim.Native.Nat.{◌-◌}
 use native.Mathlib.Omega.{arith}
 use borrow.Author.Rules.{rules}
 use Rattle.definition.specs.Quarters.{interleaved}
-use Rattle.integers.specs.Fill.{filled, filled_none, filled-store}
-use Rattle.pyramid.specs.Cells.{columns-found}
+use Rattle.integers.specs.Fill.{filled, filled_none, filled_store}
+use Rattle.pyramid.specs.Cells.{columns_found}
 use Rattle.pyramid.proofs.column_parts.Statement.{statement}
 use Rattle.pyramid.proofs.column_parts.Tie as tie
 
@@ -15,8 +15,8 @@ invariant-loop table side columns₀ b₀ columns b = columns ≡ filled (interl
 abbrev decreases-loop : tie.decreases-loop
 decreases-loop table side columns₀ b₀ columns b = side - b
 
-pub column-parts-spec : {M : Type 1} → statement M
-column-parts-spec =
+pub column_parts_spec : {M : Type 1} → statement M
+column_parts_spec =
     tie.close
     (tie.spec
     invariant-loop
@@ -27,5 +27,5 @@ column-parts-spec =
     (λ c. omega arith)
     (λ c. omega arith)
     (λ c. omega arith)
-    (λ c. filled-store _ _ _ (omega arith) c.before.before.loop.invariant c.column-part.ensures)  -- loop-again
-    (λ c. search (columns-found, rules)))  -- returns
+    (λ c. filled_store _ _ _ (omega arith) c.before.before.loop.invariant c.column-part.ensures)  -- loop-again
+    (λ c. search (columns_found, rules)))  -- returns

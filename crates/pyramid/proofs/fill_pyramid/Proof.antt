@@ -1,12 +1,12 @@
 -- `pyramid::fill_pyramid`: the cells, then all levels over them.
 use native.Mathlib.Omega.{arith}
 use borrow.Author.Rules.{rules}
-use Rattle.pyramid.specs.Fresh.{cells_in, cells-asked, back_whole, back-small, fresh}
+use Rattle.pyramid.specs.Fresh.{cells_in, cells_asked, back_whole, back_small, fresh}
 use Rattle.pyramid.proofs.fill_pyramid.Statement.{statement}
 use Rattle.pyramid.proofs.fill_pyramid.Tie as tie
 
-pub fill-pyramid-spec : {M : Type 1} → statement M
-fill-pyramid-spec =
+pub fill_pyramid_spec : {M : Type 1} → statement M
+fill_pyramid_spec =
     tie.close
     (tie.spec
     (λ c κs. search rules)
@@ -20,7 +20,7 @@ fill-pyramid-spec =
     (λ c. search (cells_in, rules))  -- sub-fill-cells
     (λ c. search (cells_in, rules))  -- part-fill-cells-start
     (λ c. search rules)
-    (λ c κs. (search (cells-asked, rules), search rules))  -- fill-cells-requires
-    (λ c κs. (search (back_whole, rules), search (back-small, rules)))  -- sum-up-requires
+    (λ c κs. (search (cells_asked, rules), search rules))  -- fill-cells-requires
+    (λ c κs. (search (back_whole, rules), search (back_small, rules)))  -- sum-up-requires
     (λ c. search rules)
     (λ c. search (fresh, rules)))  -- returns

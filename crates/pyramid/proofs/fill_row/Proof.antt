@@ -2,8 +2,8 @@
 use Prim.Native.Nat.{◌+◌, ◌*◌, ◌-◌, ◌≤◌}
 use borrow.Author.Rules.{rules}
 use Rattle.pyramid.specs.PyramidPart.{MoreFilled}
-use Rattle.pyramid.specs.Cells.{below-side, line-fits, number_fits, number_in, column-scaled, column-few}
-use Rattle.pyramid.specs.Cells.{place-fits, place-scaled, place-there, one_more, row-none, row_done}
+use Rattle.pyramid.specs.Cells.{below_side, line_fits, number_fits, number_in, column_scaled, column_few}
+use Rattle.pyramid.specs.Cells.{place_fits, place_scaled, place_there, one_more, row_none, row_done}
 use Rattle.pyramid.proofs.fill_row.Statement.{statement}
 use Rattle.pyramid.proofs.fill_row.Tie as tie
 
@@ -14,23 +14,23 @@ invariant-loop part₀ columns greys first row r side column₀ part column =
 abbrev decreases-loop : tie.decreases-loop
 decreases-loop part₀ columns greys first row r side column₀ part column = side - column
 
-pub fill-row-spec : {M : Type 1} → statement M
-fill-row-spec =
+pub fill_row_spec : {M : Type 1} → statement M
+fill_row_spec =
     tie.close
     (tie.spec
     invariant-loop
     decreases-loop
     (λ c κs. search rules)
-    (λ c. search (row-none, rules))  -- loop-holds
-    (λ c. search (line-fits, below-side, rules))  -- mul-residual
-    (λ c. search (number_fits, below-side, rules))  -- add-residual
-    (λ c. search (number_in, below-side, rules))  -- shared-slice-read-residual
+    (λ c. search (row_none, rules))  -- loop-holds
+    (λ c. search (line_fits, below_side, rules))  -- mul-residual
+    (λ c. search (number_fits, below_side, rules))  -- add-residual
+    (λ c. search (number_in, below_side, rules))  -- shared-slice-read-residual
     (λ c κs. search rules)
-    (λ c. search (column-scaled, rules))
-    (λ c. search (column-few, rules))
-    (λ c. search (place-fits, rules))
-    (λ c. search (place-scaled, rules))  -- mul-z
-    (λ c. search (place-there, rules))  -- slice-set-from-z
+    (λ c. search (column_scaled, rules))
+    (λ c. search (column_few, rules))
+    (λ c. search (place_fits, rules))
+    (λ c. search (place_scaled, rules))  -- mul-z
+    (λ c. search (place_there, rules))  -- slice-set-from-z
     (λ c. search rules)
     (λ c. search rules)
     (λ c. search (one_more, rules))  -- loop-again

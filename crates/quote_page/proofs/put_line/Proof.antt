@@ -16,8 +16,8 @@ columns c =
     line_wrote _ _ _ _ _ y1.put-column.ensures.0 y2.put-column2.ensures.0 y3.put-column3.ensures.0
     y4.put-column4.ensures.0 y5.put-column5.ensures.0
 
-pub put-line-spec : {M : Type 1} → statement M
-put-line-spec =
+pub put_line_spec : {M : Type 1} → statement M
+put_line_spec =
     tie.close
     (tie.spec
     (λ c κs. search rules)

@@ -2,8 +2,8 @@
 use Prim.Native.Nat.{◌-◌, ◌≤◌}
 use native.Mathlib.Omega.{arith}
 use lib.ListN.{length, take}
-use Rattle.decimals.specs.Writing.{Wrote, wrote_none, wrote-length}
-use Rattle.refusal_line.specs.Line.{one-more-byte, all-bytes}
+use Rattle.decimals.specs.Writing.{Wrote, wrote_none, wrote_length}
+use Rattle.refusal_line.specs.Line.{one_more_byte, all_bytes}
 use Rattle.refusal_line.proofs.put_bytes.Statement.{statement}
 use Rattle.refusal_line.proofs.put_bytes.Tie as tie
 
@@ -13,8 +13,8 @@ invariant-loop out₀ bytes i₀ out i = (i ≤ length bytes) × Wrote out₀ 0 
 abbrev decreases-loop : tie.decreases-loop
 decreases-loop out₀ bytes i₀ out i = length bytes - i
 
-pub put-bytes-spec : {M : Type 1} → statement M
-put-bytes-spec =
+pub put_bytes_spec : {M : Type 1} → statement M
+put_bytes_spec =
     tie.close
     (tie.spec
     invariant-loop
@@ -27,8 +27,8 @@ put-bytes-spec =
     (λ c.
     let turn = c.before.before.before.before.before in (
       omega arith,
-      one-more-byte _ _ turn.before.loop.invariant.1 turn.loop-test.true
+      one_more_byte _ _ turn.before.loop.invariant.1 turn.loop-test.true
           c.before.before.put_byte.ensures,
     ))  -- loop-again
-    (λ c. wrote-length c.before.loop.invariant.1)  -- same-length
-    (λ c. all-bytes _ _ c.before.loop.invariant.1 c.loop-test.false))  -- returns
+    (λ c. wrote_length c.before.loop.invariant.1)  -- same-length
+    (λ c. all_bytes _ _ c.before.loop.invariant.1 c.loop-test.false))  -- returns

@@ -1,12 +1,12 @@
 -- `refusal_line::put_refused`.
 use native.Mathlib.Omega.{arith}
 use borrow.Author.Rules.{rules}
-use Rattle.refusal_line.specs.Line.{line-printed}
+use Rattle.refusal_line.specs.Line.{line_printed}
 use Rattle.refusal_line.proofs.put_refused.Statement.{statement}
 use Rattle.refusal_line.proofs.put_refused.Tie as tie
 
-pub put-refused-spec : {M : Type 1} → statement M
-put-refused-spec =
+pub put_refused_spec : {M : Type 1} → statement M
+put_refused_spec =
     tie.close
     (tie.spec
     (λ c. search rules)
@@ -15,5 +15,5 @@ put-refused-spec =
     (λ c. search rules)
     (λ c.
     let word = c.before.before.before.before.before.before in
-    line-printed _ (omega arith) _ word.before.before.before.before.requires c.before.before.put-field.ensures
+    line_printed _ (omega arith) _ word.before.before.before.before.requires c.before.before.put-field.ensures
     word.put-bytes.ensures))  -- returns

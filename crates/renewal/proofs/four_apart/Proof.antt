@@ -2,14 +2,14 @@
 use native.Mathlib.Omega.{arith}
 use mir.Facts.{to_z-of_z}
 use borrow.Author.Rules.{rules}
-use Rattle.pyramid.specs.PyramidPart.{fourAt}
-use Rattle.pyramid.specs.Four.{asked-fit}
+use Rattle.pyramid.specs.PyramidPart.{four_at}
+use Rattle.pyramid.specs.Four.{asked_fit}
 use Rattle.renewal.proofs.four_apart.Statement.{statement}
 use Rattle.renewal.proofs.four_apart.Tie as tie
 
-pub four-apart-spec : {M : Type 1} → statement M
-unfolding fourAt
-four-apart-spec =
+pub four_apart_spec : {M : Type 1} → statement M
+unfolding four_at
+four_apart_spec =
     tie.close
     (tie.spec
     (λ c. omega (arith, c.requires.few))
@@ -22,7 +22,7 @@ four-apart-spec =
     (λ c. omega (arith, c.before.before.before.requires.few))
     (λ c κs. omega (arith, c.before.before.before.requires.four.room))
     (λ c.
-    let k = asked-fit _ _ _ c.before.before.before.before.requires.four in
+    let k = asked_fit _ _ _ c.before.before.before.before.requires.four in
     simp (
       c.before.before.before.entry.ensures,
       c.before.before.entry2.ensures,
@@ -31,7 +31,7 @@ four-apart-spec =
     )
     k.two)
     (λ c.
-    let k = asked-fit _ _ _ c.before.before.before.before.requires.four in
+    let k = asked_fit _ _ _ c.before.before.before.before.requires.four in
     simp (
       c.before.before.before.entry.ensures,
       c.before.before.entry2.ensures,
@@ -43,7 +43,7 @@ four-apart-spec =
     )
     k.three)
     (λ c.
-    let k = asked-fit _ _ _ c.before.before.before.before.requires.four in
+    let k = asked_fit _ _ _ c.before.before.before.before.requires.four in
     simp (
       c.before.before.before.entry.ensures,
       c.before.before.entry2.ensures,
@@ -58,7 +58,7 @@ four-apart-spec =
     )
     k.all)
     (λ c.
-    let k = asked-fit _ _ _ c.before.before.before.before.requires.four in
+    let k = asked_fit _ _ _ c.before.before.before.before.requires.four in
     simp (
       c.before.before.before.entry.ensures,
       c.before.before.entry2.ensures,

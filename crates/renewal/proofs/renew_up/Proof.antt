@@ -3,14 +3,14 @@ use native.Mathlib.Omega.{arith}
 use borrow.Author.Rules.{rules}
 use Rattle.renewal.specs.Upward.{
   Climbing,
-  climb-begins,
-  climb-long,
-  climb-some,
-  places-some,
-  four-asked,
-  climb-on,
-  climb-rising,
-  climb-inside,
+  climb_begins,
+  climb_long,
+  climb_some,
+  places_some,
+  four_asked,
+  climb_on,
+  climb_rising,
+  climb_inside,
   climbed,
 }
 use Rattle.renewal.proofs.renew_up.Statement.{statement}
@@ -23,26 +23,26 @@ invariant-loop pyramid₀ level a b c d k₀ nw₀ ne₀ sw₀ se₀ pyramid k n
 abbrev decreases-loop : tie.decreases-loop
 decreases-loop pyramid₀ level a b c d k₀ nw₀ ne₀ sw₀ se₀ pyramid k nw ne sw se = k
 
-pub renew-up-spec : {M : Type 1} → statement M
-renew-up-spec =
+pub renew_up_spec : {M : Type 1} → statement M
+renew_up_spec =
     tie.close
     (tie.spec
     invariant-loop
     decreases-loop
-    (λ c. search (climb-begins, rules))  -- loop-holds
-    (λ c κs. search (four-asked, rules))  -- renew-four-requires
+    (λ c. search (climb_begins, rules))  -- loop-holds
+    (λ c κs. search (four_asked, rules))  -- renew-four-requires
     (λ c. let s = c.before.before.before in
-    omega (arith, places-some s.before.loop.invariant s.loop-test.true))  -- sub-nw
+    omega (arith, places_some s.before.loop.invariant s.loop-test.true))  -- sub-nw
     (λ c. let s = c.before.before.before in
-    omega (arith, places-some s.before.loop.invariant s.loop-test.true))  -- sub-ne
+    omega (arith, places_some s.before.loop.invariant s.loop-test.true))  -- sub-ne
     (λ c. let s = c.before.before.before in
-    omega (arith, places-some s.before.loop.invariant s.loop-test.true))  -- sub-sw
+    omega (arith, places_some s.before.loop.invariant s.loop-test.true))  -- sub-sw
     (λ c. let s = c.before.before.before in
-    omega (arith, places-some s.before.loop.invariant s.loop-test.true))  -- sub-se
-    (λ c. search (climb-some, rules))  -- sub-k
+    omega (arith, places_some s.before.loop.invariant s.loop-test.true))  -- sub-se
+    (λ c. search (climb_some, rules))  -- sub-k
     (λ c. let s = c.before.before.before in
-    omega (arith, climb-some s.before.loop.invariant s.loop-test.true))  -- loop-less
-    (λ c. search (climb-on, rules))  -- loop-again
-    (λ c κs. (search (climb-rising, rules), search (climb-inside, rules)))  -- carry-up-requires
-    (λ c. search (climb-long, rules))  -- same-length
+    omega (arith, climb_some s.before.loop.invariant s.loop-test.true))  -- loop-less
+    (λ c. search (climb_on, rules))  -- loop-again
+    (λ c κs. (search (climb_rising, rules), search (climb_inside, rules)))  -- carry-up-requires
+    (λ c. search (climb_long, rules))  -- same-length
     (λ c. search (climbed, rules)))  -- returns

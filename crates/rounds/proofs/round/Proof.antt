@@ -3,23 +3,23 @@ use Prim.Native.Nat.{◌-◌}
 use borrow.Author.Rules.{rules}
 use Rattle.rounds.specs.Round.{
   Working,
-  row-asked,
-  column-asked,
+  row_asked,
+  column_asked,
   begins,
-  columns-some,
+  columns_some,
   count_fits,
-  same-pyramid,
-  same-serials,
-  same-order,
+  same_pyramid,
+  same_serials,
+  same_order,
   down_fits,
-  a-fits,
-  right-fits,
-  b-fits,
-  large-now,
-  still-long,
+  a_fits,
+  right_fits,
+  b_fits,
+  large_now,
+  still_long,
   next_fits,
   worked,
-  fits-now,
+  fits_now,
   goes_on,
 }
 use Rattle.rounds.proofs.round.Statement.{statement}
@@ -36,40 +36,40 @@ decreases-loop pyramid₀ serials₀ order₀ table knit r t dots row column row
     count - i
 
 -- the one worked is the next of the round
-one-worked : tie.Need-loop-preserved invariant-loop decreases-loop
-one-worked c = search (goes_on, rules)
+one_worked : tie.Need-loop-preserved invariant-loop decreases-loop
+one_worked c = search (goes_on, rules)
 
-pub round-spec : {M : Type 1} → statement M
-round-spec =
+pub round_spec : {M : Type 1} → statement M
+round_spec =
     tie.close
     (tie.spec
     invariant-loop
     decreases-loop
-    (λ c κs. search (row-asked, rules))  -- across-requires
-    (λ c κs. search (column-asked, rules))  -- across-requires-2
+    (λ c κs. search (row_asked, rules))  -- across-requires
+    (λ c κs. search (column_asked, rules))  -- across-requires-2
     (λ c. search (count_fits, rules))  -- mul-count
     (λ c. search (begins, rules))  -- loop-holds
-    (λ c. search (columns-some, rules))  -- div-a
-    (λ c. search (down_fits, right-fits, rules))  -- mul-a
-    (λ c. search (a-fits, rules))  -- add-a
-    (λ c. search (columns-some, rules))  -- rem-b
-    (λ c. search (down_fits, right-fits, rules))  -- mul-b
-    (λ c. search (b-fits, rules))  -- add-b
+    (λ c. search (columns_some, rules))  -- div-a
+    (λ c. search (down_fits, right_fits, rules))  -- mul-a
+    (λ c. search (a_fits, rules))  -- add-a
+    (λ c. search (columns_some, rules))  -- rem-b
+    (λ c. search (down_fits, right_fits, rules))  -- mul-b
+    (λ c. search (b_fits, rules))  -- add-b
     (λ c κs.
     let going = c.before.before.before.before in
     let figures = going.before in
     let start = figures.before.before.before.before in (
-      large-now _ _ _ _ _ _ _ start.requires.0 _ _ _ _ _ going.loop.invariant,
+      large_now _ _ _ _ _ _ _ start.requires.0 _ _ _ _ _ going.loop.invariant,
       (
-        fits-now _ _ _ _ _ _ _ start.requires.0 _ _ figures.before.across.ensures figures.across2.ensures
+        fits_now _ _ _ _ _ _ _ start.requires.0 _ _ figures.before.across.ensures figures.across2.ensures
             _ _ _ _ _ going.loop.invariant (search rules),
-        (search (still-long, going.loop.invariant, rules), search rules),
+        (search (still_long, going.loop.invariant, rules), search rules),
       ),
     ))  -- work-requires
     (λ c. search (next_fits, rules))  -- add-i
     (λ c. search rules)
-    one-worked
-    (λ c. search (same-pyramid, rules))  -- same-length
-    (λ c. search (same-serials, rules))  -- same-length-2
-    (λ c. search (same-order, rules))  -- same-length-3
+    one_worked
+    (λ c. search (same_pyramid, rules))  -- same-length
+    (λ c. search (same_serials, rules))  -- same-length-2
+    (λ c. search (same_order, rules))  -- same-length-3
     (λ c. search (worked, rules)))  -- returns

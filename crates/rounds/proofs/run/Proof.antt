@@ -1,15 +1,15 @@
 -- `rounds::run`: after each turn one round more is made.
 use Prim.Native.Nat.{◌-◌}
 use borrow.Author.Rules.{rules}
-use Rattle.heads.specs.TwoHeads.{mostRounds}
+use Rattle.heads.specs.TwoHeads.{most_rounds}
 use Rattle.rounds.specs.Run.{
   Going,
   begins,
-  same-pyramid,
-  same-serials,
-  same-order,
-  still-long,
-  large-now,
+  same_pyramid,
+  same_serials,
+  same_order,
+  still_long,
+  large_now,
   over,
   next_fits,
   fewer,
@@ -23,7 +23,7 @@ invariant-loop pyramid₀ serials₀ order₀ table knit r dots₀ idle₀ t₀ 
     Going knit r pyramid₀ serials₀ order₀ pyramid serials order dots idle t
 
 abbrev decreases-loop : tie.decreases-loop
-decreases-loop pyramid₀ serials₀ order₀ table knit r dots₀ idle₀ t₀ pyramid serials order dots idle t = mostRounds r - t
+decreases-loop pyramid₀ serials₀ order₀ table knit r dots₀ idle₀ t₀ pyramid serials order dots idle t = most_rounds r - t
 
 -- four rounds in a row end it
 ended : tie.Need-returns invariant-loop decreases-loop
@@ -36,12 +36,12 @@ run_spec =
     invariant-loop
     decreases-loop
     (λ c. search (begins, rules))  -- loop-holds
-    (λ c κs. (search (large-now, rules), (search (still-long, rules), search rules)))  -- round-requires
+    (λ c κs. (search (large_now, rules), (search (still_long, rules), search rules)))  -- round-requires
     (λ c κs. search rules)
     (λ c. search (next_fits, rules))  -- add-t
     (λ c. search (fewer, rules))  -- loop-less
     (λ c. search (goes_on, rules))  -- loop-again
-    (λ c. search (same-pyramid, rules))  -- same-length
-    (λ c. search (same-serials, rules))  -- same-length-2
-    (λ c. search (same-order, rules))  -- same-length-3
+    (λ c. search (same_pyramid, rules))  -- same-length
+    (λ c. search (same_serials, rules))  -- same-length-2
+    (λ c. search (same_order, rules))  -- same-length-3
     ended)

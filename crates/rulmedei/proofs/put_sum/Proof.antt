@@ -5,8 +5,8 @@ use lib.Seq.{set_out}
 use Rattle.rulmedei.proofs.put_sum.Statement.{statement}
 use Rattle.rulmedei.proofs.put_sum.Tie as tie
 
-pub put-sum-spec : {M : Type 1} → statement M
-put-sum-spec =
+pub put_sum_spec : {M : Type 1} → statement M
+put_sum_spec =
     tie.close
     (tie.spec
     (λ c. search rules)

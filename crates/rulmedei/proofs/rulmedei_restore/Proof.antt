@@ -1,11 +1,11 @@
 -- `rulmedei::rulmedei_restore`: the call's promise.
 use borrow.Author.Rules.{rules}
-use Rattle.rulmedei.specs.FromCalls.{restore-coded}
+use Rattle.rulmedei.specs.FromCalls.{restore_coded}
 use Rattle.rulmedei.proofs.rulmedei_restore.Statement.{statement}
 use Rattle.rulmedei.proofs.rulmedei_restore.Tie as tie
 
-pub rulmedei-restore-spec : {M : Type 1} → statement M
-rulmedei-restore-spec =
+pub rulmedei_restore_spec : {M : Type 1} → statement M
+rulmedei_restore_spec =
     tie.close
     (tie.spec
     (λ c κs. search rules)
@@ -13,4 +13,4 @@ rulmedei-restore-spec =
     (λ c. search rules)
     (λ c. search rules)
     (λ c. search rules)
-    (λ c. search (restore-coded, rules)))  -- returns
+    (λ c. search (restore_coded, rules)))  -- returns

@@ -1,14 +1,14 @@
 -- `rulmedei::rulmedei_shelf`: the call's promise, case by case.
 use borrow.Author.Rules.{rules}
-use Rattle.definition.specs.Answers.{shelfSays}
+use Rattle.definition.specs.Answers.{shelf_says}
 use Rattle.rulmedei.specs.Codes.{code_of}
-use Rattle.rulmedei.specs.FromCalls.{shelf-coded}
+use Rattle.rulmedei.specs.FromCalls.{shelf_coded}
 use Rattle.rulmedei.proofs.rulmedei_shelf.Statement.{statement}
 use Rattle.rulmedei.proofs.rulmedei_shelf.Tie as tie
 
-pub rulmedei-shelf-spec : {M : Type 1} → statement M
-unfolding code_of shelfSays
-rulmedei-shelf-spec =
+pub rulmedei_shelf_spec : {M : Type 1} → statement M
+unfolding code_of shelf_says
+rulmedei_shelf_spec =
     tie.close
     (tie.spec
     (λ c κs. search rules)
@@ -16,6 +16,6 @@ rulmedei-shelf-spec =
     (λ c. search rules)
     (λ c κs. search rules)
     (λ c. search rules)
-    (λ c. search (shelf-coded, rules))  -- returns
+    (λ c. search (shelf_coded, rules))  -- returns
     (λ c. search rules)
-    (λ c. search (shelf-coded, rules)))  -- returns-2
+    (λ c. search (shelf_coded, rules)))  -- returns-2

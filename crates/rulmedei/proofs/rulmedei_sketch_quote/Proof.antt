@@ -1,14 +1,14 @@
 -- `rulmedei::rulmedei_sketch_quote`: the call's promise, case by case.
 use borrow.Author.Rules.{rules}
-use Rattle.definition.specs.Answers.{sketchSays}
-use Rattle.rulmedei.specs.Codes.{code_of, valuesIn}
-use Rattle.rulmedei.specs.FromCalls.{sketch-coded}
+use Rattle.definition.specs.Answers.{sketch_says}
+use Rattle.rulmedei.specs.Codes.{code_of, values_in}
+use Rattle.rulmedei.specs.FromCalls.{sketch_coded}
 use Rattle.rulmedei.proofs.rulmedei_sketch_quote.Statement.{statement}
 use Rattle.rulmedei.proofs.rulmedei_sketch_quote.Tie as tie
 
-pub rulmedei-sketch-quote-spec : {M : Type 1} → statement M
-unfolding code_of valuesIn sketchSays
-rulmedei-sketch-quote-spec =
+pub rulmedei_sketch_quote_spec : {M : Type 1} → statement M
+unfolding code_of values_in sketch_says
+rulmedei_sketch_quote_spec =
     tie.close
     (tie.spec
     (λ c κs. search rules)
@@ -18,8 +18,8 @@ rulmedei-sketch-quote-spec =
     (λ c. search rules)
     (λ c. search rules)
     (λ c. search rules)
-    (λ c. search (sketch-coded, rules))  -- returns
+    (λ c. search (sketch_coded, rules))  -- returns
     (λ c. search rules)
     (λ c. search rules)
     (λ c. search rules)
-    (λ c. search (sketch-coded, rules)))  -- returns-2
+    (λ c. search (sketch_coded, rules)))  -- returns-2

@@ -14,8 +14,8 @@ invariant-loop text from pyramid₀ serials₀ order₀ calls last₀ j₀ pyram
 abbrev decreases-loop : tie.decreases-loop
 decreases-loop text from pyramid₀ serials₀ order₀ calls last₀ j₀ pyramid serials order last j = calls - j
 
-pub run-calls-spec : {M : Type 1} → statement M
-run-calls-spec = tie.close (tie.spec invariant-loop decreases-loop
+pub run_calls_spec : {M : Type 1} → statement M
+run_calls_spec = tie.close (tie.spec invariant-loop decreases-loop
     (λ c κs. tt)  -- next-requires
     (λ c. (refl, refl, refl))  -- loop-holds
     (λ c κs. tt)  -- run-call-requires

@@ -2,7 +2,7 @@
 use Prim.Native.Nat.{◌-◌, ◌≤◌}
 use native.Mathlib.Omega.{arith}
 use borrow.Author.Rules.{rules}
-use Rattle.sample_map.specs.Filled.{Sampled, sampled-none, sampled-more, sampled-all, length-sampled}
+use Rattle.sample_map.specs.Filled.{Sampled, sampled_none, sampled_more, sampled_all, length_sampled}
 use Rattle.sample_map.proofs.fill_greys.Statement.{statement}
 use Rattle.sample_map.proofs.fill_greys.Tie as tie
 
@@ -12,22 +12,22 @@ invariant-loop seed count greys₀ state₀ i₀ greys state i = (i ≤ count) �
 abbrev decreases-loop : tie.decreases-loop
 decreases-loop seed count greys₀ state₀ i₀ greys state i = count - i
 
-pub fill-greys-spec : {M : Type 1} → statement M
-fill-greys-spec =
+pub fill_greys_spec : {M : Type 1} → statement M
+fill_greys_spec =
     tie.close
     (tie.spec
     invariant-loop
     decreases-loop
-    (λ c. (omega arith, sampled-none _ _))  -- loop-holds
+    (λ c. (omega arith, sampled_none _ _))  -- loop-holds
     (λ c κs. search rules)
     (λ c κs. search rules)
-    (λ c. omega (arith, length-sampled (omega arith) c.before.before.before.loop.invariant.1))  -- slice-write-greys
+    (λ c. omega (arith, length_sampled (omega arith) c.before.before.before.loop.invariant.1))  -- slice-write-greys
     (λ c. omega arith)
     (λ c. omega arith)
     (λ c. (
       omega arith,
-      sampled-more c.before.before.before.loop.invariant.1 (omega arith)
-          c.before.next-state.ensures c.grey-of.ensures,
+      sampled_more c.before.before.before.loop.invariant.1 (omega arith)
+          c.before.next_state_lem.ensures c.grey-of.ensures,
     ))  -- loop-again
-    (λ c. length-sampled (omega arith) c.before.loop.invariant.1)  -- same-length
-    (λ c. sampled-all c.before.loop.invariant.0 (omega arith) c.before.loop.invariant.1))  -- returns
+    (λ c. length_sampled (omega arith) c.before.loop.invariant.1)  -- same-length
+    (λ c. sampled_all c.before.loop.invariant.0 (omega arith) c.before.loop.invariant.1))  -- returns

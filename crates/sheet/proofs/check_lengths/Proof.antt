@@ -4,22 +4,22 @@ use borrow.Author.Rules.{rules}
 use borrow.Author.Tests.{eq-eqb, ne_eqb, lt-ltb, le-ltb}
 use Rattle.definition.specs.Answers.{number_of}
 use Rattle.definition.specs.Refusals.{lowest}
-use Rattle.definition.specs.Advance.{advanceRefusal}
+use Rattle.definition.specs.Advance.{advance_refusal}
 use Rattle.checks.specs.Checks.{checked, short, enough}
 use Rattle.sheet.proofs.check_lengths.Statement.{statement}
 use Rattle.sheet.proofs.check_lengths.Tie as tie
 
 -- a knit above 1 gives 11
-no-knit : tie.Need-returns-2
-unfolding checked number_of lowest advanceRefusal
-no-knit c =
+no_knit : tie.Need-returns-2
+unfolding checked number_of lowest advance_refusal
+no_knit c =
     let knit = c.before.before.before.before.args.knit in
     simp (ne_eqb _ 0 c.before.if1.false, lt-ltb 1 knit (omega arith))
 
 -- past the tests nothing is amiss
-all-enough : tie.Need-returns-6
-unfolding checked number_of lowest advanceRefusal
-all-enough c =
+all_enough : tie.Need-returns-6
+unfolding checked number_of lowest advance_refusal
+all_enough c =
     simp (
       ne_eqb _ 0 c.before.before.before.before.if1.false,
       le-ltb 1 _ c.before.before.before.if2.false,
@@ -28,15 +28,15 @@ all-enough c =
       enough c.before.before.before.before.before.before.cell-count.ensures c.if5.false,
     )
 
-pub check-lengths-spec : {M : Type 1} → statement M
-unfolding checked number_of lowest advanceRefusal
-check-lengths-spec =
+pub check_lengths_spec : {M : Type 1} → statement M
+unfolding checked number_of lowest advance_refusal
+check_lengths_spec =
     tie.close
     (tie.spec
     (λ c κs. search rules)
     (λ c κs. search rules)
     (λ c. simp (eq-eqb _ 0 c.if1.true))  -- returns
-    no-knit
+    no_knit
     (λ c.
     simp (
       ne_eqb _ 0 c.before.before.if1.false,
@@ -58,4 +58,4 @@ check-lengths-spec =
       enough c.before.before.before.before.before.before.cell-count.ensures c.before.if4.false,
       short c.before.before.before.before.before.before.cell-count.ensures c.if5.true,
     ))  -- returns-5
-    all-enough)
+    all_enough)

@@ -2,8 +2,8 @@
 use Prim.Native.Nat.{◌-◌}
 use native.Mathlib.Omega.{arith}
 use borrow.Author.Rules.{rules}
-use Rattle.shelf.specs.Searching.{Searching, search-start, search-end}
-use Rattle.shelf.specs.Searching.{middle-fits, middle-asked, left-half, right-half}
+use Rattle.shelf.specs.Searching.{Searching, search_start, search_end}
+use Rattle.shelf.specs.Searching.{middle_fits, middle_asked, left_half, right_half}
 use Rattle.shelf.proofs.find_place.Statement.{statement}
 use Rattle.shelf.proofs.find_place.Tie as tie
 
@@ -13,22 +13,22 @@ invariant-loop plates list r n low₀ high₀ low high = Searching plates list r
 abbrev decreases-loop : tie.decreases-loop
 decreases-loop plates list r n low₀ high₀ low high = high - low
 
-pub find-place-spec : {M : Type 1} → statement M
-find-place-spec =
+pub find_place_spec : {M : Type 1} → statement M
+find_place_spec =
     tie.close
     (tie.spec
     invariant-loop
     decreases-loop
-    (λ c. search (search-start, rules))  -- loop-holds
+    (λ c. search (search_start, rules))  -- loop-holds
     (λ c. omega arith)
     (λ c. omega arith)
     (λ c. omega arith)
     (λ c. omega arith)
-    (λ c. search (middle-fits, rules))  -- cast-plate-before
-    (λ c κs. search (middle-asked, rules))  -- plate-before-requires
+    (λ c. search (middle_fits, rules))  -- cast-plate-before
+    (λ c κs. search (middle_asked, rules))  -- plate-before-requires
     (λ c. omega arith)
-    (λ c. search (left-half, rules))  -- loop-again
+    (λ c. search (left_half, rules))  -- loop-again
     (λ c. omega arith)
     (λ c. omega arith)
-    (λ c. search (right-half, rules))  -- loop-again-2
-    (λ c. search (search-end, rules)))  -- returns
+    (λ c. search (right_half, rules))  -- loop-again-2
+    (λ c. search (search_end, rules)))  -- returns

@@ -4,7 +4,7 @@ use mathlib.Core.Path.{◌≡◌, refl, ◌∙◌}
 use native.Mathlib.Omega.{arith}
 use lib.ListN.{length, length-set}
 use borrow.Author.Rules.{rules}
-use Rattle.shelf.specs.Putting.{carried, Carrying, carry-start, carry-next, carry-last}
+use Rattle.shelf.specs.Putting.{carried, Carrying, carry_start, carry_next, carry_last}
 use Rattle.shelf.proofs.put_at.Statement.{statement}
 use Rattle.shelf.proofs.put_at.Tie as tie
 
@@ -14,21 +14,21 @@ invariant-loop list₀ p n x carry₀ j₀ list carry j = Carrying list₀ p n x
 abbrev decreases-loop : tie.decreases-loop
 decreases-loop list₀ p n x carry₀ j₀ list carry j = n - j
 
-pub put-at-spec : {M : Type 1} → statement M
-put-at-spec =
+pub put_at_spec : {M : Type 1} → statement M
+put_at_spec =
     tie.close
     (tie.spec
     invariant-loop
     decreases-loop
-    (λ c. search (carry-start, rules))  -- loop-holds
+    (λ c. search (carry_start, rules))  -- loop-holds
     (λ c. omega arith)
     (λ c. omega arith)
     (λ c. omega arith)
     (λ c. omega arith)
     (λ c. search rules)
     (λ c. omega arith)
-    (λ c. search (carry-next, rules))  -- loop-again
+    (λ c. search (carry_next, rules))  -- loop-again
     (λ c. omega arith)
     (λ c. omega arith)
     (λ c. simp length-set c.before.loop.invariant.long)  -- same-length
-    (λ c. search (carry-last, rules)))  -- returns
+    (λ c. search (carry_last, rules)))  -- returns

@@ -2,7 +2,7 @@
 use Prim.Native.Nat.{◌-◌}
 use native.Mathlib.Omega.{arith}
 use borrow.Author.Rules.{rules}
-use Rattle.shelf.specs.Sorting.{Sorting, sort-start, place-asked, put-asked, sort-next, sort-end}
+use Rattle.shelf.specs.Sorting.{Sorting, sort_start, place_asked, put_asked, sort_next, sort_end}
 use Rattle.shelf.proofs.sort.Statement.{statement}
 use Rattle.shelf.proofs.sort.Tie as tie
 
@@ -12,19 +12,19 @@ invariant-loop plates list₀ r n i₀ list i = Sorting plates list₀ list r n 
 abbrev decreases-loop : tie.decreases-loop
 decreases-loop plates list₀ r n i₀ list i = n - i
 
-pub sort-spec : {M : Type 1} → statement M
-sort-spec =
+pub sort_spec : {M : Type 1} → statement M
+sort_spec =
     tie.close
     (tie.spec
     invariant-loop
     decreases-loop
-    (λ c. search (sort-start, rules))  -- loop-holds
+    (λ c. search (sort_start, rules))  -- loop-holds
     (λ c. omega arith)
-    (λ c κs. search (place-asked, rules))  -- find-place-requires
+    (λ c κs. search (place_asked, rules))  -- find-place-requires
     (λ c. omega arith)
-    (λ c κs. search (put-asked, rules))  -- put-at-requires
+    (λ c κs. search (put_asked, rules))  -- put-at-requires
     (λ c. omega arith)
     (λ c. omega arith)
-    (λ c. search (sort-next, rules))  -- loop-again
+    (λ c. search (sort_next, rules))  -- loop-again
     (λ c. c.before.loop.invariant.long)
-    (λ c. search (sort-end, rules)))  -- returns
+    (λ c. search (sort_end, rules)))  -- returns

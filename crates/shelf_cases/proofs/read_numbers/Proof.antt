@@ -13,8 +13,8 @@ invariant-loop text from numbers₀ at₀ i₀ numbers at i = length numbers ≡
 abbrev decreases-loop : tie.decreases-loop
 decreases-loop text from numbers₀ at₀ i₀ numbers at i = length numbers - i
 
-pub read-numbers-spec : {M : Type 1} → statement M
-read-numbers-spec =
+pub read_numbers_spec : {M : Type 1} → statement M
+read_numbers_spec =
     tie.close
     (tie.spec
     invariant-loop

@@ -5,8 +5,8 @@ use lib.Seq.{length-take-le}
 use Rattle.shelf_cases.proofs.run_case.Statement.{statement}
 use Rattle.shelf_cases.proofs.run_case.Tie as tie
 
-pub run-case-spec : {M : Type 1} → statement M
-run-case-spec =
+pub run_case_spec : {M : Type 1} → statement M
+run_case_spec =
     tie.close
     (tie.spec
     (λ c κs. tt)

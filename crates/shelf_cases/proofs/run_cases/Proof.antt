@@ -10,8 +10,8 @@ invariant-loop text cases at₀ j₀ at j = Unit {0}
 abbrev decreases-loop : tie.decreases-loop
 decreases-loop text cases at₀ j₀ at j = cases - j
 
-pub run-cases-spec : {M : Type 1} → statement M
-run-cases-spec = tie.close (tie.spec invariant-loop decreases-loop
+pub run_cases_spec : {M : Type 1} → statement M
+run_cases_spec = tie.close (tie.spec invariant-loop decreases-loop
     (λ c κs. tt)  -- next-requires
     (λ c. tt)  -- loop-holds
     (λ c. omega arith)  -- add-j

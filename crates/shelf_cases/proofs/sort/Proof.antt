@@ -5,8 +5,8 @@ use lib.Seq.{length-take-le}
 use Rattle.shelf_cases.proofs.sort.Statement.{statement}
 use Rattle.shelf_cases.proofs.sort.Tie as tie
 
-pub sort-spec : {M : Type 1} → statement M
-sort-spec =
+pub sort_spec : {M : Type 1} → statement M
+sort_spec =
     tie.close
     (tie.spec
     (λ c κs. search rules)

@@ -8,8 +8,8 @@ use borrow.Author.Rules.{rules}
 use Rattle.sizes.proofs.cell_count.Statement.{statement}
 use Rattle.sizes.proofs.cell_count.Tie as tie
 
-pub cell-count-spec : {M : Type 1} → statement M
-cell-count-spec =
+pub cell_count_spec : {M : Type 1} → statement M
+cell_count_spec =
     tie.close
     (tie.spec
     (λ c κs. search rules)

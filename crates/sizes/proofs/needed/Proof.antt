@@ -6,8 +6,8 @@ use Rattle.definition.specs.Pyramid.{start}
 use Rattle.sizes.proofs.needed.Statement.{statement}
 use Rattle.sizes.proofs.needed.Tie as tie
 
-pub needed-spec : {M : Type 1} → statement M
-needed-spec =
+pub needed_spec : {M : Type 1} → statement M
+needed_spec =
     tie.close
     (tie.spec
     (λ c. search rules)

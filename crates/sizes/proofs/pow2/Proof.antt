@@ -5,8 +5,8 @@ use Rattle.sizes.specs.Shifts.{shifted}
 use Rattle.sizes.proofs.pow2.Statement.{statement}
 use Rattle.sizes.proofs.pow2.Tie as tie
 
-pub pow2-spec : {M : Type 1} → statement M
-pow2-spec =
+pub pow2_spec : {M : Type 1} → statement M
+pow2_spec =
     tie.close
     (tie.spec
     (λ c. search rules)

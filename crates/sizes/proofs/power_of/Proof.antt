@@ -1,23 +1,23 @@
 -- `sizes::power_of`: each of the eight sides by computing; any other number is none of them.
 use mathlib.Core.Path.{sym, ap}
 use borrow.Author.Tests.{ne_eqb}
-use Rattle.definition.specs.Refusals.{powerOf, powerUpTo}
+use Rattle.definition.specs.Refusals.{power_of, power_up_to}
 use Rattle.sizes.proofs.power_of.Statement.{statement}
 use Rattle.sizes.proofs.power_of.Tie as tie
 
-pub power-of-spec : {M : Type 1} → statement M
-unfolding powerOf powerUpTo
-power-of-spec =
+pub power_of_spec : {M : Type 1} → statement M
+unfolding power_of power_up_to
+power_of_spec =
     tie.close
     (tie.spec
-    (λ c. sym (ap powerOf c.match.keys1))  -- returns
-    (λ c. sym (ap powerOf c.match.keys2))  -- returns-2
-    (λ c. sym (ap powerOf c.match.keys3))  -- returns-3
-    (λ c. sym (ap powerOf c.match.keys4))  -- returns-4
-    (λ c. sym (ap powerOf c.match.keys5))  -- returns-5
-    (λ c. sym (ap powerOf c.match.keys6))  -- returns-6
-    (λ c. sym (ap powerOf c.match.keys7))  -- returns-7
-    (λ c. sym (ap powerOf c.match.keys8))  -- returns-8
+    (λ c. sym (ap power_of c.match.keys1))  -- returns
+    (λ c. sym (ap power_of c.match.keys2))  -- returns-2
+    (λ c. sym (ap power_of c.match.keys3))  -- returns-3
+    (λ c. sym (ap power_of c.match.keys4))  -- returns-4
+    (λ c. sym (ap power_of c.match.keys5))  -- returns-5
+    (λ c. sym (ap power_of c.match.keys6))  -- returns-6
+    (λ c. sym (ap power_of c.match.keys7))  -- returns-7
+    (λ c. sym (ap power_of c.match.keys8))  -- returns-8
     (λ c.
     let n = c.before.args.side in
     let h = c.match.rest in

@@ -3,18 +3,18 @@ use Prim.Native.Nat.{◌≤◌, ◌-◌, ◌*◌}
 use native.Mathlib.Omega.{arith}
 use Rattle.definition.specs.Lists.{sum_to}
 use Rattle.integers.specs.Totals.{Total, none, turn, whole}
-use Rattle.sound.specs.OnePlace.{nearAt}
+use Rattle.sound.specs.OnePlace.{near_at}
 use Rattle.sound.proofs.burnt_near.Statement.{statement}
 use Rattle.sound.proofs.burnt_near.Tie as tie
 
 abbrev invariant-loop : tie.invariant-loop
-invariant-loop side serials row column sum₀ p₀ sum p = (p ≤ 9) × Total (sum_to p (nearAt side serials row column)) (p * 1) sum
+invariant-loop side serials row column sum₀ p₀ sum p = (p ≤ 9) × Total (sum_to p (near_at side serials row column)) (p * 1) sum
 
 abbrev decreases-loop : tie.decreases-loop
 decreases-loop side serials row column sum₀ p₀ sum p = 9 - p
 
-pub burnt-near-spec : {M : Type 1} → statement M
-burnt-near-spec =
+pub burnt_near_spec : {M : Type 1} → statement M
+burnt_near_spec =
     tie.close
     (tie.spec
     invariant-loop

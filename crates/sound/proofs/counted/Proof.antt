@@ -9,7 +9,7 @@ use Rattle.integers.specs.Totals.{Total, none, turn}
 use Rattle.sound.specs.Places.{counted_is}
 use Rattle.sound.proofs.counted.Statement.{statement}
 use Rattle.sound.proofs.counted.Tie as tie
-use Rattle.quadtree.specs.Levels.{cells-few}
+use Rattle.quadtree.specs.Levels.{cells_few}
 
 abbrev invariant-loop : tie.invariant-loop
 invariant-loop r serials dots cells sum₀ cell₀ sum cell =
@@ -29,7 +29,7 @@ counted_spec =
     (λ c. omega arith)
     (λ c. omega arith)
     (λ c κs. tt)
-    (λ c. omega (arith, cells-few _ c.before.before.before.before.before.before.requires.most))  -- add-sum
+    (λ c. omega (arith, cells_few _ c.before.before.before.before.before.before.requires.most))  -- add-sum
     (λ c. omega arith)
     (λ c. omega arith)
     (λ c. (omega arith, turn _ _ 1 c.before.before.before.loop.invariant.1 c.mark.ensures))  -- loop-again

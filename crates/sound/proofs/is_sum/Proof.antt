@@ -4,8 +4,8 @@ use Rattle.sound.specs.Sums.{sum_told}
 use Rattle.sound.proofs.is_sum.Statement.{statement}
 use Rattle.sound.proofs.is_sum.Tie as tie
 
-pub is-sum-spec : {M : Type 1} → statement M
-is-sum-spec =
+pub is_sum_spec : {M : Type 1} → statement M
+is_sum_spec =
     tie.close
     (tie.spec
     (λ c κs. search rules)

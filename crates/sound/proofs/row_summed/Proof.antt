@@ -1,12 +1,12 @@
 -- `sound::row_summed`: the four entries lie in the next level.
 use borrow.Author.Rules.{rules}
 use native.Mathlib.Omega.{arith}
-use Rattle.sound.specs.Sums.{below, sum-asked}
+use Rattle.sound.specs.Sums.{below, sum_asked}
 use Rattle.sound.proofs.row_summed.Statement.{statement}
 use Rattle.sound.proofs.row_summed.Tie as tie
 
-pub row-summed-spec : {M : Type 1} → statement M
-row-summed-spec =
+pub row_summed_spec : {M : Type 1} → statement M
+row_summed_spec =
     tie.close
     (tie.spec
     (λ c. search rules)
@@ -18,5 +18,5 @@ row-summed-spec =
     (λ c. omega (arith, below c.requires.0 c.requires.1))  -- mul-is-sum-3
     (λ c. omega (arith, below c.requires.0 c.requires.1))  -- add-is-sum-2
     (λ c. omega (arith, below c.requires.0 c.requires.1))  -- add-is-sum-3
-    (λ c κs. search (sum-asked, rules))  -- is-sum-requires
+    (λ c κs. search (sum_asked, rules))  -- is-sum-requires
     (λ c. search rules))

@@ -5,8 +5,8 @@ use lib.Seq.{length-take-le}
 use Rattle.stage_cases.proofs.restore_on.Statement.{statement}
 use Rattle.stage_cases.proofs.restore_on.Tie as tie
 
-pub restore-on-spec : {M : Type 1} → statement M
-restore-on-spec = tie.close (tie.spec
+pub restore_on_spec : {M : Type 1} → statement M
+restore_on_spec = tie.close (tie.spec
     (λ c κs. tt)  -- limit-requires
     (λ c κs. tt)  -- limit-requires-2
     (λ c κs. tt)  -- limit-requires-3

@@ -18,8 +18,8 @@ abbrev decreases-loop : tie.decreases-loop
 decreases-loop text from g₀ pyramid₀ serials₀ order₀ actions at₀ held₀ j₀ g pyramid serials order at held j =
     actions - j
 
-pub run-actions-spec : {M : Type 1} → statement M
-run-actions-spec = tie.close (tie.spec invariant-loop decreases-loop
+pub run_actions_spec : {M : Type 1} → statement M
+run_actions_spec = tie.close (tie.spec invariant-loop decreases-loop
     (λ c κs. tt)  -- next-requires
     (λ c. (refl, refl, refl, refl))  -- loop-holds
     (λ c κs. tt)  -- read-action-requires

@@ -6,8 +6,8 @@ use lib.Seq.{length-take-le}
 use Rattle.stage_cases.proofs.run_case.Statement.{statement}
 use Rattle.stage_cases.proofs.run_case.Tie as tie
 
-pub run-case-spec : {M : Type 1} → statement M
-run-case-spec = tie.close (tie.spec
+pub run_case_spec : {M : Type 1} → statement M
+run_case_spec = tie.close (tie.spec
     (λ c κs. tt)  -- next-requires
     (λ c κs. tt)  -- next-requires-2
     (λ c κs. tt)  -- next-requires-3

@@ -11,8 +11,8 @@ invariant-loop kept i₀ i = Unit {0}
 abbrev decreases-loop : tie.decreases-loop
 decreases-loop kept i₀ i = 8 - i
 
-pub write-kept-spec : {M : Type 1} → statement M
-write-kept-spec = tie.close (tie.spec invariant-loop decreases-loop
+pub write_kept_spec : {M : Type 1} → statement M
+write_kept_spec = tie.close (tie.spec invariant-loop decreases-loop
     (λ c. search rules)  -- slice-aggregate-write-all
     (λ c κs. search rules)  -- write-all-requires
     (λ c. tt)  -- loop-holds

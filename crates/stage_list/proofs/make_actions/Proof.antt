@@ -3,7 +3,7 @@ use Prim.Native.Nat.{◌-◌}
 use native.Mathlib.Omega.{arith}
 use lib.ListN.{length}
 use borrow.Author.Rules.{rules}
-use Rattle.stage_list.specs.ManyItems.{Acted, begins, goes_on, all-acted}
+use Rattle.stage_list.specs.ManyItems.{Acted, begins, goes_on, all_acted}
 use Rattle.stage_list.proofs.make_actions.Statement.{statement}
 use Rattle.stage_list.proofs.make_actions.Tie as tie
 
@@ -16,10 +16,10 @@ decreases-loop g p₀ s₀ o₀ kinds numbers maps pyramids sheets orders latest
     length numbers - i
 
 -- a length is a number of 64 bits: what is known of the slice `numbers`
-in-range : tie.Need-overflow-add-i invariant-loop decreases-loop
-in-range c =
-    let at-loop = c.before.before.before.before.before.before.before.before.before.before.before in
-    let start = at-loop.before.before.before.before.before.before.before.before.before.before in
+in_range : tie.Need-overflow-add-i invariant-loop decreases-loop
+in_range c =
+    let at_loop = c.before.before.before.before.before.before.before.before.before.before.before in
+    let start = at_loop.before.before.before.before.before.before.before.before.before.before in
     omega (arith, start.well-formed.1.1.1.1.1.1.0.0)
 
 one_more : tie.Need-loop-preserved invariant-loop decreases-loop
@@ -29,8 +29,8 @@ one_more c =
     goes_on _ _ _ _ _ _ _ _ _ _ _ _ _ _ _ _ u.before.before.loop.invariant u.before.loop-test.true
     _ u.item-at.ensures _ _ _ _ (search rules) (search rules) (search rules) t.one-action.ensures
 
-pub make-actions-spec : {M : Type 1} → statement M
-make-actions-spec =
+pub make_actions_spec : {M : Type 1} → statement M
+make_actions_spec =
     tie.close
     (tie.spec
     invariant-loop
@@ -38,10 +38,10 @@ make-actions-spec =
     (λ c. search (begins, rules))  -- loop-holds
     (λ c κs. search rules)
     (λ c κs. search rules)
-    in-range
+    in_range
     (λ c. omega arith)
     one_more
     (λ c. search rules)
     (λ c. search rules)
     (λ c. search rules)
-    (λ c. search (all-acted, rules)))  -- returns
+    (λ c. search (all_acted, rules)))  -- returns

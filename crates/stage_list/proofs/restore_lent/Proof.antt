@@ -1,12 +1,12 @@
 -- `stage_list::restore_lent`: the parts lent come back in front of what was not lent.
 use borrow.Author.Rules.{rules}
 use Rattle.call_list.specs.PriceListOfCode.{lent_length}
-use Rattle.stage_list.specs.OneItem.{return-made}
+use Rattle.stage_list.specs.OneItem.{return_made}
 use Rattle.stage_list.proofs.restore_lent.Statement.{statement}
 use Rattle.stage_list.proofs.restore_lent.Tie as tie
 
-pub restore-lent-spec : {M : Type 1} → statement M
-restore-lent-spec =
+pub restore_lent_spec : {M : Type 1} → statement M
+restore_lent_spec =
     tie.close
     (tie.spec
     (λ c κs. search rules)
@@ -24,4 +24,4 @@ restore-lent-spec =
     (λ c. search rules)
     (λ c. search rules)
     (λ c. search rules)
-    (λ c. search (return-made, rules)))  -- returns
+    (λ c. search (return_made, rules)))  -- returns

@@ -1,18 +1,18 @@
 -- `stage_list::run_stages`: what the calls leave after Load, and the promise of names of it.
 use borrow.Author.Rules.{rules}
-use Rattle.stage_list.specs.ManyItems.{acted-on}
+use Rattle.stage_list.specs.ManyItems.{acted_on}
 use Rattle.stage_list.proofs.run_stages.Statement.{statement}
 use Rattle.stage_list.proofs.run_stages.Tie as tie
 
-all-of-it : tie.Need-returns
-all-of-it c =
+all_of_it : tie.Need-returns
+all_of_it c =
     let t = c.before.before.before.before.before in
     let u = t.before.before.before.before in
     let v = u.before.before.before.before.before.before.before in
-    acted-on _ _ _ _ _ _ _ _ _ v.load.ensures u.no_names.ensures t.make-actions.ensures
+    acted_on _ _ _ _ _ _ _ _ _ v.load.ensures u.no_names.ensures t.make-actions.ensures
 
-pub run-stages-spec : {M : Type 1} → statement M
-run-stages-spec =
+pub run_stages_spec : {M : Type 1} → statement M
+run_stages_spec =
     tie.close
     (tie.spec
     (λ c κs. search rules)
@@ -21,4 +21,4 @@ run-stages-spec =
     (λ c. search rules)
     (λ c. search rules)
     (λ c. search rules)
-    all-of-it)
+    all_of_it)

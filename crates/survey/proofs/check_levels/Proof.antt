@@ -3,14 +3,14 @@ use borrow.Author.Rules.{rules}
 use borrow.Author.Tests.{eq-eqb, ne_eqb}
 use Rattle.definition.specs.Answers.{number_of}
 use Rattle.definition.specs.Refusals.{lowest}
-use Rattle.definition.specs.Survey.{levelsRefusal}
+use Rattle.definition.specs.Survey.{levels_refusal}
 use Rattle.checks.specs.Checks.{checked, short, enough}
 use Rattle.survey.proofs.check_levels.Statement.{statement}
 use Rattle.survey.proofs.check_levels.Tie as tie
 
-pub check-levels-spec : {M : Type 1} → statement M
-unfolding checked number_of lowest levelsRefusal
-check-levels-spec =
+pub check_levels_spec : {M : Type 1} → statement M
+unfolding checked number_of lowest levels_refusal
+check_levels_spec =
     tie.close
     (tie.spec
     (λ c. simp (eq-eqb _ 0 c.if1.true))  -- returns

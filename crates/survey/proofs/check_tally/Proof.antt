@@ -3,14 +3,14 @@ use borrow.Author.Rules.{rules}
 use borrow.Author.Tests.{lt-ltb, le-ltb, eq-eqb, ne_eqb}
 use Rattle.definition.specs.Answers.{number_of}
 use Rattle.definition.specs.Refusals.{lowest}
-use Rattle.definition.specs.Survey.{tallyRefusal}
+use Rattle.definition.specs.Survey.{tally_refusal}
 use Rattle.checks.specs.Checks.{checked, short, enough, outside, inside}
 use Rattle.survey.proofs.check_tally.Statement.{statement}
 use Rattle.survey.proofs.check_tally.Tie as tie
 
-pub check-tally-spec : {M : Type 1} → statement M
-unfolding checked number_of lowest tallyRefusal
-check-tally-spec =
+pub check_tally_spec : {M : Type 1} → statement M
+unfolding checked number_of lowest tally_refusal
+check_tally_spec =
     tie.close
     (tie.spec
     (λ c. simp (eq-eqb _ 0 c.if1.true))  -- returns

@@ -11,8 +11,8 @@ invariant-loop values i₀ i = Unit {0}
 abbrev decreases-loop : tie.decreases-loop
 decreases-loop values i₀ i = 9 - i
 
-pub nine-fields-spec : {M : Type 1} → statement M
-nine-fields-spec = tie.close (tie.spec invariant-loop decreases-loop
+pub nine_fields_spec : {M : Type 1} → statement M
+nine_fields_spec = tie.close (tie.spec invariant-loop decreases-loop
     (λ c. tt)  -- loop-holds
     (λ c. omega arith)  -- mul-field
     (λ c. search rules)  -- element-copy-out-field

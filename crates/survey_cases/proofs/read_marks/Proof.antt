@@ -14,8 +14,8 @@ invariant-loop text from serials₀ marks at₀ j₀ serials at j = length seria
 abbrev decreases-loop : tie.decreases-loop
 decreases-loop text from serials₀ marks at₀ j₀ serials at j = marks - j
 
-pub read-marks-spec : {M : Type 1} → statement M
-read-marks-spec = tie.close (tie.spec invariant-loop decreases-loop
+pub read_marks_spec : {M : Type 1} → statement M
+read_marks_spec = tie.close (tie.spec invariant-loop decreases-loop
     (λ c κs. tt)  -- next-requires
     (λ c. refl)  -- loop-holds
     (λ c κs. tt)  -- next-requires-2

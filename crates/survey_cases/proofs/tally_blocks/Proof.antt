@@ -10,8 +10,8 @@ invariant-loop text from side serials tallies at₀ j₀ at j = Unit {0}
 abbrev decreases-loop : tie.decreases-loop
 decreases-loop text from side serials tallies at₀ j₀ at j = tallies - j
 
-pub tally-blocks-spec : {M : Type 1} → statement M
-tally-blocks-spec = tie.close (tie.spec invariant-loop decreases-loop
+pub tally_blocks_spec : {M : Type 1} → statement M
+tally_blocks_spec = tie.close (tie.spec invariant-loop decreases-loop
     (λ c κs. tt)  -- next-requires
     (λ c. tt)  -- loop-holds
     (λ c κs. tt)  -- tally-block-requires

@@ -11,8 +11,8 @@ invariant-loop out from count₀ i₀ count i = count ≤ i
 abbrev decreases-loop : tie.decreases-loop
 decreases-loop out from count₀ i₀ count i = length out - i
 
-pub count-untouched-spec : {M : Type 1} → statement M
-count-untouched-spec = tie.close (tie.spec invariant-loop decreases-loop
+pub count_untouched_spec : {M : Type 1} → statement M
+count_untouched_spec = tie.close (tie.spec invariant-loop decreases-loop
     (λ c. omega arith)  -- loop-holds
     (λ c. omega arith)  -- shared-slice-read-untouched
     (λ c κs. tt)  -- untouched-requires

@@ -5,8 +5,8 @@ use lib.Seq.{length-take-le}
 use Rattle.text_cases.proofs.list_damaged.Statement.{statement}
 use Rattle.text_cases.proofs.list_damaged.Tie as tie
 
-pub list-damaged-spec : {M : Type 1} → statement M
-list-damaged-spec = tie.close (tie.spec
+pub list_damaged_spec : {M : Type 1} → statement M
+list_damaged_spec = tie.close (tie.spec
     (λ c κs. tt)  -- lent-requires
     (λ c κs. tt)  -- lent-requires-2
     (λ c κs. tt)  -- lent-requires-3

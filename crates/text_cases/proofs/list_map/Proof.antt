@@ -7,8 +7,8 @@ use Rattle.refusals.specs.Powers.{power_small}
 use Rattle.text_cases.proofs.list_map.Statement.{statement}
 use Rattle.text_cases.proofs.list_map.Tie as tie
 
-pub list-map-spec : {M : Type 1} → statement M
-list-map-spec = tie.close (tie.spec
+pub list_map_spec : {M : Type 1} → statement M
+list_map_spec = tie.close (tie.spec
     (λ c κs. tt)  -- power-of-requires
     (λ c κs. power_small _ c.power-of.ensures)  -- needed-requires
     (λ c κs. tt)  -- least-requires

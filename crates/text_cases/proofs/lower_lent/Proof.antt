@@ -6,8 +6,8 @@ use lib.Seq.{length-take-le}
 use Rattle.text_cases.proofs.lower_lent.Statement.{statement}
 use Rattle.text_cases.proofs.lower_lent.Tie as tie
 
-pub lower-lent-spec : {M : Type 1} → statement M
-lower-lent-spec =
+pub lower_lent_spec : {M : Type 1} → statement M
+lower_lent_spec =
     tie.close
     (tie.spec
     (λ c κs. search rules)

@@ -5,8 +5,8 @@ use lib.Seq.{length-take-le}
 use Rattle.text_cases.proofs.print_text.Statement.{statement}
 use Rattle.text_cases.proofs.print_text.Tie as tie
 
-pub print-text-spec : {M : Type 1} → statement M
-print-text-spec =
+pub print_text_spec : {M : Type 1} → statement M
+print_text_spec =
     tie.close
     (tie.spec
     (λ c κs. search rules)

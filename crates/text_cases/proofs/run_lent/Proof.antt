@@ -6,8 +6,8 @@ use lib.Seq.{length-take-le}
 use Rattle.text_cases.proofs.run_lent.Statement.{statement}
 use Rattle.text_cases.proofs.run_lent.Tie as tie
 
-pub run-lent-spec : {M : Type 1} → statement M
-run-lent-spec = tie.close (tie.spec
+pub run_lent_spec : {M : Type 1} → statement M
+run_lent_spec = tie.close (tie.spec
     (λ c κs. tt)  -- limit-requires
     (λ c κs. tt)  -- limit-requires-2
     (λ c. search rules)  -- array-borrow-prefix-greys

@@ -1,12 +1,12 @@
 -- `text_cells::first_line`: what the line and the check say, told apart.
 use borrow.Author.Rules.{rules}
 use Rattle.refusals.specs.Powers.{power_small}
-use Rattle.text_cells.specs.FirstLine.{no_line, side-refused, side-good}
+use Rattle.text_cells.specs.FirstLine.{no_line, side_refused, side_good}
 use Rattle.text_cells.proofs.first_line.Statement.{statement}
 use Rattle.text_cells.proofs.first_line.Tie as tie
 
-pub first-line-spec : {M : Type 1} → statement M
-first-line-spec =
+pub first_line_spec : {M : Type 1} → statement M
+first_line_spec =
     tie.close
     (tie.spec
     (λ c κs. search rules)
@@ -17,5 +17,5 @@ first-line-spec =
     (λ c. search rules)
     (λ c. search rules)
     (λ c. search (no_line, rules))  -- returns
-    (λ c. search (side-refused, rules))  -- returns-2
-    (λ c. search (side-good, rules)))  -- returns-3
+    (λ c. search (side_refused, rules))  -- returns-2
+    (λ c. search (side_good, rules)))  -- returns-3

@@ -4,10 +4,10 @@ use native.Mathlib.Omega.{arith}
 use borrow.Author.Rules.{rules}
 use Rattle.text_cells.specs.Cells.{
   CellsLeft,
-  left-whole,
-  left-broken,
+  left_whole,
+  left_broken,
   left_less,
-  left-none,
+  left_none,
   low_fits,
   high_fits,
   size_small,
@@ -24,23 +24,23 @@ decreases-loop text from side pairs most lows₀ highs₀ size rise₀ at₀ i�
 
 -- past the last cell it tells whether anything is left
 nothing_left : tie.Need-returns-2 invariant-loop decreases-loop
-nothing_left c = search (left-none, rules)
+nothing_left c = search (left_none, rules)
 
-pub read-cells-spec : {M : Type 1} → statement M
-read-cells-spec =
+pub read_cells_spec : {M : Type 1} → statement M
+read_cells_spec =
     tie.close
     (tie.spec
     invariant-loop
     decreases-loop
-    (λ c. omega (arith, size_small _ c.before.before.before.requires.side-most))  -- mul-size
-    (λ c. search (left-whole, rules))  -- loop-holds
+    (λ c. omega (arith, size_small _ c.before.before.before.requires.side_most))  -- mul-size
+    (λ c. search (left_whole, rules))  -- loop-holds
     (λ c κs. omega arith)
     (λ c κs. search rules)
     (λ c. search rules)
     (λ c. search rules)
     (λ c. search rules)
     (λ c. search rules)
-    (λ c. search (left-broken, rules))  -- returns
+    (λ c. search (left_broken, rules))  -- returns
     (λ c. search (low_fits, rules))  -- cast-put-byte
     (λ c κs. search rules)
     (λ c. search (high_fits, rules))  -- cast-put-byte-2
@@ -53,7 +53,7 @@ read-cells-spec =
     let first = second.before.before.before.before in
     let read = first.before.before.before in
     let turn = read.before.before.before.before in
-    left_less turn.before.before.before.before.before.requires.some-side turn.before.loop.invariant
+    left_less turn.before.before.before.before.before.requires.some_side turn.before.loop.invariant
     turn.loop-test.true read.before.before.before.end-at.ensures _
     read.before.before.read_cell.ensures read.low.given.1 first.put_byte.ensures
     second.put-byte2.ensures c.still-rise.ensures)  -- loop-again
