@@ -1,4 +1,6 @@
 // Advance: as many dots as are due, and at most the budget, spread by the knit of the record (`advance`).
+#![tactic(auto)]
+
 ghost use Rattle.std.specs.Prelude.{◌≡◌};
 ghost use Rattle.definition.specs.Answers.{advance_says};
 ghost use Rattle.definition.specs.Advance.{said_at, advanced};

@@ -1,5 +1,7 @@
 // The counting over aligned squares behind Tally, Quote Page and the test for a sound sheet: the dots of a block
 // (`block_dots`), its greys (`block_greys`), and the mark of a cell (`mark`).
+#![tactic(auto)]
+
 ghost use Rattle.std.specs.Prelude.{◌≡◌, length};
 ghost use Rattle.definition.specs.Blocks.{burnt, grey_sum, dots_in};
 ghost use Rattle.integers.specs.Totals.{Total};

@@ -1,5 +1,7 @@
 // The price list in code (`run_calls`): a map is loaded for a knit, and a list of Advance calls is made on it, each
 // lent parts of the buffers (`one_call`).
+#![tactic(auto)]
+
 ghost use Rattle.std.specs.Prelude.{◌≡◌, min, length, get_or};
 ghost use Rattle.definition.specs.AdvanceList.{call_of, held_after, held_after_calls};
 ghost use Rattle.call_list.specs.PriceListOfCode.{calls_in, Kept};

@@ -1,13 +1,15 @@
 // What the programs share: numbers read from a text of numbers parted by commas and line ends (`next`), and numbers,
 // lists, answers and refusals written to standard output (`field`, `print_load`, `print_call`); and the buffers of a
 // case, their greys (`make_greys`), and Advance on them (`advance_on`).
+#![tactic(auto)]
+
 ghost use Rattle.std.specs.Prelude.{◌≤◌, ◌<◌, ◌^◌, length};
 
 use decimals::Number;
 use definition::{AdvanceAnswer, AdvanceStatus, LoadAnswer, LoadStatus, Progress, Refusal};
 
 // A number that was read, and the place behind the byte that ends it.
-#[derive(Drop)]
+#[derive(Clone, Copy)]
 pub struct Found {
     pub value: u32,
     pub at: usize,

@@ -1,4 +1,6 @@
 // Keep and Restore: counts of dots under eight names (`keep`), and the way back to one of them (`restore`).
+#![tactic(auto)]
+
 ghost use Rattle.std.specs.Prelude.{◌≡◌, [], ◌∷◌, ◌-◌, ◌≤◌, length};
 ghost use Rattle.definition.specs.Answers.{checkpoint_says};
 ghost use Rattle.definition.specs.Blocks.{grey_total, total_of};

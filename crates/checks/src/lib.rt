@@ -1,5 +1,7 @@
 // What a call's check finds before anything is read or written (`Check`): nothing, or the first of its refusals that
 // applies. The number of a refusal (`number_of`), and the check of a greys buffer (`check_greys`).
+#![tactic(auto)]
+
 ghost use Rattle.std.specs.Prelude.{◌≡◌, ◌≤◌};
 ghost use Rattle.definition.specs.Answers.{number_of};
 ghost use Rattle.definition.specs.Refusals.{greys_refusal};
@@ -7,7 +9,7 @@ ghost use Rattle.checks.specs.Checks.{checked};
 
 use definition::Refusal;
 
-#[derive(Drop)]
+#[derive(Clone, Copy)]
 pub enum Check {
     Passed,
     Failed(Refusal),

@@ -1,4 +1,6 @@
 // Compare: how two plates of one side stand to each other (`compare`).
+#![tactic(auto)]
+
 ghost use Rattle.std.specs.Prelude.{◌≡◌, ◌≤◌};
 ghost use Rattle.definition.specs.Answers.{compare_says};
 ghost use Rattle.definition.specs.Shelf.{compare_refusal, compare_of};

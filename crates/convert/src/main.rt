@@ -1,5 +1,7 @@
 // The program convert: reads standard input, and writes what `convert_text` says. One byte more than the longest map
 // text is enough to tell that an input is none.
+#![tactic(auto)]
+
 fn main() {
     let mut input = [0u8; 262149];
     let n = io::read_full(0, &mut input);

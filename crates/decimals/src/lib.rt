@@ -1,5 +1,7 @@
 // Numbers in texts: the one reader (`read_number`) and the one writer of decimal digits (`put_number`, `put_field`,
 // `put_column`).
+#![tactic(auto)]
+
 ghost use Rattle.std.specs.Prelude.{◌≡◌, [], ◌∷◌, ◌+◌, ◌-◌, ◌^◌, ◌<◌, ◌≤◌, length, drop, replicate};
 ghost use Rattle.definition.specs.Text.{decimal, space, right_aligned, is_digit, digits_then, field_of};
 ghost use Rattle.grammar.specs.Fields.{is_next_digit};
@@ -7,7 +9,7 @@ ghost use Rattle.decimals.specs.Reading.{field_in};
 ghost use Rattle.decimals.specs.Writing.{Wrote, field_text, column_text};
 
 // What a text holds at a place: a number, and the place behind the byte that ends it; or no such number.
-#[derive(Drop)]
+#[derive(Clone, Copy)]
 pub enum Number {
     Read(u32, usize),
     Malformed,

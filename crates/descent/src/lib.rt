@@ -1,6 +1,8 @@
 // The descent: from an entry of the pyramid down to a cell, always to the largest of the four entries below
 // (`descend`). The pyramid lies by quarters: below the entry at place i of the whole pyramid are those at the places
 // 4i + 1 to 4i + 4.
+#![tactic(auto)]
+
 ghost use Rattle.std.specs.Prelude.{◌≡◌, ◌+◌, ◌-◌, ◌^◌, ◌<◌, length};
 ghost use Rattle.definition.specs.Descent.{of_equals, descend};
 ghost use Rattle.definition.specs.Quarters.{rows_from};
@@ -8,14 +10,14 @@ ghost use Rattle.pyramid.specs.PyramidPart.{Within};
 ghost use Rattle.descent.specs.Candidates.{candidate_at, better_of, FourAsked, Taken, DescentAsked, number_of};
 
 // A cell of the map.
-#[derive(Drop)]
+#[derive(Clone, Copy)]
 pub struct Cell {
     pub row: usize,
     pub column: usize,
 }
 
 // One of the four entries below an entry, 0 to 3: the top two, then the bottom two; and its sum.
-#[derive(Drop)]
+#[derive(Clone, Copy)]
 struct Candidate {
     quarter: usize,
     sum: i64,

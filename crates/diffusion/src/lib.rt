@@ -1,5 +1,7 @@
 // Diffusion: what a dot lacks of its worth is taken from the neighbours of its cell, each its share (`place`,
 // `diffuse`). The cells lie by quarters; what becomes of them is said of the cells written row after row.
+#![tactic(auto)]
+
 ghost use Rattle.std.specs.Prelude.{◌≡◌, ◌*◌, ◌/◌, ◌^◌, ◌<◌, ◌≤◌, get_or, set, pos, ◌-ℤ◌};
 ghost use Rattle.definition.specs.Lists.{sum_to};
 ghost use Rattle.definition.specs.Pyramid.{place_in, in_level};

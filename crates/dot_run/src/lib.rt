@@ -1,5 +1,7 @@
 // A run of dots: one after the other, while one is due and the budget lasts (`run`). The pyramid lies by quarters; what
 // becomes of it is said of the pyramid written row after row.
+#![tactic(auto)]
+
 ghost use Rattle.std.specs.Prelude.{◌≡◌, ◌+◌, length};
 ghost use Rattle.definition.specs.Pyramid.{needed};
 ghost use Rattle.definition.specs.Quarters.{rows_from};

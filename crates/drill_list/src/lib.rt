@@ -1,5 +1,7 @@
 // Drill List (`drill_list`): the number of dots and the side on one line, then a line for each dot with its serial, row
 // and column.
+#![tactic(auto)]
+
 ghost use Rattle.std.specs.Prelude.{◌≡◌, [], ◌∷◌, ◌*◌, ◌/◌, ◌%◌, ◌^◌, ◌≤◌, length, take};
 ghost use Rattle.definition.specs.Answers.{text_says};
 ghost use Rattle.definition.specs.Text.{line};

@@ -1,5 +1,7 @@
 // The sheet that a map starts with: the check of what is lent for it (`check_load`, `low_map`), and the filling of the
 // three buffers (`fill`).
+#![tactic(auto)]
+
 ghost use Rattle.std.specs.Prelude.{◌≡◌, ◌++◌, ◌≤◌, length, drop, replicate};
 ghost use Rattle.definition.specs.Load.{low_map, load_refusal};
 ghost use Rattle.places.specs.Table.{places};

@@ -1,5 +1,7 @@
 // The laser with two heads (`two_heads`): Load, then rounds of macroblocks until four in a row have made no hole. Of
 // the engine it sees the contracts alone.
+#![tactic(auto)]
+
 ghost use Rattle.std.specs.Prelude.{◌≡◌, [], ◌∷◌, pos};
 ghost use Rattle.definition.specs.Answers.{two_heads_says};
 ghost use Rattle.definition.specs.Refusals.{side_unknown, side_small, knit_unknown, lowest};

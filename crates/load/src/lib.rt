@@ -1,5 +1,7 @@
 // Load (`load`): the pyramid summed from the greys, by quarters, the two other buffers cleared, and the record (side,
 // 0, knit).
+#![tactic(auto)]
+
 ghost use Rattle.std.specs.Prelude.{◌≡◌};
 ghost use Rattle.definition.specs.Answers.{load_says};
 ghost use Rattle.definition.specs.ByQuarters.{load_by_quarters};

@@ -1,4 +1,6 @@
 // Greys that are too high for a map: the test for them (`none_high`), and the lowering of them (`lower`).
+#![tactic(auto)]
+
 ghost use Rattle.std.specs.Prelude.{◌≡◌, min};
 ghost use Rattle.definition.specs.Lowering.{none_high, lowered};
 

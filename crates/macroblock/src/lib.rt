@@ -1,6 +1,8 @@
 // A macroblock of the laser with two heads: four blocks of 4 by 4 cells, which are entries of level r − 2 of the
 // pyramid (`work`). It goes by the row and the column, on that level, of its top left block. The pyramid lies by
 // quarters; what is read of it is said of the pyramid written row after row.
+#![tactic(auto)]
+
 ghost use Rattle.std.specs.Prelude.{◌≡◌, ◌&&◌, ◌≤◌, ◌<◌, length, pos, ◌+ℤ◌};
 ghost use Rattle.std.specs.Int.Signed.{le_z};
 ghost use Rattle.definition.specs.Pyramid.{half_dot, needed};
@@ -16,7 +18,7 @@ ghost use Rattle.macroblock.specs.FourBlocks.{block_of, better_of, largest_of, S
 const HALF_DOT: i64 = 32640;
 
 // A block: its row, its column and its place in the pyramid, and the sum of its cells.
-#[derive(Drop)]
+#[derive(Clone, Copy)]
 struct Block {
     row: usize,
     column: usize,
@@ -25,7 +27,7 @@ struct Block {
 }
 
 // Whether a macroblock owes half a dot or more, and which of its blocks owes most.
-#[derive(Drop)]
+#[derive(Clone, Copy)]
 struct Debt {
     due: bool,
     row: usize,

@@ -1,5 +1,7 @@
 // Map texts: Map Text, which reads one (`map_text`); the writer (`put_map`); and Lower Text (`lower_text`), which
 // lowers the greys of a text to 240 and writes the one text of them.
+#![tactic(auto)]
+
 ghost use Rattle.std.specs.Prelude.{◌≡◌, ◌^◌, ◌≤◌, length};
 ghost use Rattle.definition.specs.Answers.{map_text_says, text_says};
 ghost use Rattle.definition.specs.MapText.{map_text, map_text_of};

@@ -1,5 +1,7 @@
 // The eight names: which they are (`is_name`), what stands under one (`kept_at`, `with_dots`), and whether there is a
 // way back to it (`can_restore`).
+#![tactic(auto)]
+
 ghost use Rattle.std.specs.Prelude.{◌≡◌, true, suc, ◌-◌, set};
 ghost use Rattle.definition.specs.Checkpoints.{is_name, kept_at, can_restore};
 

@@ -1,5 +1,7 @@
 // One dot: the walk to the neediest cell, the dot there, the sums renewed, its number noted (`place_dot`; `place_at`
 // without the walk). The pyramid lies by quarters; what becomes of it is said of the pyramid written row after row.
+#![tactic(auto)]
+
 ghost use Rattle.std.specs.Prelude.{◌≡◌, ◌+◌, length, set};
 ghost use Rattle.definition.specs.Pyramid.{needed};
 ghost use Rattle.definition.specs.Quarters.{rows_from};

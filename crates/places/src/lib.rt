@@ -1,5 +1,7 @@
 // Where the entries of a pyramid by quarters lie within their level (`place`, by the table of `table`), and the parts
 // of places around a cell (`parts_around`).
+#![tactic(auto)]
+
 ghost use Rattle.std.specs.Prelude.{◌≡◌, ◌+◌, ◌-◌, ◌<◌, min};
 ghost use Rattle.definition.specs.Quarters.{interleaved};
 ghost use Rattle.places.specs.Table.{places};
@@ -129,7 +131,7 @@ pub fn after(x: usize, side: usize) -> usize
 // The parts of places around a cell: of the rows above, here and below, and of the columns left, here and right. The
 // place of a cell is its row's part and its column's, added. Where the map ends, the row or column there stands for the
 // one beyond.
-#[derive(Drop)]
+#[derive(Clone, Copy)]
 pub struct Parts {
     pub above: usize,
     pub row: usize,

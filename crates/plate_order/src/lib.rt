@@ -1,5 +1,7 @@
 // Two plates of one side compared by their burnt cells (`compare_plates`): by their counts, and where these agree by
 // the first cell at which they differ.
+#![tactic(auto)]
+
 ghost use Rattle.std.specs.Prelude.{◌≡◌, cond, ltb, length};
 ghost use Rattle.definition.specs.Pyramid.{cell_count};
 ghost use Rattle.definition.specs.Answers.{comparison, before_at, after_at, compare_says};

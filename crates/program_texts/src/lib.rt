@@ -1,5 +1,7 @@
 // What the programs print, as functions from bytes to bytes: `plate_text`, `quote_text` (docs/DECISIONS.md 69),
 // `sample_text`, `convert_text` (docs/DECISIONS.md 71) and `sketch_text`.
+#![tactic(auto)]
+
 ghost use Rattle.std.specs.Prelude.{◌≡◌, [], ◌∷◌, ◌+◌, ◌^◌, ◌<◌, ◌≤◌, length, take};
 ghost use Rattle.definition.specs.Diffusion.{plain};
 ghost use Rattle.definition.specs.Refusals.{power_of};

@@ -1,5 +1,7 @@
 // The pyramid of sums, by quarters: cells from greys, one block of four (`sum_of_four`), one level, all levels
 // (`fill_pyramid`). Load fills with it; renewal and the test for a sound sheet take its sums of four.
+#![tactic(auto)]
+
 ghost use Rattle.std.specs.Prelude.{◌≡◌, ◌++◌, ◌+◌, ◌*◌, ◌^◌, ◌<◌, ◌≤◌, length, drop, pos};
 ghost use Rattle.definition.specs.Pyramid.{start, cell_count};
 ghost use Rattle.definition.specs.Quarters.{quarter_level, quarters_from};

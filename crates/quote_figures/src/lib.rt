@@ -1,5 +1,7 @@
 // The two figures of a quote, in the one place where they are worked out: the dots that a map comes to (`total_dots`),
 // and the cap of an aligned square (`quote_cap`), for one square and for all squares of a level (`put_caps`).
+#![tactic(auto)]
+
 ghost use Rattle.std.specs.Prelude.{◌≡◌, ◌++◌, ◌*◌, ◌/◌, ◌%◌, ◌^◌, ◌<◌, ◌≤◌, length, drop};
 ghost use Rattle.definition.specs.Blocks.{block_side, grey_sum, grey_total, total_of};
 ghost use Rattle.definition.specs.QuotePage.{quote_cap};

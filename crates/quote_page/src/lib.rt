@@ -1,6 +1,8 @@
 // Quote Page (`quote_page`): a line for each aligned square of a level, by row then column, with five figures in
 // columns: the square's row (3 places) and column (3), its grey sum (8), its holes (5) and its cap (5). A line has 29
 // bytes.
+#![tactic(auto)]
+
 ghost use Rattle.std.specs.Prelude.{◌≡◌, ◌^◌, ◌<◌, ◌≤◌};
 ghost use Rattle.definition.specs.Lists.{joined};
 ghost use Rattle.definition.specs.Answers.{text_says};

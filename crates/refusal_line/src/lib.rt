@@ -1,4 +1,6 @@
 // The line that a program prints for a refusal (`put_refused`).
+#![tactic(auto)]
+
 ghost use Rattle.std.specs.Prelude.{◌^◌, ◌≤◌, length};
 ghost use Rattle.definition.specs.Plate.{refused_text};
 ghost use Rattle.decimals.specs.Writing.{Wrote};

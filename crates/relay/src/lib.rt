@@ -1,4 +1,6 @@
 // Relay (`relay`): the pyramid of an older sheet, which lies row after row, written by quarters into a second one.
+#![tactic(auto)]
+
 ghost use Rattle.std.specs.Prelude.{◌≡◌, ◌++◌, ◌≤◌, length, drop};
 ghost use Rattle.definition.specs.Answers.{relay_says};
 ghost use Rattle.definition.specs.Pyramid.{needed, cell_count, in_level};

@@ -9,6 +9,8 @@
 // one path, and each level is made after the one below it, from entries that are right already.
 //
 // The pyramid lies by quarters: over the entry at place i of the whole pyramid is the one at (i - 1) / 4.
+#![tactic(auto)]
+
 ghost use Rattle.std.specs.Prelude.{◌≡◌, ◌≤◌, ◌<◌, length, set};
 ghost use Rattle.definition.specs.Refusals.{power_of};
 ghost use Rattle.definition.specs.Renewal.{is_near, renewed, is_small, entries_small, renewable};

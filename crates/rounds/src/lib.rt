@@ -1,5 +1,7 @@
 // Rounds of the laser with two heads: the macroblocks of a round, and rounds until four in a row have made no hole
 // (`run`). The pyramid lies by quarters; what becomes of it is said of the pyramid written row after row.
+#![tactic(auto)]
+
 ghost use Rattle.std.specs.Prelude.{◌≡◌, cond, suc, ◌<◌, eqb, length};
 ghost use Rattle.definition.specs.Pyramid.{needed};
 ghost use Rattle.definition.specs.Quarters.{rows_from};

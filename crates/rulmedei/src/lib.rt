@@ -6,6 +6,8 @@
 // else the number of the refusal (S 5.1). The renewal by itself returns 0 or 101; the lowering of greys by itself
 // returns nothing. A slice is a pointer and a length. What a caller in C must ensure (S 16.2) stands at the top of
 // include/rulmedei.h; the safe functions of the Rust crate (S 16.3) call these, and see to it.
+#![tactic(auto)]
+
 ghost use Rattle.std.specs.Prelude.{◌≡◌, set};
 ghost use Rattle.std.proofs.lemmas.List.Edits.{sets};
 ghost use Rattle.definition.specs.Answers.{checkpoint_says, text_says, compare_says};

@@ -4,11 +4,13 @@
 // the side, the knit, a seed and the places to spare; a line with the greys, if the seed is 0; a line with the count of
 // calls; and a line for each of them: the budget, the three lengths lent (pyramid, serials, order), a place of the
 // pyramid, and what is added there and what is taken away before the call.
+#![tactic(auto)]
+
 use case_io::{limit, next};
 use definition::Progress;
 
 // The record after a call, and the place behind the call.
-#[derive(Drop)]
+#[derive(Clone, Copy)]
 struct Called {
     progress: Progress,
     at: usize,

@@ -1,4 +1,6 @@
 // The program sample: writes what `sample_text` says.
+#![tactic(auto)]
+
 fn main() {
     let text = program_texts::sample_text();
     let bytes = text.bytes;

@@ -1,4 +1,6 @@
 // The sample: the greys of a map filled from a seed (`sample`).
+#![tactic(auto)]
+
 ghost use Rattle.std.specs.Prelude.{◌≡◌, ◌≤◌, length};
 ghost use Rattle.definition.specs.Answers.{sample_says};
 ghost use Rattle.definition.specs.Sample.{next_state, grey_of, sample_of};

@@ -1,5 +1,7 @@
 // The check of the calls that take a sheet: refusals 1, 11, 3, 4 and 5 (`check_sheet`; `check_lengths` and `sound_lent`
 // are its halves).
+#![tactic(auto)]
+
 ghost use Rattle.std.specs.Prelude.{◌≡◌, true, ◌≤◌, length};
 ghost use Rattle.definition.specs.Sound.{is_sound};
 ghost use Rattle.definition.specs.Advance.{sheet_in, advance_refusal};

@@ -1,5 +1,7 @@
 // Shelf (`shelf`): the numbers of a shelf's plates in order. Each plate is put among those before it, at the place that
 // a search by halves finds; no space beside the list is used.
+#![tactic(auto)]
+
 ghost use Rattle.std.specs.Prelude.{◌≡◌, ◌++◌, ◌-◌, ◌≤◌, length, drop};
 ghost use Rattle.definition.specs.Answers.{compare_says, shelf_says};
 ghost use Rattle.definition.specs.Shelf.{compared, plate_at, is_before, in_order, shelf_refusal, shelf_of};

@@ -4,6 +4,8 @@
 // The input is lines of decimal numbers parted by commas. The first line is the count of cases. A case is two lines:
 // the side, the count of plates, the lengths lent of shelf and list, and the place that parts the shelf in two for
 // Compare; and the numbers of the shelf, where any are lent.
+#![tactic(auto)]
+
 use case_io::{end_line, end_refused, field_u32, fields_u32, limit, next};
 use definition::{CompareAnswer, ShelfAnswer};
 

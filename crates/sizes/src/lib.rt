@@ -1,5 +1,7 @@
 // Sides, powers of two, level starts and lengths: the numbers that every call works with (`power_of`, `pow2`,
 // `cell_count`, `level_start`, `needed`).
+#![tactic(auto)]
+
 ghost use Rattle.std.specs.Prelude.{◌≡◌, ◌^◌, ◌≤◌, min};
 ghost use Rattle.definition.specs.Pyramid.{cell_count, needed, start};
 ghost use Rattle.definition.specs.Refusals.{power_of};

@@ -1,5 +1,7 @@
 // Sketch Quote (`sketch_quote`): the figures of a rough sketch, which has a low and a high grey for each cell. They are
 // the least and the greatest total of the maps between, and the greatest cap of each square of a level.
+#![tactic(auto)]
+
 ghost use Rattle.std.specs.Prelude.{◌≡◌, ◌≤◌, min, length};
 ghost use Rattle.definition.specs.Answers.{sketch_says};
 ghost use Rattle.definition.specs.SketchQuote.{sketch_quote_of};

@@ -1,5 +1,7 @@
 // Whether a sheet is sound (`is_sound`): its seven tests, for any contents of the three buffers, in either layout of
 // the pyramid.
+#![tactic(auto)]
+
 ghost use Rattle.std.specs.Prelude.{◌≡◌, ◌&&◌, ◌≤◌, ◌<◌, ◌+◌, ◌*◌, ◌-◌, length, get_or};
 ghost use Rattle.definition.specs.Lists.{sum_to};
 ghost use Rattle.definition.specs.Blocks.{burnt};

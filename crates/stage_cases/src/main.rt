@@ -11,11 +11,13 @@
 // 4  grey b becomes a
 // 5  the record becomes (a, b, c)
 // 6  at place b of the pyramid c is added and d is taken away
+#![tactic(auto)]
+
 use case_io::{end_line, end_refused, field, field_u32, limit, next};
 use definition::{CheckpointAnswer, CheckpointStatus, Checkpoints, Progress};
 
 // An action, and the place behind it.
-#[derive(Drop)]
+#[derive(Clone, Copy)]
 struct Action {
     kind: u32,
     a: u32,
@@ -42,7 +44,7 @@ fn read_action(text: &[u8], from: usize) -> Action {
 }
 
 // What goes from call to call beside the buffers.
-#[derive(Drop)]
+#[derive(Clone, Copy)]
 struct Held {
     progress: Progress,
     checkpoints: Checkpoints,

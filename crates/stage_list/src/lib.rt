@@ -1,6 +1,8 @@
 // The promise of names in code (`run_stages`): a map is loaded, and a list of Advance, Keep and Restore calls is made
 // on it, each lent parts of the greys and the buffers. What is promised of such a list is promised of what this code
 // leaves.
+#![tactic(auto)]
+
 ghost use Rattle.std.specs.Prelude.{◌≡◌, ◌<◌, length, replicate};
 ghost use Rattle.definition.specs.Answers.{checkpoint_says};
 ghost use Rattle.definition.specs.Stages.{return_of, act, caller_after_all};
@@ -11,7 +13,7 @@ use definition::{CheckpointAnswer, Checkpoints, Progress};
 
 // A call of the list: which one (0 Advance, 1 Keep, any other number Restore), its budget or its name, and how many
 // places it is lent of the greys and of each buffer. A Keep is lent nothing, and an Advance no greys.
-#[derive(Drop)]
+#[derive(Clone, Copy)]
 struct Item {
     kind: usize,
     number: u32,
@@ -22,7 +24,7 @@ struct Item {
 }
 
 // What the calls so far have left beside the buffers, and the next call is given: the record and the value.
-#[derive(Drop)]
+#[derive(Clone, Copy)]
 pub struct Latest {
     pub progress: Progress,
     pub checkpoints: Checkpoints,

@@ -1,4 +1,6 @@
 // Tally, the dots of a block (`tally`); and Levels, for each level the summed squares of its blocks' errors (`levels`).
+#![tactic(auto)]
+
 ghost use Rattle.std.specs.Prelude.{◌≡◌, ◌+◌, ◌≤◌, min, length, leb, cond};
 ghost use Rattle.definition.specs.Lists.{tabulate};
 ghost use Rattle.definition.specs.Answers.{tally_says, levels_says};

@@ -3,6 +3,8 @@
 // The input is lines of decimal numbers parted by commas. The first line is the count of cases. A case is four lines:
 // the side, the knit and the four lengths lent (greys, pyramid, serials, order); the greys; the count of marks and the
 // cells to mark; the count of tallies, and a level, row and column for each.
+#![tactic(auto)]
+
 use case_io::{end_line, end_refused, field, field_u32, fields_i64, fields_u32, limit, next};
 use definition::{LevelsAnswer, LevelsStatus, TallyAnswer};
 

@@ -6,13 +6,15 @@
 // List is given in its record; and then the text itself, of just that length. Damage 0 is none. Before Drill List 1
 // adds 1 to the pyramid's top; 2 says one hole more than were made, and 3 says side 3; 4, 5 and 6 lend one place less
 // of the pyramid, the serial sheet and the order list.
+#![tactic(auto)]
+
 ghost use Rattle.std.specs.Prelude.{◌≤◌};
 
 use case_io::{end_line, field, field_u32, least, limit, next};
 use definition::{MapTextAnswer, Progress, TextAnswer};
 
 // What a case asks for: the damage, the knit of the load, and the knit that the record says afterwards.
-#[derive(Drop)]
+#[derive(Clone, Copy)]
 struct Asked {
     damage: u32,
     knit: u32,

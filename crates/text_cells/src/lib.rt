@@ -1,6 +1,8 @@
 // The texts of maps and of sketches: the first line, with the side (`first_line`), and what the lines behind it say of
 // each cell (`read_cells`, `find_cells`). A map says one number of a cell, its grey; a sketch says a pair, its low and
 // its high grey. One reader serves both: to it the grey of a map is low and high at once.
+#![tactic(auto)]
+
 ghost use Rattle.std.specs.Prelude.{◌≡◌, true, ◌&&◌, ◌<◌, leb, drop};
 ghost use Rattle.definition.specs.Answers.{number_of};
 ghost use Rattle.text_cells.specs.Ends.{end_at};
@@ -14,14 +16,14 @@ use decimals::Number;
 use definition::Refusal;
 
 // What the first line of a text says: a side, with the place behind the line; or why the text is refused.
-#[derive(Drop)]
+#[derive(Clone, Copy)]
 pub enum FirstLine {
     Side(u32, usize),
     Refused(Refusal),
 }
 
 // What a text says of a cell: low and high, and the place behind them; or neither.
-#[derive(Drop)]
+#[derive(Clone, Copy)]
 pub enum Cell {
     Read(u32, u32, usize),
     Malformed,
@@ -29,7 +31,7 @@ pub enum Cell {
 
 // What a text is found to say of all cells: whether they are all there, with nothing behind them, and whether no low is
 // above its high.
-#[derive(Drop)]
+#[derive(Clone, Copy)]
 pub struct Cells {
     pub all: bool,
     pub rise: bool,

@@ -1,4 +1,6 @@
 // The program two_heads: reads standard input, and writes what `two_heads_text` says.
+#![tactic(auto)]
+
 fn main() {
     let mut input = io::large_buffer();
     let n = io::read_full(0, &mut input);

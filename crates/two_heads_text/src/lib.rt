@@ -1,4 +1,6 @@
 // What the program `two_heads` prints, as a function from bytes to bytes (`two_heads_text`).
+#![tactic(auto)]
+
 ghost use Rattle.std.specs.Prelude.{◌≡◌, ◌≤◌, length, take};
 ghost use Rattle.heads.specs.TwoHeads.{two_heads_list, two_heads_text};
 ghost use Rattle.decimals.specs.Printed.{Printed};
