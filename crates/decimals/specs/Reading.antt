@@ -34,8 +34,8 @@ digit_high b h = rw (le-leb 48 b h)
 
 -- `t` and `u` are what the code has worked out for these tests
 module _ {t : Bool} (b : ℕ) (e : t ≡ is_digit b) where
-  pub is_digit : t ≡ true → (48 ≤ b) × (b ≤ 57)
-  is_digit h = (is_digit_iff b).0 (sym e ∙ h)
+  pub is_digit_lem : t ≡ true → (48 ≤ b) × (b ≤ 57)
+  is_digit_lem h = (is_digit_iff b).0 (sym e ∙ h)
 
   module _ (most v : ℕ) where
     pub next_no_digit : t ≡ false → false ≡ is_next_digit most v b

@@ -1,4 +1,4 @@
--- Places of a map: where a cell lies among the cells by quarters (`place_in`, `read_there`, `stored_there`), and that
+-- Places of a map: where a cell lies among the cells by quarters (`place_in_lem`, `read_there`, `stored_there`), and that
 -- the numbers on the way to it are small.
 use Rattle.std.specs.Prelude.{◌≡◌, List, ℕ, ◌+◌, ◌*◌, ◌/◌, ◌%◌, ◌^◌, ◌≤◌, ◌<◌, length, get_or, set, ℤ, pos}
 use Rattle.std.proofs.Common.{sym, ap, ◌∙◌, arith, pow_mono, Fits}
@@ -25,8 +25,8 @@ pub ruleset Near-fits = (row_fits, column_fits)
 
 -- a place of a map
 module _ (r x y at : ℕ) (e : at ≡ interleaved r x y) where
-  pub place_in : {size : ℕ} → size ≡ cell_count r → at < size
-  place_in l = omega (arith, interleaved_lt r x y)
+  pub place_in_lem : {size : ℕ} → size ≡ cell_count r → at < size
+  place_in_lem l = omega (arith, interleaved_lt r x y)
 
   pub bytes_fit : r ≤ 8 → Fits w64 (at * 8)
   bytes_fit most = record { fits = omega (arith, interleaved_lt r x y, cells_few r most) }

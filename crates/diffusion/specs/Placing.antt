@@ -12,12 +12,12 @@ use Rattle.integers.specs.Machine.{words, machine, cast_asks64}
 use Rattle.layouts.specs.Cells.{rows_level}
 use Rattle.pyramid.specs.PyramidPart.{Within}
 use Rattle.diffusion.specs.OneTurn.{DiffuseAsked, PlaceAsked}
-use Rattle.diffusion.specs.Places.{place_in, bytes_fit, read_there, stored_there}
+use Rattle.diffusion.specs.Places.{place_in_lem, bytes_fit, read_there, stored_there}
 use Rattle.diffusion.specs.Shares.{set_within}
 
 module _ {cells : List ℤ} {r at row column : ℕ} (h : PlaceAsked cells r at row column) where
   pub cell_in : at < length cells
-  cell_in = place_in r row column at h.place h.whole
+  cell_in = place_in_lem r row column at h.place h.whole
 
   pub cell_bytes : Fits w64 (at * 8)
   cell_bytes = bytes_fit r row column at h.place h.cell.most

@@ -13,7 +13,7 @@ use Rattle.layouts.specs.Cells.{rows_level}
 use Rattle.pyramid.specs.PyramidPart.{Within}
 use Rattle.pyramid.specs.Four.{within_mono}
 use Rattle.diffusion.specs.OneTurn.{share_taken, ShareAsked, TakeAsked}
-use Rattle.diffusion.specs.Places.{side_small_lem, place_in, bytes_fit, read_there, stored_there}
+use Rattle.diffusion.specs.Places.{side_small_lem, place_in_lem, bytes_fit, read_there, stored_there}
 
 -- ---- a share
 part_small : (d c : ℕ) → d ≤ 2 ^ 41 → c ≤ 18 → d * c ≤ 2 ^ 46
@@ -94,7 +94,7 @@ module _ {cells : List ℤ} {r row column p w s : ℕ} (h : ShareAsked cells r r
     at_is = e ∙ interleaved_any r x y h.cell.most a b
 
     pub near_in : at < length cells
-    near_in = place_in r x y at at_is h.whole
+    near_in = place_in_lem r x y at at_is h.whole
 
     pub near_bytes : Fits w64 (at * 8)
     near_bytes = bytes_fit r x y at at_is h.cell.most

@@ -38,9 +38,9 @@ pub place_few : {at : ℕ} (a b : ℕ) → at ≡ interleaved 8 a b → at < 655
 place_few a b e = omega (arith, e, interleaved_lt 8 a b)
 
 -- and those of cells lie in a level of this length
-pub place_in : (k : ℕ) → k ≤ 8 → {long : ℕ} → long ≡ cell_count k → {at : ℕ} (a b : ℕ)
+pub place_in_lem : (k : ℕ) → k ≤ 8 → {long : ℕ} → long ≡ cell_count k → {at : ℕ} (a b : ℕ)
     → at ≡ interleaved 8 a b → a < 2 ^ k → b < 2 ^ k → at < long
-place_in k small el a b e p q = omega (arith, e, el, interleaved_any k a b small p q, interleaved_lt k a b)
+place_in_lem k small el a b e p q = omega (arith, e, el, interleaved_any k a b small p q, interleaved_lt k a b)
 
 -- ---- one more; `side`, `count` and `at` are what the code has worked out
 module _ (k : ℕ) (small : k ≤ 8) {side count : ℕ} (es : side ≡ 2 ^ k) (ec : count ≡ cell_count k)

@@ -14,7 +14,7 @@ use Rattle.integers.specs.Fill.{filled}
 use Rattle.integers.specs.Lists.{length_tabulate, get_d_tabulate}
 use Rattle.integers.specs.Machine.{back64}
 use Rattle.quadtree.specs.Levels.{cell_lt, cells_few, row_place_lem, column_place_lem}
-use Rattle.layouts.specs.Filling.{Filling, none_filled, one_filled, all_filled, place_in}
+use Rattle.layouts.specs.Filling.{Filling, none_filled, one_filled, all_filled, place_in_lem}
 use Rattle.layouts.specs.Interleaved.{interleaved_lt}
 use Rattle.places.specs.Parts.{place_parts}
 use Rattle.pyramid.specs.PyramidPart.{residual_of, residual_at, ColumnParts, RowAsked, MoreFilled, CellsAsked}
@@ -79,7 +79,7 @@ module _ {part : ℕ} {columns : List ℕ} {greys first row r side : ℕ} (h : R
     place_scaled = omega (arith, place_is, interleaved_lt 8 row column)
 
     pub place_there : {long : ℕ} → long ≡ cell_count r → first + get_or columns column 0 < long
-    place_there e = place_in r h.most e row column place_is h.down across
+    place_there e = place_in_lem r h.most e row column place_is h.down across
 
     -- the place by the cell's number
     place_of : first + get_or columns column 0

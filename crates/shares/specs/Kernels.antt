@@ -83,10 +83,10 @@ every_at test t within = (T_and (test within) (test beyond && test off) t).0
 every_at test t beyond = (T_and (test beyond) (test off) (T_and (test within) (test beyond && test off) t).1).0
 every_at test t off = (T_and (test beyond) (test off) (T_and (test within) (test beyond && test off) t).1).1
 
-kind_fits : (kernel : Kernel) (t b l r : Next) → T (kind_fits kernel t b l r) → 0 < present t + present b
+kind_fits_lem : (kernel : Kernel) (t b l r : Next) → T (kind_fits kernel t b l r) → 0 < present t + present b
     → 0 < present l + present r → KindFits kernel t b l r
 unfolding kind_fits
-kind_fits kernel t b l r h v w = go (T_or (eqb (present t + present b) 0 || eqb (present l + present r) 0) divided h)
+kind_fits_lem kernel t b l r h v w = go (T_or (eqb (present t + present b) 0 || eqb (present l + present r) 0) divided h)
   where
     D : ℕ
     D = sum_to 9 (kind_weight kernel t b l r)
@@ -118,7 +118,7 @@ fit_of kernel h =
     let v = T_and (all_to 9 (λ n. ltb (kernel.turn n) 9)) (eqb (kernel.weight 4) 0) u.1 in
     record {
       kinds = λ t b l r.
-          kind_fits kernel t b l r
+          kind_fits_lem kernel t b l r
           (every_at (λ s. kind_fits kernel t b l s)
           (every_at (λ s. every (λ z. kind_fits kernel t b s z))
           (every_at (λ s. every (λ y. every (λ z. kind_fits kernel t s y z)))

@@ -3,7 +3,7 @@ use mathlib.Core.Path.{◌∙◌}
 use native.Mathlib.Omega.{arith}
 use borrow.Author.Rules.{rules}
 use borrow.Author.Tests.{not-true, not-false}
-use Rattle.decimals.specs.Reading.{is_digit, field_out, field_other, field_digit}
+use Rattle.decimals.specs.Reading.{is_digit_lem, field_out, field_other, field_digit}
 use Rattle.decimals.proofs.read_number.Statement.{statement}
 use Rattle.decimals.proofs.read_number.Tie as tie
 
@@ -17,8 +17,8 @@ read_number_spec =
     (λ c. field_other _ _ _ _ c.before.before.before.if1.false c.before.is_digit.ensures
     (not-true _ c.if2.true))  -- returns-2
     (λ c. search rules)
-    (λ c. omega (arith, is_digit _ c.before.is_digit.ensures (not-false _ c.if2.false)))  -- sub-read-digits
-    (λ c. omega (arith, is_digit _ c.before.is_digit.ensures (not-false _ c.if2.false)))  -- cast-read-digits
+    (λ c. omega (arith, is_digit_lem _ c.before.is_digit.ensures (not-false _ c.if2.false)))  -- sub-read-digits
+    (λ c. omega (arith, is_digit_lem _ c.before.is_digit.ensures (not-false _ c.if2.false)))  -- cast-read-digits
     (λ c κs. search rules)
     (λ c.
     let z = c.before in

@@ -2,7 +2,7 @@
 use Prim.Native.Nat.{◌-◌}
 use native.Mathlib.Omega.{arith}
 use borrow.Author.Rules.{rules}
-use Rattle.layouts.specs.Filling.{Filling, none_filled, some_side, place_few, place_in, on_map_lem}
+use Rattle.layouts.specs.Filling.{Filling, none_filled, some_side, place_few, place_in_lem, on_map_lem}
 use Rattle.relay.specs.Laying.{value_at, one_laid, level_laid}
 use Rattle.relay.proofs.lay_level.Statement.{statement}
 use Rattle.relay.proofs.lay_level.Tie as tie
@@ -39,7 +39,7 @@ lay_level_spec =
     let most = s.before.requires.0.small in
     let counted = c.before.before.before.before.cell-count.ensures in
     let h = on_map_lem _ most s.pow2.ensures counted loop.i (omega arith) in
-    place_in _ most loop.invariant.long _ _ c.before.place.ensures h.0 h.1)  -- slice-set-from-level
+    place_in_lem _ most loop.invariant.long _ _ c.before.place.ensures h.0 h.1)  -- slice-set-from-level
     (λ c. search rules)
     (λ c. search rules)
     (λ c. search (one_laid, rules))  -- loop-again
