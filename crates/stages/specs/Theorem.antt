@@ -200,19 +200,19 @@ module _ (side knit : ℕ) (greys : List ℕ) (pyramid : List ℤ) (serials orde
       -- with the name kept last before `between`
       still : Each (λ a. a ≢ keeping b.name) between → is_name b.name ≡ true
           → sheet_at until_return b.name ≡ some until_keep.sheet
-      still differ is_name =
+      still differ is_name_lem =
           ap (λ (m : Memory). sheet_at m b.name) (memory_more knit r memory before (keeping b.name ∷ between))
           ∙ unfold memory_after_all in
-          all_still_kept knit r b.name is_name (model_act knit r until_keep (keeping b.name)) between differ
-          ∙ just_kept knit r b.name is_name until_keep keep_good.eight
+          all_still_kept knit r b.name is_name_lem (model_act knit r until_keep (keeping b.name)) between differ
+          ∙ just_kept knit r b.name is_name_lem until_keep keep_good.eight
 
       module _ (split : actions ≡ (before ++ (keeping b.name ∷ between)) ++ (returning b ∷ []))
           (differ : Each (λ a. a ≢ keeping b.name) between) (done : outcome.said ≡ returned []) where
         none_refused : model_return_refusal r until_return b ≡ 0
         none_refused = said_done _ (sym outcome_said ∙ done)
 
-        is_name : is_name b.name ≡ true
-        is_name =
+        is_name_lem : is_name b.name ≡ true
+        is_name_lem =
             (both (is_name b.name) (is_kept (sheet_at until_return b.name))
             (taken knit known r big power greys accepted.bytes lent p s o until_return return_good b none_refused
             ).is_known
@@ -226,7 +226,7 @@ module _ (side knit : ℕ) (greys : List ℕ) (pyramid : List ℤ) (serials orde
             ∙ unfold memory_after_all model_act in
             return_taken knit known r big power greys accepted.bytes lent p s o until_return return_good b
             none_refused
-            ∙ unfold or_else in rw (still differ is_name, or_else)
+            ∙ unfold or_else in rw (still differ is_name_lem, or_else)
 
         as_then : held_of knit r t p s o ≡ (caller_after_all greys (caller memory) before).held
         as_then =
@@ -236,13 +236,13 @@ module _ (side knit : ℕ) (greys : List ℕ) (pyramid : List ℤ) (serials orde
 
     -- ---- after a keep, a return to its name that is lent enough
     module _ (before between : List Action) (b : Return) (split : actions ≡ before ++ (keeping b.name ∷ between))
-        (differ : Each (λ a. a ≢ keeping b.name) between) (is_name : is_name b.name ≡ true)
+        (differ : Each (λ a. a ≢ keeping b.name) between) (is_name_lem : is_name b.name ≡ true)
         (g : cell_count r ≤ b.greys_lent) (lp : needed r ≤ b.pyramid_lent)
         (ls : cell_count r ≤ b.serials_lent) (lo : cell_count r ≤ b.order_lent) where
       still_there : sheet_at last b.name ≡ some (until_keep before between b).sheet
       still_there =
           ap (λ (l : List Action). sheet_at (memory_after_all knit r memory l) b.name) split
-          ∙ still before between b differ is_name
+          ∙ still before between b differ is_name_lem
 
       none_applies : model_return_refusal r last b ≡ 0
       unfolding model_return_refusal lowest is_kept
@@ -252,7 +252,7 @@ module _ (side knit : ℕ) (greys : List ℕ) (pyramid : List ℤ) (serials orde
             le-ltb b.pyramid_lent (needed r) lp,
             le-ltb b.serials_lent (cell_count r) ls,
             le-ltb b.order_lent (cell_count r) lo,
-            is_name,
+            is_name_lem,
             still_there,
           )
 
