@@ -3,12 +3,9 @@ use mathlib.Core.Path.{refl}
 use Rattle.definition.specs.Lists.{tabulate_from}
 use Rattle.definition.specs.Quarters.{interleaved}
 use Rattle.places.specs.Table.{places}
-use Rattle.places.proofs.table.Statement.{statement}
-use Rattle.places.proofs.table.Tie as tie
+use Rattle.places.proofs.table.Goals as goal
 
-returns : tie.Need-returns
+pub returns : goal.returns
 unfolding places tabulate_from interleaved
-returns c = refl
-
-pub table_spec : {M : Type 1} → statement M
-table_spec = tie.close (tie.spec returns)
+returns c =
+    refl

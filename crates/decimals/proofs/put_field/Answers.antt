@@ -1,0 +1,8 @@
+-- `decimals::put_field`.
+use borrow.Author.Rules.{rules}
+use Rattle.decimals.specs.Writing.{field_wrote}
+use Rattle.decimals.proofs.put_field.Goals as goal
+
+pub returns : goal.returns
+returns c =
+    field_wrote _ _ c.put_column.ensures.0
