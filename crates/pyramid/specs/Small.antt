@@ -4,13 +4,8 @@ use Rattle.std.specs.Prelude.{◌≡◌, List, [], ◌∷◌, ◌++◌, get_or, 
 use Prim.Native.Nat.{ℕ, zero, suc, ◌+◌, ◌*◌, ◌^◌, ◌<◌}
 use Rattle.std.proofs.Common.{arith}
 use Rattle.std.proofs.Math.Nat.{pow-succ'}
-use Rattle.std.proofs.Math.Decide.{dec_lt}
-use Rattle.std.proofs.Math.ListN.{get_or-eq_default}
-use Rattle.definition.specs.Pyramid.{row_at, column_at, level_of, four}
+use Rattle.definition.specs.Pyramid.{four}
 use Rattle.integers.specs.Linear.{zz}
-use Rattle.integers.specs.Lists.{get_d_tabulate}
-use Rattle.quadtree.specs.Levels.{row_lt, column_lt}
-use Rattle.quadtree.specs.Pyramids.{length_level}
 use Rattle.pyramid.specs.PyramidPart.{Within}
 use Rattle.pyramid.specs.Four.{within_four}
 
