@@ -1,11 +1,11 @@
 -- The two ways out of the sample: refused, with nothing changed (`refused_is`), and filled (`sampled_is`).
-use Rattle.std.specs.Prelude.{◌≡◌, List, [], ◌∷◌, ◌++◌, length, drop}
+use Rattle.std.specs.Prelude.{◌≡◌, List, length}
 use Prim.Native.Nat.{ℕ, suc, ◌-◌, ◌≤◌}
 use Rattle.std.proofs.Common.{arith}
-use Rattle.definition.specs.Answers.{returned, sample_says, number_of}
+use Rattle.definition.specs.Answers.{sample_says, number_of}
 use Rattle.definition.specs.Pyramid.{cell_count}
 use Rattle.definition.specs.Refusals.{power_of, greys_refusal}
-use Rattle.definition.specs.Sample.{sample_greys, state_after, sample_of}
+use Rattle.definition.specs.Sample.{sample_of}
 use Rattle.definition.specs.declared.Refusal.{Refusal}
 use Rattle.definition.specs.declared.SampleAnswer.TheVariants.{State, Refused}
 use Rattle.refusals.specs.Lowest.{greys_none}

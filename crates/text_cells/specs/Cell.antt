@@ -1,6 +1,6 @@
 -- What a text says of one cell, by what the code has read (`cell_read`); and numbers read cell by cell (`values_cell`,
 -- `values_broken`). A map (`pairs` is false) has one number for each cell, a sketch two, its low and its high.
-use Rattle.std.specs.Prelude.{◌≡◌, refl, Bool, true, false, List, [], ◌∷◌, ℕ, ◌≤◌, drop}
+use Rattle.std.specs.Prelude.{◌≡◌, refl, Bool, true, false, List, ◌∷◌, ℕ, ◌≤◌, drop}
 use Rattle.std.proofs.Math.Path.{sym, ap}
 use Rattle.std.proofs.Common.{◌∙◌, suc-ne-zero}
 use Rattle.std.proofs.Math.Option.{Option, some, none, map}
@@ -9,7 +9,6 @@ use Rattle.definition.specs.MapText.{values_of}
 use Rattle.grammar.specs.Fields.{text_of_field}
 use Rattle.decimals.specs.Reading.{field_in}
 use Rattle.decimals.specs.declared.Number.{Number}
-use Rattle.decimals.specs.declared.Number.TheVariants as Number
 use Rattle.text_cells.specs.Ends.{number_ends}
 use Rattle.text_cells.specs.declared.Cell.{Cell}
 use Rattle.text_cells.specs.declared.Cell.TheVariants.{Read, Malformed}

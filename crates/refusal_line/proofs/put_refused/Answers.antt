@@ -1,0 +1,9 @@
+-- `refusal_line::put_refused`.
+use Rattle.std.proofs.Common.{arith}
+use Rattle.refusal_line.specs.Line.{line_printed}
+use Rattle.refusal_line.proofs.put_refused.Goals as goal
+
+pub returns : goal.returns
+returns c =
+    line_printed _ (omega arith) _ c.requires c.put_field.ensures
+    c.put_bytes-at.ensures
