@@ -72,11 +72,11 @@ entry_at rows pyramid k i lt =
     ∙ ap (λ (n : ℕ). get_or pyramid (start k + n) (pos 0)) ((layout rows).place_back k i lt)
 
 -- the entries row after row
-pub in_rows : (rows : Bool) (r : ℕ) (pyramid : List ℤ) (k a b : ℕ) → k ≤ r → a < 2 ^ k → b < 2 ^ k
+pub in_rows_lem : (rows : Bool) (r : ℕ) (pyramid : List ℤ) (k a b : ℕ) → k ≤ r → a < 2 ^ k → b < 2 ^ k
     → entry (in_rows rows r pyramid) k a b ≡ entry_in rows pyramid k a b
 unfolding in_rows entry_in
-in_rows true r pyramid k a b h p q = refl
-in_rows false r pyramid k a b h p q = rows_entry r pyramid k a b h p q
+in_rows_lem true r pyramid k a b h p q = refl
+in_rows_lem false r pyramid k a b h p q = rows_entry r pyramid k a b h p q
 
 -- ════ cells
 
@@ -96,6 +96,6 @@ module _ (rows : Bool) (r : ℕ) (most : r ≤ 8) (a b : ℕ) (p : a < 2 ^ r) (q
       → entry (in_rows rows r pyramid) r a b
       ≡ get_or pyramid (start r + row_place rows (2 ^ r) a + column_place rows b) (pos 0)
   cell_entry pyramid =
-      in_rows rows r pyramid r a b (omega arith) p q
+      in_rows_lem rows r pyramid r a b (omega arith) p q
       ∙ entry_placed rows pyramid r a b
       ∙ ap (λ (n : ℕ). get_or pyramid n (pos 0)) (omega (arith, two_parts))

@@ -12,7 +12,7 @@ use Rattle.integers.specs.Tests.{T_true, T_and, every_entry_at, tests, and_true,
 use Rattle.integers.specs.Linear.{neg_le_up, zz, ints}
 use Rattle.pyramid.specs.PyramidPart.{Within}
 use Rattle.sound.specs.OnePlace.{in_rows, SoundAsked, NumberedAsked, SummedAsked}
-use Rattle.sound.specs.Either.{in_rows}
+use Rattle.sound.specs.Either.{in_rows_lem}
 use Rattle.integers.specs.Loops.{held}
 use Rattle.dots.specs.Near.{burnt_near_most}
 
@@ -54,7 +54,7 @@ summed_asked rows r pyramid serials h e f =
       most = h.most;
       whole = h.whole;
       small = λ x y p q.
-          rw (← in_rows rows r pyramid r x y (omega arith) p q)
+          rw (← in_rows_lem rows r pyramid r x y (omega arith) p q)
           (cells_within r cells serials t.0 t.1 x y p q);
     }
 

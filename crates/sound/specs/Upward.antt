@@ -15,7 +15,7 @@ use Rattle.pyramid.specs.Four.{within_mono}
 use Rattle.pyramid.specs.Small.{four_small}
 use Rattle.sound.specs.OnePlace.{in_rows, entry_in, LevelAsked, SummedAsked, level_summed}
 use Rattle.integers.specs.Loops.{held, failed}
-use Rattle.sound.specs.Either.{row_in, column_in, layout, all_to_ext, every_ext, entry_at, in_rows}
+use Rattle.sound.specs.Either.{row_in, column_in, layout, all_to_ext, every_ext, entry_at, in_rows_lem}
 
 -- the levels from k on hold, and the entries of level k are small
 pub record Upward (rows : Bool) (pyramid : List ℤ) (r k : ℕ) : Type 0 where
@@ -89,8 +89,8 @@ unfolding summed
 summed_in rows r pyramid =
     all_to_ext r _ _ (λ m lt. every_ext m _ _ (λ a b p q.
     let two : 2 ^ suc m ≡ 2 * 2 ^ m = pow-succ' 2 m in
-    ap₂ eq_z (in_rows rows r pyramid m a b (omega arith) p q)
-    (four_ext (2 ^ m) _ _ a b p q (λ x y u v. in_rows rows r pyramid (suc m) x y lt (omega arith) (omega arith)))))
+    ap₂ eq_z (in_rows_lem rows r pyramid m a b (omega arith) p q)
+    (four_ext (2 ^ m) _ _ a b p q (λ x y u v. in_rows_lem rows r pyramid (suc m) x y lt (omega arith) (omega arith)))))
 
 module _ {rows : Bool} {pyramid : List ℤ} {r : ℕ} where
   pub fails : {k : ℕ} {b : Bool} → Upward rows pyramid r k → 0 < k
