@@ -40,7 +40,7 @@ module _ {cells : List ℤ} {r at row column : ℕ} (h : PlaceAsked cells r at r
   owed = rw (← there) h.owed
 
   read : w ≡ z
-  read = let b = bounds in to_z-of_z (simp words (omega machine))
+  read = let b = bounds in to_z-of_z {w = w64} (simp words (omega machine))
 
   pub lack_fits : (n : ℕ) → n ≤ one_dot → SFits w64 (pos n -ℤ w)
   lack_fits n k = let b = bounds in rw read (simp words (omega machine))
