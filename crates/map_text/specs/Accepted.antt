@@ -11,8 +11,10 @@ use Rattle.definition.specs.declared.MapTextAnswer.{MapTextAnswer}
 use Rattle.definition.specs.declared.MapTextAnswer.TheVariants.{Side, Refused}
 use Rattle.definition.specs.declared.TextAnswer.{TextAnswer}
 use Rattle.definition.specs.declared.TextAnswer.TheVariants.{Length}
-use Rattle.grammar.specs.MapText.{LowMapOf, map_text_outcome, map_text_returned_iff}
-use Rattle.grammar.specs.LowerText.{Converted, converted}
+use Rattle.grammar.specs.MapText.{LowMapOf}
+use Rattle.grammar.proofs.MapText.{map_text_outcome, map_text_returned_iff}
+use Rattle.grammar.specs.LowerText.{Converted}
+use Rattle.grammar.proofs.LowerText.{converted}
 
 returned_side : (a : MapTextAnswer) (side : ℕ) → map_text_says a ≡ returned (side ∷ []) → a ≡ Side side
 unfolding map_text_says

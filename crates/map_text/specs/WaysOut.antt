@@ -17,8 +17,9 @@ use Rattle.definition.specs.declared.Refusal.TheVariants.{TextMalformed, OutputS
 use Rattle.definition.specs.declared.MapTextAnswer.TheVariants as MapText
 use Rattle.definition.specs.declared.TextAnswer.TheVariants as Text
 use Rattle.grammar.specs.Lines.{length_repeated_line_ends, fields_of_values}
-use Rattle.grammar.specs.Grammar.{MapOf, grammar}
-use Rattle.grammar.specs.LowerText.{lowered_as_long, lower_text_outcome, lower_text_short}
+use Rattle.grammar.specs.Grammar.{MapOf}
+use Rattle.grammar.proofs.Grammar.{grammar}
+use Rattle.grammar.proofs.LowerText.{lowered_as_long, lower_text_outcome, lower_text_short}
 use Rattle.decimals.specs.Writing.{sets_front}
 use Rattle.decimals.specs.Printed.{wrote_printed}
 use Rattle.text_cells.specs.Cells.{CellsRead}

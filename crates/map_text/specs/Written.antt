@@ -9,7 +9,7 @@ use Rattle.definition.specs.Lowering.{lowered}
 use Rattle.definition.specs.Text.{newline, decimal}
 use Rattle.definition.specs.MapText.{map_ends, map_text}
 use Rattle.grammar.specs.Lines.{AtMost, fields_text, fields_text_append, length_repeated_line_ends}
-use Rattle.grammar.specs.Grammar.{map_text_fields}
+use Rattle.grammar.proofs.Grammar.{map_text_fields}
 use Rattle.decimals.specs.Writing.{Wrote, wrote_none, wrote_append, field_text, length_decimal}
 use Rattle.text_cells.specs.Ends.{end_at, rows_ends_at}
 use Rattle.text_cells.specs.Cells.{size_small}

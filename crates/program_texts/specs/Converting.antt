@@ -15,8 +15,9 @@ use Rattle.definition.specs.declared.Refusal.{Refusal}
 use Rattle.definition.specs.declared.TextAnswer.{TextAnswer}
 use Rattle.definition.specs.declared.TextAnswer.TheVariants.{Length, Refused}
 use Rattle.refusals.specs.Powers.{side_positive, side_most}
-use Rattle.grammar.specs.Grammar.{MapOf, grammar}
-use Rattle.grammar.specs.LowerText.{lowered_as_long, lower_text_outcome}
+use Rattle.grammar.specs.Grammar.{MapOf}
+use Rattle.grammar.proofs.Grammar.{grammar}
+use Rattle.grammar.proofs.LowerText.{lowered_as_long, lower_text_outcome}
 use Rattle.decimals.specs.Writing.{length_decimal}
 use Rattle.decimals.specs.Printed.{Printed}
 use Rattle.map_text.specs.Written.{MapLent, map_length}

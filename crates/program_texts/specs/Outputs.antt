@@ -15,7 +15,8 @@ use Rattle.definition.specs.declared.Refusal.{Refusal}
 use Rattle.definition.specs.declared.MapTextAnswer.{MapTextAnswer}
 use Rattle.definition.specs.declared.MapTextAnswer.TheVariants.{Side, Refused}
 use Rattle.refusals.specs.Powers.{cell_count_side}
-use Rattle.grammar.specs.MapText.{LowMapOf, read_low_iff}
+use Rattle.grammar.specs.MapText.{LowMapOf}
+use Rattle.grammar.proofs.MapText.{read_low_iff}
 use Rattle.map_text.specs.Accepted.{accepts_iff, leaves_greys}
 use Rattle.decimals.specs.Printed.{Printed}
 use Rattle.program_texts.specs.Lengths.{needed_few}

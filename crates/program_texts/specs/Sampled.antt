@@ -12,7 +12,7 @@ use Rattle.definition.specs.Sample.{sample_greys, sample_of, sample_text}
 use Rattle.definition.specs.Plate.{finished_of, plate_of}
 use Rattle.refusals.specs.Lowest.{greys_none}
 use Rattle.lowering.specs.Low.{low_at, lowered_length, lowered_low}
-use Rattle.grammar.specs.MapText.{read_low_iff}
+use Rattle.grammar.proofs.MapText.{read_low_iff}
 use Rattle.decimals.specs.Writing.{Wrote, length_decimal}
 use Rattle.decimals.specs.Printed.{wrote_printed, printed_text}
 use Rattle.map_text.specs.Written.{MapLent, map_length}

@@ -32,7 +32,7 @@ use Rattle.definition.specs.declared.Refusal.{Refusal}
 use Rattle.definition.specs.declared.SketchAnswer.{SketchAnswer}
 use Rattle.definition.specs.declared.SketchAnswer.TheVariants.{Quoted, Refused}
 use Rattle.refusals.specs.Powers.{power_of_small}
-use Rattle.grammar.specs.Sketch.{sketch_none}
+use Rattle.grammar.proofs.Sketch.{sketch_none}
 use Rattle.decimals.specs.Writing.{column_text, Wrote, wrote_append, wrote_joined_none, wrote_joined_more}
 use Rattle.decimals.specs.Printed.{Printed, wrote_printed}
 use Rattle.quote_page.specs.Lines.{then_column, last_column}

@@ -8,7 +8,8 @@ use Rattle.definition.specs.Answers.{returned, sketch_says}
 use Rattle.definition.specs.SketchQuote.{SketchOutcome, sketch_quote_of}
 use Rattle.definition.specs.declared.SketchAnswer.{SketchAnswer}
 use Rattle.definition.specs.declared.SketchAnswer.TheVariants.{Quoted, Refused}
-use Rattle.grammar.specs.Sketch.{QuotedSketch, sketch_returned_iff}
+use Rattle.grammar.specs.Sketch.{QuotedSketch}
+use Rattle.grammar.proofs.Sketch.{sketch_returned_iff}
 use Rattle.sketch_range.specs.Promise.{Ranged}
 use Rattle.sketch_range.specs.Holds.{sketch_holds, ranges_left}
 

@@ -25,8 +25,9 @@ use Rattle.definition.specs.declared.SketchAnswer.TheVariants.{Quoted, Refused}
 use Rattle.refusals.specs.Numbers.{number_positive}
 use Rattle.refusals.specs.Powers.{power_of_small, cell_count_side}
 use Rattle.grammar.specs.Lines.{repeated_line_ends_no_digits}
-use Rattle.grammar.specs.MapText.{values_low}
-use Rattle.grammar.specs.Sketch.{Apart, read_apart, Passed, sketch_none}
+use Rattle.grammar.proofs.MapText.{values_low}
+use Rattle.grammar.specs.Sketch.{Apart, Passed}
+use Rattle.grammar.proofs.Sketch.{read_apart, sketch_none}
 use Rattle.checks.specs.Checks.{checked, passed_none, failed_number}
 use Rattle.checks.specs.declared.Check.{Check}
 use Rattle.checks.specs.declared.Check.TheVariants as Check

@@ -11,7 +11,8 @@ use Rattle.definition.specs.QuotePage.{quote_cap}
 use Rattle.definition.specs.SketchQuote.{caps_of, SketchOutcome, sketch_quote_of}
 use Rattle.integers.specs.Lists.{length_tabulate}
 use Rattle.refusals.specs.Powers.{cell_count_side}
-use Rattle.grammar.specs.Sketch.{Quotable, QuotedSketch, sketch_outcome, sketch_returned_iff}
+use Rattle.grammar.specs.Sketch.{Quotable, QuotedSketch}
+use Rattle.grammar.proofs.Sketch.{sketch_outcome, sketch_returned_iff}
 use Rattle.sketch_range.specs.Promise.{Same, Ranged}
 use Rattle.sketch_range.specs.Range.{ranged, ranged_same}
 

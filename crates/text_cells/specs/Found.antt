@@ -11,7 +11,7 @@ use Rattle.definition.specs.Answers.{number_of}
 use Rattle.definition.specs.Lowering.{none_high}
 use Rattle.definition.specs.MapText.{map_ends, values_of}
 use Rattle.definition.specs.declared.Refusal.TheVariants.{TextMalformed, GreyHigh}
-use Rattle.grammar.specs.MapText.{values_low}
+use Rattle.grammar.proofs.MapText.{values_low}
 use Rattle.text_cells.specs.Ends.{number_ends, ends_no_digits}
 use Rattle.text_cells.specs.Cells.{lows_in, highs_in, rise_in, Stored, stored, cells_from, CellsRead}
 use Rattle.text_cells.specs.declared.Cells.{Cells}

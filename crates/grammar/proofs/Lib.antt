@@ -1,0 +1,4 @@
+pub mod Grammar
+pub mod MapText
+pub mod LowerText
+pub mod Sketch
