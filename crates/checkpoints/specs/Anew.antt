@@ -11,7 +11,7 @@ use Rattle.pyramid.specs.PyramidPart.{fresh_pyramid}
 use Rattle.layouts.specs.Relaid.{length_rows, length_quarters, rows_back, quarters_back}
 use Rattle.shares.specs.Kernels.{knit_fit}
 use Rattle.dots.specs.Steps.{Sheet, steps_min}
-use Rattle.guarantee.specs.Start.{each_of, start_sheet}
+use Rattle.guarantee.proofs.Start.{each_of, start_sheet}
 use Rattle.fresh_sheet.specs.Filling.{Filled}
 use Rattle.dot_run.specs.Running.{RunAsked, Ran}
 use Rattle.checkpoints.specs.Restoring.{AnewAsked, Restored}

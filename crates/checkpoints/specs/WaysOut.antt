@@ -32,7 +32,7 @@ use Rattle.layouts.specs.Lent.{rows_length, rows_drop, as_quarters_part, quarter
 use Rattle.checks.specs.Checks.{checked, passed_none, failed_number}
 use Rattle.checks.specs.declared.Check.{Check}
 use Rattle.checks.specs.declared.Check.TheVariants.{Passed, Failed}
-use Rattle.guarantee.specs.Quote.{figures_fit}
+use Rattle.guarantee.proofs.Quote.{figures_fit}
 use Rattle.sheet.specs.Sheets.{SheetLent, shown_rows}
 use Rattle.fresh_sheet.specs.Filling.{fill_lent}
 use Rattle.quote_figures.specs.MapLent.{MapLent}

@@ -144,7 +144,6 @@ grammar text room side greys = (
         each_byte = λ i h. omega (arith, m.small i h);
         enough = omega arith;
       }),
-
 )
 
 pub written_text_accepted : (room side : ℕ) (greys : List ℕ) → 0 < power_of side → length greys ≡ side * side

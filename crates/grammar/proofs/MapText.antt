@@ -21,7 +21,6 @@ read_low_iff text room side greys = (
   λ m.
       let low = at_low greys (λ i h. omega (arith, m.low i h)) in
       rw ((grammar text room side greys).1 m.map, low, read_low),
-
 )
   where
     from : (o : Reading) → read_map text room ≡ o → read_low text room ≡ accepted side greys
@@ -63,7 +62,6 @@ map_text_returned_iff text buffer side = (
         | rejected n ↦ λ q. absurd (suc-ne-zero 0 (cc (rw (q, map_text_of) at e)))
       ]) refl,
   λ m. ap (λ (o : GreysOutcome). o.said) (map_text_outcome text buffer side m.0 m.1),
-
 )
 
 -- read with the bound 240, a text has the numbers that the grammar reads, where none of them is too high

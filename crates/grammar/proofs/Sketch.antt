@@ -189,7 +189,6 @@ sketch_none r pairs k room = (
       ∙ lowest_past 6 (ltb r k) _ (le-ltb r k p.level)
       ∙ lowest_past 8 (ltb room (2 ^ k * 2 ^ k)) _ (le-ltb room (2 ^ k * 2 ^ k) p.enough)
       ∙ unfold lowest in refl,
-
 )
 
 module _ (text : List ℕ) (k : ℕ) (lows₀ highs₀ caps₀ : List ℕ) (side : ℕ) where
@@ -232,7 +231,6 @@ sketch_returned_iff text k lows₀ highs₀ caps₀ side least greatest = (
       rw (q.least_is, q.greatest_is)
       (ap (λ (o : SketchOutcome). o.said)
       (sketch_outcome text k lows₀ highs₀ caps₀ side q.lows q.highs q.quotable)),
-
 )
   where
     from : (o : Reading) → read_text sketch_ends text (min (length lows₀) (length highs₀)) ≡ o

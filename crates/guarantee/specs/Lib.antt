@@ -1,15 +1,1 @@
 pub mod PriceList
-pub mod Floor
-pub mod Quote
-pub mod Capped
-pub mod Lent
-pub mod Start
-pub mod OneCall
-pub mod ManyCalls
-pub mod Theorem
-pub mod Clauses
-pub mod Full
-pub mod Sharp
-pub mod Listed
-pub mod Relay
-pub mod Example

@@ -1,11 +1,1 @@
 pub mod Promise
-pub mod Local
-pub mod Working
-pub mod Orders
-pub mod OwnCells
-pub mod Rounds
-pub mod Run
-pub mod Checks
-pub mod Call
-pub mod Clauses
-pub mod Example

@@ -25,7 +25,7 @@ use Rattle.heads.specs.TwoHeads.{
 use Rattle.quadtree.specs.Areas.{In}
 use Rattle.dots.specs.Steps.{Sheet}
 use Rattle.guarantee.specs.PriceList.{Each}
-use Rattle.guarantee.specs.Listed.{listed_of}
+use Rattle.guarantee.proofs.Listed.{listed_of}
 
 -- ---- the cells of a macroblock
 -- cell (x, y) is one of its 64

@@ -26,14 +26,14 @@ use Rattle.layouts.specs.Relaid.{length_quarters, rows_back}
 use Rattle.layouts.specs.Lent.{rows_length, rows_taken, quarters_rows}
 use Rattle.dots.specs.Steps.{Sheet}
 use Rattle.guarantee.specs.PriceList.{Each}
-use Rattle.guarantee.specs.Lent.{held_of}
-use Rattle.guarantee.specs.Start.{each_of, start_sheet, Loaded, accepted_loaded, loaded_held}
+use Rattle.guarantee.proofs.Lent.{held_of}
+use Rattle.guarantee.proofs.Start.{each_of, start_sheet, Loaded, accepted_loaded, loaded_held}
 use Rattle.checks.specs.Checks.{checked, passed_none, failed_number}
 use Rattle.checks.specs.declared.Check.{Check}
 use Rattle.checks.specs.declared.Check.TheVariants.{Passed, Failed}
 use Rattle.heads.specs.TwoHeads.{two_heads_refusal, TwoHeadsOutcome, two_heads_by_quarters, two_heads_in, two_heads}
-use Rattle.head_order.specs.Checks.{power_large, heads_load}
-use Rattle.head_order.specs.Call.{out_refused, out_is, expected}
+use Rattle.head_order.proofs.Checks.{power_large, heads_load}
+use Rattle.head_order.proofs.Call.{out_refused, out_is, expected}
 use Rattle.laser.specs.SheetLent.{sheet_of, SheetLent, ran_of}
 
 -- ---- the checks up to the knit

@@ -15,7 +15,7 @@ use Rattle.heads.specs.TwoHeads.{macroblock_sum, wanted, clear, burns, work}
 use Rattle.quadtree.specs.Levels.{cells_few}
 use Rattle.shares.specs.Kernels.{knit_fit}
 use Rattle.head_order.specs.Promise.{Fits}
-use Rattle.head_order.specs.Working.{
+use Rattle.head_order.proofs.Working.{
   best_row,
   best_column,
   work_made,

@@ -9,7 +9,7 @@ use Rattle.definition.specs.Shelf.{pattern, first_difference, compared}
 use Rattle.definition.specs.declared.CompareAnswer.{CompareAnswer}
 use Rattle.definition.specs.declared.CompareAnswer.TheVariants.{Before, After}
 use Rattle.blocks.specs.Blocks.{BlockAsked}
-use Rattle.shelf_order.specs.Order.{fewer, more, as_many}
+use Rattle.shelf_order.proofs.Order.{fewer, more, as_many}
 use Rattle.plate_order.specs.TwoPlates.{PlatesAsked}
 
 module _ {left right r : ℕ} (h : PlatesAsked left right r) where

@@ -23,9 +23,9 @@ use Rattle.refusals.specs.Lowest.{LoadLent, load_none}
 use Rattle.layouts.specs.Relaid.{length_quarters}
 use Rattle.shares.specs.Kernels.{knit_fit}
 use Rattle.dots.specs.Steps.{Sheet, steps_sheet, steps_made, steps_min}
-use Rattle.guarantee.specs.Lent.{held_of}
-use Rattle.guarantee.specs.OneCall.{model_taken, held_same}
-use Rattle.guarantee.specs.Start.{Loaded, loaded_held}
+use Rattle.guarantee.proofs.Lent.{held_of}
+use Rattle.guarantee.proofs.OneCall.{model_taken, held_same}
+use Rattle.guarantee.proofs.Start.{Loaded, loaded_held}
 
 -- the finished sheet of a map, in buffers that went on behind the needed lengths as p, s and o do
 abbrev pub finished_in : ℕ → List ℕ → List ℤ → List ℕ → List ℕ → Held

@@ -17,7 +17,7 @@ use Rattle.definition.specs.Plate.{finished_of}
 use Rattle.definition.specs.Quote.{quote_of_map}
 use Rattle.quadtree.specs.Areas.{area_ext, block_area}
 use Rattle.quadtree.specs.Levels.{cell_lt, block_side_lem, block_on_map}
-use Rattle.guarantee.specs.Start.{start_front}
+use Rattle.guarantee.proofs.Start.{start_front}
 
 -- a block's sum sees the cells of the map only
 block_ext : (r k a b : ℕ) (f g : ℕ → ℕ → ℕ) → k ≤ r → a < 2 ^ k → b < 2 ^ k

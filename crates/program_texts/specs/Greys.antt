@@ -7,7 +7,7 @@ use Rattle.definition.specs.Pyramid.{cell_count}
 use Rattle.definition.specs.Model.{model_start}
 use Rattle.definition.specs.Load.{low_map}
 use Rattle.dots.specs.Steps.{Sheet}
-use Rattle.guarantee.specs.Start.{each_of, start_sheet, start_front, at_low_map}
+use Rattle.guarantee.proofs.Start.{each_of, start_sheet, start_front, at_low_map}
 
 module _ (r : ℕ) (values rest : List ℕ) (count : length values ≡ cell_count r) where
   pub front_sheet : ((i : ℕ) → i < length values → get_or values i 0 ≤ 255) → Sheet r (model_start r (values ++ rest))

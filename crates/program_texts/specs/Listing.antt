@@ -18,8 +18,8 @@ use Rattle.definition.specs.declared.TextAnswer.{TextAnswer}
 use Rattle.definition.specs.declared.TextAnswer.TheVariants.{Length, Refused}
 use Rattle.refusals.specs.Powers.{side_pow}
 use Rattle.dots.specs.Steps.{Sheet}
-use Rattle.guarantee.specs.Lent.{held_of}
-use Rattle.guarantee.specs.Listed.{listed_of, lists}
+use Rattle.guarantee.proofs.Lent.{held_of}
+use Rattle.guarantee.proofs.Listed.{listed_of, lists}
 use Rattle.decimals.specs.Printed.{Printed}
 use Rattle.program_texts.specs.Promised.{text_printed, not_refused_there}
 use Rattle.program_texts.specs.Lengths.{list_length}

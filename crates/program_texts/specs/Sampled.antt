@@ -17,7 +17,7 @@ use Rattle.decimals.specs.Writing.{Wrote, length_decimal}
 use Rattle.decimals.specs.Printed.{wrote_printed, printed_text}
 use Rattle.map_text.specs.Written.{MapLent, map_length}
 use Rattle.sample_runs.specs.Runs.{length_greys}
-use Rattle.sample_runs.specs.InTurn.{accepted_is}
+use Rattle.sample_runs.proofs.InTurn.{accepted_is}
 
 -- the greys of the sample, and of the program
 abbrev sampled : List ℕ

@@ -36,7 +36,7 @@ use Rattle.grammar.proofs.Sketch.{sketch_none}
 use Rattle.decimals.specs.Writing.{column_text, Wrote, wrote_append, wrote_joined_none, wrote_joined_more}
 use Rattle.decimals.specs.Printed.{Printed, wrote_printed}
 use Rattle.quote_page.specs.Lines.{then_column, last_column}
-use Rattle.sketch_range.specs.Holds.{length_caps}
+use Rattle.sketch_range.proofs.Holds.{length_caps}
 
 -- ---- lines
 pub totals_wrote : {l l₁ l₂ : List ℕ} {at b c : ℕ} (least greatest : ℕ)

@@ -9,7 +9,7 @@ use Rattle.definition.specs.Blocks.{grey_sum, dots_in}
 use Rattle.definition.specs.QuotePage.{quote_cap, figures, columns, aligned_line, quote_line, quote_text}
 use Rattle.quadtree.specs.Levels.{block_side_lem}
 use Rattle.decimals.specs.Writing.{Wrote}
-use Rattle.guarantee.specs.Quote.{figures_fit}
+use Rattle.guarantee.proofs.Quote.{figures_fit}
 use Rattle.quote_page.specs.Lines.{length_line}
 
 -- 29 bytes for each block of level k

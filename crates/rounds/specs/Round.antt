@@ -13,8 +13,8 @@ use Rattle.heads.specs.TwoHeads.{Macroblock, row_offset, column_offset, across, 
 use Rattle.shares.specs.Kernels.{knit_fit}
 use Rattle.dots.specs.Steps.{Sheet}
 use Rattle.head_order.specs.Promise.{Fits}
-use Rattle.head_order.specs.Working.{work_sheet}
-use Rattle.head_order.specs.Orders.{in_round, in_place, round_fits_at}
+use Rattle.head_order.proofs.Working.{work_sheet}
+use Rattle.head_order.proofs.Orders.{in_round, in_place, round_fits_at}
 use Rattle.macroblock.specs.FourBlocks.{LargeSheet}
 use Rattle.rounds.specs.Offsets.{AcrossAsked}
 

@@ -13,7 +13,7 @@ use Rattle.refusals.specs.Numbers.{number_positive}
 use Rattle.checks.specs.Checks.{checked, passed_none, failed_number}
 use Rattle.checks.specs.declared.Check.{Check}
 use Rattle.checks.specs.declared.Check.TheVariants.{Passed, Failed}
-use Rattle.sample_runs.specs.InTurn.{accepted_is}
+use Rattle.sample_runs.proofs.InTurn.{accepted_is}
 use Rattle.sample_map.specs.Filled.{Sampled}
 
 module _ (seed side : ℕ) {r : ℕ} (er : r ≡ power_of side) (greys : List ℕ) (check : Check)

@@ -3,7 +3,7 @@
 use Rattle.std.specs.Prelude.{◌≡◌, true, false, List, ℕ, ◌+◌, ◌*◌, ◌≤◌, ◌<◌, length, get_or, take}
 use Rattle.definition.specs.Pyramid.{cell_count}
 use Rattle.definition.specs.Shelf.{in_order}
-use Rattle.shelf_order.specs.Insertion.{before_at_place}
+use Rattle.shelf_order.proofs.Insertion.{before_at_place}
 
 -- plates x and y of a shelf with `lent` places
 pub record PairAsked (lent r x y : ℕ) : Type 0 where

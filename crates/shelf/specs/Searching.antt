@@ -5,8 +5,8 @@ use Rattle.std.proofs.Math.Decide.{ℕ_discrete}
 use Rattle.std.specs.Int.{w64}
 use Rattle.definition.specs.Pyramid.{cell_count}
 use Rattle.definition.specs.Shelf.{is_before, in_order}
-use Rattle.shelf_order.specs.Insertion.{each_at, stands, in_order_length, in_order_below, in_order_pairs}
-use Rattle.shelf_order.specs.Insertion.{before_at_place, before_onwards}
+use Rattle.shelf_order.proofs.Insertion.{each_at, stands, in_order_length, in_order_below, in_order_pairs}
+use Rattle.shelf_order.proofs.Insertion.{before_at_place, before_onwards}
 use Rattle.shelf.specs.PlatesLent.{PairAsked, PlaceAsked, PlaceFor}
 
 -- ---- the search

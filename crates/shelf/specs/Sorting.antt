@@ -7,7 +7,7 @@ use Rattle.std.proofs.Math.ListN.{take, drop}
 use Rattle.std.proofs.Math.Seq.{length-take-le, drop_at, take-take}
 use Rattle.definition.specs.Pyramid.{cell_count}
 use Rattle.definition.specs.Shelf.{in_order}
-use Rattle.shelf_order.specs.Insertion.{in_order_length, insert_at}
+use Rattle.shelf_order.proofs.Insertion.{in_order_length, insert_at}
 use Rattle.shelf.specs.PlatesLent.{PlaceAsked, PlaceFor, PutAsked, SortAsked}
 use Rattle.shelf.specs.Putting.{carried, carried_is}
 use Rattle.shelf.specs.Searching.{before_place}

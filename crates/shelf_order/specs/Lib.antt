@@ -1,4 +1,2 @@
 pub mod Differences
-pub mod Order
 pub mod Insertion
-pub mod Sorted

@@ -11,7 +11,7 @@ use Rattle.definition.specs.declared.SketchAnswer.TheVariants.{Quoted, Refused}
 use Rattle.grammar.specs.Sketch.{QuotedSketch}
 use Rattle.grammar.proofs.Sketch.{sketch_returned_iff}
 use Rattle.sketch_range.specs.Promise.{Ranged}
-use Rattle.sketch_range.specs.Holds.{sketch_holds, ranges_left}
+use Rattle.sketch_range.proofs.Holds.{sketch_holds, ranges_left}
 
 returned_figures : (a : SketchAnswer) (side least greatest : ℕ)
     → sketch_says a ≡ returned (side ∷ least ∷ greatest ∷ []) → a ≡ Quoted side least greatest

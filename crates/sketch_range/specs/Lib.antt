@@ -1,4 +1,1 @@
 pub mod Promise
-pub mod Range
-pub mod Holds
-pub mod Clauses

@@ -15,7 +15,7 @@ use Rattle.definition.specs.Stages.{
 }
 use Rattle.guarantee.specs.PriceList.{Accepted}
 use Rattle.stages.specs.Promise.{StagesHold, NamesHold}
-use Rattle.stages.specs.Theorem.{names_hold}
+use Rattle.stages.proofs.Theorem.{names_hold}
 
 -- What the caller holds after Load and a list of calls; and, if Load accepts, the promise of names of it.
 pub record Promised (side knit : ℕ) (g : List ℕ) (p : List ℤ) (s o : List ℕ)

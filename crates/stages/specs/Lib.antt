@@ -1,7 +1,1 @@
 pub mod Promise
-pub mod Stage
-pub mod OneAction
-pub mod LastKept
-pub mod Theorem
-pub mod Clauses
-pub mod Example

@@ -24,11 +24,11 @@ use Rattle.heads.specs.TwoHeads.{two_heads, TwoHeadsOutcome, two_heads_refusal, 
 use Rattle.refusals.specs.Lowest.{load_none}
 use Rattle.shares.specs.Kernels.{knit_fit}
 use Rattle.guarantee.specs.PriceList.{Each}
-use Rattle.guarantee.specs.Start.{each_of}
-use Rattle.head_order.specs.Checks.{power_large, heads_none, heads_small}
+use Rattle.guarantee.proofs.Start.{each_of}
+use Rattle.head_order.proofs.Checks.{power_large, heads_none, heads_small}
 use Rattle.head_order.specs.Promise.{HeadsHold}
-use Rattle.head_order.specs.Call.{out_refused, none_accepted, heads_hold}
-use Rattle.head_order.specs.Run.{run_sheet}
+use Rattle.head_order.proofs.Call.{out_refused, none_accepted, heads_hold}
+use Rattle.head_order.proofs.Run.{run_sheet}
 use Rattle.decimals.specs.Printed.{Printed}
 use Rattle.program_texts.specs.Lengths.{list_length}
 use Rattle.program_texts.specs.Finished.{MapAsked}

@@ -16,7 +16,7 @@ use Rattle.definition.specs.declared.Refusal.{Refusal}
 use Rattle.definition.specs.declared.MapTextAnswer.{MapTextAnswer}
 use Rattle.definition.specs.declared.MapTextAnswer.TheVariants.{Side, Refused}
 use Rattle.heads.specs.TwoHeads.{two_heads_in, two_heads, two_heads_list, two_heads_text}
-use Rattle.guarantee.specs.Start.{start_front}
+use Rattle.guarantee.proofs.Start.{start_front}
 use Rattle.decimals.specs.Printed.{Printed}
 use Rattle.program_texts.specs.Outputs.{refused_rejected, found, count, greys_are, read_is}
 

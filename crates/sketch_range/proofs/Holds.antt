@@ -14,7 +14,7 @@ use Rattle.refusals.specs.Powers.{cell_count_side}
 use Rattle.grammar.specs.Sketch.{Quotable, QuotedSketch}
 use Rattle.grammar.proofs.Sketch.{sketch_outcome, sketch_returned_iff}
 use Rattle.sketch_range.specs.Promise.{Same, Ranged}
-use Rattle.sketch_range.specs.Range.{ranged, ranged_same}
+use Rattle.sketch_range.proofs.Range.{ranged, ranged_same}
 
 -- of a call with these buffers that returned these figures, and left `out`
 pub record SketchHolds (text : List ℕ) (k : ℕ) (lows₀ highs₀ caps₀ : List ℕ) (side least greatest : ℕ)

@@ -91,7 +91,7 @@ use Rattle.definition.specs.Stages.{
 }
 use Rattle.guarantee.specs.PriceList.{Accepted}
 use Rattle.stages.specs.Promise.{NamesHold}
-use Rattle.stages.specs.Theorem.{names_hold}
+use Rattle.stages.proofs.Theorem.{names_hold}
 
 abbrev greys : List ℕ
 greys = 128 ∷ 128 ∷ 128 ∷ 128 ∷ []

@@ -17,8 +17,8 @@ use Rattle.definition.specs.Text.{TextOutcome}
 use Rattle.integers.specs.Tests.{true_T}
 use Rattle.refusals.specs.Powers.{power_of_pow}
 use Rattle.dots.specs.SoundTest.{sound_test}
-use Rattle.guarantee.specs.Start.{accepted_loaded}
-use Rattle.guarantee.specs.Clauses as guarantee
+use Rattle.guarantee.proofs.Start.{accepted_loaded}
+use Rattle.guarantee.proofs.Clauses as guarantee
 use Rattle.shares.specs.Kernels.{knit_fit}
 use Rattle.dots.specs.Steps.{Sheet}
 use Rattle.heads.specs.TwoHeads.{
@@ -34,9 +34,9 @@ use Rattle.heads.specs.TwoHeads.{
   two_heads_by_quarters,
 }
 use Rattle.head_order.specs.Promise.{Has, Agree, OwnCells, Reordered, HeadsAccepted, HeadsHold}
-use Rattle.head_order.specs.OwnCells.{own_cells, round_places_apart}
-use Rattle.head_order.specs.Checks.{heads_none}
-use Rattle.head_order.specs.Call.{none_accepted, heads_hold}
+use Rattle.head_order.proofs.OwnCells.{own_cells, round_places_apart}
+use Rattle.head_order.proofs.Checks.{heads_none}
+use Rattle.head_order.proofs.Call.{none_accepted, heads_hold}
 
 module _ (side knit : ℕ) (greys : List ℕ) (pyramid : List ℤ) (serials order : List ℕ)
     (h : HeadsAccepted side knit greys pyramid serials order) where

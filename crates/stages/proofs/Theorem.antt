@@ -40,14 +40,14 @@ use Rattle.refusals.specs.Names.{both, one_to_eight}
 use Rattle.layouts.specs.Relaid.{length_quarters}
 use Rattle.dots.specs.Steps.{Sheet}
 use Rattle.guarantee.specs.PriceList.{Each, Accepted, PriceList}
-use Rattle.guarantee.specs.Start.{Loaded, start_sheet, accepted_loaded, loaded_held}
-use Rattle.guarantee.specs.Lent.{held_of}
-use Rattle.guarantee.specs.OneCall.{model_taken}
-use Rattle.guarantee.specs.ManyCalls.{calls_held}
-use Rattle.guarantee.specs.Theorem.{price_list}
+use Rattle.guarantee.proofs.Start.{Loaded, start_sheet, accepted_loaded, loaded_held}
+use Rattle.guarantee.proofs.Lent.{held_of}
+use Rattle.guarantee.proofs.OneCall.{model_taken}
+use Rattle.guarantee.proofs.ManyCalls.{calls_held}
+use Rattle.guarantee.proofs.Theorem.{price_list}
 use Rattle.stages.specs.Promise.{StagesHold, NamesHold}
-use Rattle.stages.specs.Stage.{stage_first, stage_sheet, stage_most, stage_again}
-use Rattle.stages.specs.OneAction.{
+use Rattle.stages.proofs.Stage.{stage_first, stage_sheet, stage_most, stage_again}
+use Rattle.stages.proofs.OneAction.{
   GreysLent,
   IsStage,
   StageOr,
@@ -60,7 +60,7 @@ use Rattle.stages.specs.OneAction.{
   all_answered,
   all_good,
 }
-use Rattle.stages.specs.LastKept.{memory_more, just_kept, all_still_kept}
+use Rattle.stages.proofs.LastKept.{memory_more, just_kept, all_still_kept}
 
 -- one Advance call with this budget that is lent enough
 abbrev whole : ℕ → ℕ → Call

@@ -30,9 +30,9 @@ use Rattle.integers.specs.Linear.{zz, ints}
 use Rattle.shares.specs.Kernels.{Fit}
 use Rattle.dots.specs.Steps.{Sheet, dot_top}
 use Rattle.guarantee.specs.PriceList.{Each}
-use Rattle.guarantee.specs.Start.{start_sheet, start_capped}
+use Rattle.guarantee.proofs.Start.{start_sheet, start_capped}
 use Rattle.head_order.specs.Promise.{Fits}
-use Rattle.head_order.specs.Working.{
+use Rattle.head_order.proofs.Working.{
   big,
   cell_row,
   cell_column,
@@ -43,7 +43,7 @@ use Rattle.head_order.specs.Working.{
   work_made,
   work_idle,
 }
-use Rattle.head_order.specs.Orders.{round_fits, all_sheet}
+use Rattle.head_order.proofs.Orders.{round_fits, all_sheet}
 
 -- ---- rounds by their definition, in any order
 module _ (kernel : Kernel) (r : ℕ) (order : ℕ → List Macroblock) where

@@ -12,8 +12,8 @@ use Rattle.definition.specs.AdvanceList.{Call, Held, held_after_load, held_after
 use Rattle.quadtree.specs.Areas.{area, area_mono, area_rows, span_const, block_area}
 use Rattle.quadtree.specs.Levels.{block_side_lem, block_on_map, cell_lt}
 use Rattle.guarantee.specs.PriceList.{Accepted, PriceList}
-use Rattle.guarantee.specs.Start.{accepted_loaded, low_map_at}
-use Rattle.guarantee.specs.Theorem.{price_list}
+use Rattle.guarantee.proofs.Start.{accepted_loaded, low_map_at}
+use Rattle.guarantee.proofs.Theorem.{price_list}
 
 -- a square of low greys has at most 240 for each of its cells
 module _ (r : ℕ) (greys : List ℕ) (low : (i : ℕ) → i < cell_count r → get_or greys i 0 ≤ 240) where

@@ -27,7 +27,7 @@ use Rattle.shares.specs.Neighbours.{fall}
 use Rattle.dots.specs.Kept.{sound_summed, after_sized, after_sound, after_falls, after_away, after_burnt, after_dots}
 use Rattle.dots.specs.Steps.{Sheet}
 use Rattle.head_order.specs.Promise.{Has, Fits, Apart}
-use Rattle.head_order.specs.Local.{pyramid_same, largest_same, four_same, entry_same, descend_same}
+use Rattle.head_order.proofs.Local.{pyramid_same, largest_same, four_same, entry_same, descend_same}
 
 -- ---- the cells of a macroblock
 pub apart_sym : (m n : Macroblock) → Apart m n → Apart n m

@@ -16,8 +16,8 @@ use Rattle.refusals.specs.Powers.{power_of_small, side_pow, cell_count_side}
 use Rattle.quadtree.specs.Levels.{cell_lt}
 use Rattle.guarantee.specs.PriceList.{Accepted}
 use Rattle.sketch_range.specs.Promise.{Between, Ranged}
-use Rattle.sketch_range.specs.Range.{total_same, sum_same, caps_at, everyone_between}
-use Rattle.sketch_range.specs.Holds.{SketchHolds, sketch_holds, same_lows, same_highs, same_caps, ranges_left}
+use Rattle.sketch_range.proofs.Range.{total_same, sum_same, caps_at, everyone_between}
+use Rattle.sketch_range.proofs.Holds.{SketchHolds, sketch_holds, same_lows, same_highs, same_caps, ranges_left}
 
 module _ (text : List ℕ) (k : ℕ) (lows₀ highs₀ caps₀ : List ℕ) (side least greatest : ℕ)
     (said : (sketch_quote_of text k lows₀ highs₀ caps₀).said ≡ returned (side ∷ least ∷ greatest ∷ [])) where

@@ -51,10 +51,10 @@ use Rattle.heads.specs.TwoHeads.{
   two_heads_by_quarters,
 }
 use Rattle.guarantee.specs.PriceList.{Each}
-use Rattle.guarantee.specs.Start.{each_of, low_map_at}
+use Rattle.guarantee.proofs.Start.{each_of, low_map_at}
 use Rattle.head_order.specs.Promise.{Reordered, HeadsAccepted, HeadsHold}
-use Rattle.head_order.specs.Orders.{reordered_refl}
-use Rattle.head_order.specs.Call.{none_accepted, heads_hold}
+use Rattle.head_order.proofs.Orders.{reordered_refl}
+use Rattle.head_order.proofs.Call.{none_accepted, heads_hold}
 
 abbrev greys : List ℕ
 greys = replicate 17 0 ++ (240 ∷ (replicate 7 0 ++ (240 ∷ replicate 230 0)))

@@ -36,10 +36,10 @@ use Rattle.layouts.specs.Relaid.{length_quarters, quarters_top}
 use Rattle.shares.specs.Kernels.{knit_fit}
 use Rattle.dots.specs.Steps.{Sheet, steps_keep}
 use Rattle.guarantee.specs.PriceList.{Each, EachBlock, Accepted, UnderCap, Ends, Holds, HoldsFrom, PriceList}
-use Rattle.guarantee.specs.Floor.{floor}
-use Rattle.guarantee.specs.Quote.{figures_fit, under_quote}
-use Rattle.guarantee.specs.Capped.{Capped, capped_kept}
-use Rattle.guarantee.specs.Start.{
+use Rattle.guarantee.proofs.Floor.{floor}
+use Rattle.guarantee.proofs.Quote.{figures_fit, under_quote}
+use Rattle.guarantee.proofs.Capped.{Capped, capped_kept}
+use Rattle.guarantee.proofs.Start.{
   grey_byte,
   start_sheet,
   start_dots,
@@ -48,9 +48,9 @@ use Rattle.guarantee.specs.Start.{
   accepted_loaded,
   loaded_held,
 }
-use Rattle.guarantee.specs.Lent.{held_of}
-use Rattle.guarantee.specs.OneCall.{call_same, held_same}
-use Rattle.guarantee.specs.ManyCalls.{
+use Rattle.guarantee.proofs.Lent.{held_of}
+use Rattle.guarantee.proofs.OneCall.{call_same, held_same}
+use Rattle.guarantee.proofs.ManyCalls.{
   call_sheet,
   calls_sheet,
   calls_keep,

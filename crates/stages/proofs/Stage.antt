@@ -12,8 +12,8 @@ use Rattle.definition.specs.AdvanceList.{Call, model_call}
 use Rattle.shares.specs.Kernels.{knit_fit}
 use Rattle.dots.specs.Steps.{Sheet, steps_sheet, steps_made, steps_min, steps_add}
 use Rattle.guarantee.specs.PriceList.{Each}
-use Rattle.guarantee.specs.Start.{start_sheet, start_dots, start_due}
-use Rattle.guarantee.specs.ManyCalls.{call_keeps}
+use Rattle.guarantee.proofs.Start.{start_sheet, start_dots, start_due}
+use Rattle.guarantee.proofs.ManyCalls.{call_keeps}
 
 module _ (knit : ℕ) (known : knit ≤ 1) (r : ℕ) (big : 2 ≤ 2 ^ r) (power : power_of (2 ^ r) ≡ r)
     (greys : List ℕ) (bytes : Each (λ grey. grey ≤ 255) greys) where

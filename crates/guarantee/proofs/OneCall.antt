@@ -27,7 +27,7 @@ use Rattle.layouts.specs.Relaid.{length_quarters}
 use Rattle.layouts.specs.Lent.{rows_length}
 use Rattle.dots.specs.Steps.{Sheet, steps_sheet, steps_made, steps_min}
 use Rattle.dots.specs.SoundTest.{sound_test}
-use Rattle.guarantee.specs.Lent.{held_of, lent_test, lent_part, lent_back, rows_part, rows_over, rows_stay}
+use Rattle.guarantee.proofs.Lent.{held_of, lent_test, lent_part, lent_back, rows_part, rows_over, rows_stay}
 
 -- what the model does not refuse is long enough
 enough : (r : ℕ) (c : Call) → model_refusal r c ≡ 0

@@ -29,7 +29,7 @@ use Rattle.definition.specs.Stages.{
 }
 use Rattle.guarantee.specs.PriceList.{Each, Accepted}
 use Rattle.stages.specs.Promise.{NamesHold}
-use Rattle.stages.specs.Theorem.{names_hold}
+use Rattle.stages.proofs.Theorem.{names_hold}
 
 module _ (side knit : ℕ) (greys : List ℕ) (pyramid : List ℤ) (serials order : List ℕ)
     (accepted : Accepted side knit greys pyramid serials order) (actions : List Action) where

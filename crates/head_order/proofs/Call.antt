@@ -20,11 +20,11 @@ use Rattle.layouts.specs.Lent.{rows_length, rows_drop, as_quarters_part, quarter
 use Rattle.shares.specs.Kernels.{knit_fit}
 use Rattle.dots.specs.Steps.{Sheet}
 use Rattle.guarantee.specs.PriceList.{Each}
-use Rattle.guarantee.specs.Theorem.{all_dots_is}
+use Rattle.guarantee.proofs.Theorem.{all_dots_is}
 use Rattle.head_order.specs.Promise.{TwoHeads, HeadsAccepted, HeadsHold}
-use Rattle.head_order.specs.Run.{run_sheet, two_heads_lem}
-use Rattle.head_order.specs.Checks.{heads_none}
-use Rattle.guarantee.specs.Listed.{lists}
+use Rattle.head_order.proofs.Run.{run_sheet, two_heads_lem}
+use Rattle.head_order.proofs.Checks.{heads_none}
+use Rattle.guarantee.proofs.Listed.{lists}
 
 -- ---- the call
 module _ (side knit : ℕ) (greys : List ℕ) (pyramid : List ℤ) (serials order : List ℕ) where

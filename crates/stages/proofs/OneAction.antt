@@ -62,10 +62,10 @@ use Rattle.layouts.specs.Lent.{rows_length}
 use Rattle.dots.specs.Steps.{Sheet}
 use Rattle.dots.specs.SoundTest.{sound_test}
 use Rattle.guarantee.specs.PriceList.{Each}
-use Rattle.guarantee.specs.Start.{each_get_or, start_front, total_front}
-use Rattle.guarantee.specs.Lent.{held_of, lent_test, lent_part, lent_back, rows_part, rows_over, rows_stay}
-use Rattle.guarantee.specs.OneCall.{call_same, held_same}
-use Rattle.stages.specs.Stage.{Stage, stage_sheet, stage_most, stage_again, stage_call}
+use Rattle.guarantee.proofs.Start.{each_get_or, start_front, total_front}
+use Rattle.guarantee.proofs.Lent.{held_of, lent_test, lent_part, lent_back, rows_part, rows_over, rows_stay}
+use Rattle.guarantee.proofs.OneCall.{call_same, held_same}
+use Rattle.stages.proofs.Stage.{Stage, stage_sheet, stage_most, stage_again, stage_call}
 
 -- ---- lists of names
 each_set : {A : Type 0} (P : A → Type 0) (l : List A) (i : ℕ) (a : A) → P a → Each P l → Each P (set l i a)

@@ -10,11 +10,11 @@ use Rattle.heads.specs.TwoHeads.{Macroblock, macroblocks, most_rounds, two_heads
 use Rattle.shares.specs.Kernels.{Fit}
 use Rattle.dots.specs.Steps.{Sheet}
 use Rattle.guarantee.specs.PriceList.{Each}
-use Rattle.guarantee.specs.Start.{start_sheet}
+use Rattle.guarantee.proofs.Start.{start_sheet}
 use Rattle.head_order.specs.Promise.{Reordered, TwoHeads}
-use Rattle.head_order.specs.Working.{Alike, alike_refl}
-use Rattle.head_order.specs.Orders.{run_any_order}
-use Rattle.head_order.specs.Rounds.{Ended, runs, start_state}
+use Rattle.head_order.proofs.Working.{Alike, alike_refl}
+use Rattle.head_order.proofs.Orders.{run_any_order}
+use Rattle.head_order.proofs.Rounds.{Ended, runs, start_state}
 
 -- the serials of the first places are their numbers
 different : (r : ℕ) (s : Halftone) → Sound r s → (i j : ℕ) → i < j → j < s.dots

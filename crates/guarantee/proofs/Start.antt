@@ -32,8 +32,8 @@ use Rattle.dots.specs.Placing.{Sized}
 use Rattle.dots.specs.Kept.{sound_summed}
 use Rattle.dots.specs.Steps.{Sheet, top_area, due_is}
 use Rattle.guarantee.specs.PriceList.{Each, Accepted}
-use Rattle.guarantee.specs.Capped.{Capped}
-use Rattle.guarantee.specs.Lent.{held_of}
+use Rattle.guarantee.proofs.Capped.{Capped}
+use Rattle.guarantee.proofs.Lent.{held_of}
 
 -- what holds of each element holds at each place, where it holds of the default; and the other way round
 pub each_get_or : {A : Type 0} (P : A → Type 0) (l : List A) (d : A)

@@ -1,5 +1,4 @@
--- What the list of a shelf is (`sorted`), and that no other list is so (`only_list`); the same of what the call leaves
--- (`shelf_list`, `shelf_rest`).
+-- What the list of a shelf is (`sorted`), and that no other list is so (`only_list`).
 use Rattle.std.specs.Prelude.{◌≡◌, ◌≢◌, ◌↔◌, ◌⊎◌, true, false, List, [], ◌∷◌, ◌++◌, ℕ, zero, suc, ◌+◌, ◌≤◌, ◌<◌, eqb, ltb, length, get_or, take, drop}
 use Rattle.std.proofs.Math.Path.{refl}
 use Rattle.std.proofs.Common.{sym, ap, ap₂, ◌∙◌, inl, inr, true≢false, arith, take_at, drop_at, eq-eqb, ne_eqb}
@@ -9,22 +8,9 @@ use Rattle.definition.specs.Refusals.{power_of}
 use Rattle.definition.specs.Shelf.{is_before, compared, plate_at, in_order, shelf_refusal, ShelfOutcome, shelf_of}
 use Rattle.integers.specs.Tests.{bit}
 use Rattle.shelf_order.specs.Differences.{not_before}
-use Rattle.shelf_order.specs.Order.{OneWay, goes_before, is_same, goes_after, one_way, same_iff}
-use Rattle.shelf_order.specs.Insertion.{
-  Each,
-  Pairs,
-  each_map,
-  pairs_at,
-  times,
-  stands,
-  Precedes,
-  precedes_chain,
-  not_itself,
-  precedes,
-  times_in_order,
-  in_order_length,
-  in_order_pairs,
-}
+use Rattle.shelf_order.proofs.Order.{OneWay, goes_before, is_same, goes_after, one_way, same_iff}
+use Rattle.shelf_order.specs.Insertion.{Each, Pairs, times}
+use Rattle.shelf_order.proofs.Insertion.{each_map, pairs_at, stands, Precedes, precedes_chain, not_itself, precedes, times_in_order, in_order_length, in_order_pairs}
 
 -- ---- two lists with the same numbers, both in a strict order
 module _ (R : ℕ → ℕ → Type 0) (through : (x y z : ℕ) → R x y → R y z → R x z) where
@@ -128,28 +114,3 @@ module _ (r : ℕ) (plates : List ℕ) where
       (λ i lt. precedes r plates _ _ (h.neighbours i lt) (h.lower_first i (suc i) (omega arith) lt)))
       (in_order_pairs r plates n)
       (λ z. h.each_once z ∙ sym (times_in_order r plates n z))
-
--- ---- the call
-module _ (side n : ℕ) (plates list : List ℕ)
-    (accepted : shelf_refusal (power_of side) n (length plates) (length list) ≡ 0) where
-  outcome : shelf_of side n plates list
-      ≡ record { said = returned []; list = in_order (power_of side) plates n ++ drop n list }
-  outcome = unfold shelf_of in rw (accepted, shelf_of)
-
-  is_left : (shelf_of side n plates list).list ≡ in_order (power_of side) plates n ++ drop n list
-  is_left = ap (λ (o : ShelfOutcome). o.list) outcome
-
-  -- what Shelf writes is the one list that is so (S 11.2, S 15.12)
-  pub shelf_list : (l : List ℕ)
-      → Sorted (power_of side) plates n l ↔ (l ≡ take n (shelf_of side n plates list).list)
-  shelf_list l =
-      let r = power_of side in
-      let first : take n (shelf_of side n plates list).list ≡ in_order r plates n
-      = ap (take n) is_left ∙ take_at (in_order r plates n) (drop n list) n (in_order_length r plates n) in
-      (λ h. only_list r plates n l h ∙ sym first, λ e. rw (e, first) (sorted r plates n))
-
-  -- and the places past the n-th stay (S 11.2)
-  pub shelf_rest : drop n (shelf_of side n plates list).list ≡ drop n list
-  shelf_rest =
-      ap (drop n) is_left
-      ∙ drop_at (in_order (power_of side) plates n) (drop n list) n (in_order_length (power_of side) plates n)

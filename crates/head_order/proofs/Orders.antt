@@ -14,7 +14,7 @@ use Rattle.shares.specs.Kernels.{Fit}
 use Rattle.dots.specs.Steps.{Sheet}
 use Rattle.guarantee.specs.PriceList.{Each}
 use Rattle.head_order.specs.Promise.{Fits, Apart, Reordered}
-use Rattle.head_order.specs.Working.{
+use Rattle.head_order.proofs.Working.{
   apart_sym,
   Alike,
   alike_refl,

@@ -33,8 +33,8 @@ use Rattle.refusals.specs.Lowest.{LoadLent, load_none}
 use Rattle.layouts.specs.Relaid.{quarters_entry}
 use Rattle.layouts.specs.Lent.{rows_length, quarter_taken}
 use Rattle.guarantee.specs.PriceList.{Each, Accepted, PriceList}
-use Rattle.guarantee.specs.Start.{each_of, at_low_map}
-use Rattle.guarantee.specs.Theorem.{price_list}
+use Rattle.guarantee.proofs.Start.{each_of, at_low_map}
+use Rattle.guarantee.proofs.Theorem.{price_list}
 
 module _ (side knit : ℕ) (greys : List ℕ) (pyramid : List ℤ) (serials order : List ℕ)
     (accepted : Accepted side knit greys pyramid serials order) (calls : List Call) where

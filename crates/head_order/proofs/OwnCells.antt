@@ -16,7 +16,7 @@ use Rattle.dots.specs.Kept.{sound_summed}
 use Rattle.dots.specs.Steps.{Sheet}
 use Rattle.guarantee.specs.PriceList.{Each}
 use Rattle.head_order.specs.Promise.{Has, Fits, Apart, Agree, OwnCells}
-use Rattle.head_order.specs.Working.{
+use Rattle.head_order.proofs.Working.{
   has_row,
   has_column,
   wanted_same,
@@ -29,7 +29,7 @@ use Rattle.head_order.specs.Working.{
   work_away,
   work_unburnt,
 }
-use Rattle.head_order.specs.Orders.{Pairs, round_apart}
+use Rattle.head_order.proofs.Orders.{Pairs, round_apart}
 
 module _ (kernel : Kernel) (fit : Fit kernel) (r : ℕ) (four≤ : 4 ≤ r) (s : Halftone) (sheet : Sheet r s)
     (m : Macroblock) (fits : Fits r m) where

@@ -1,0 +1,10 @@
+pub mod Local
+pub mod Working
+pub mod Orders
+pub mod OwnCells
+pub mod Rounds
+pub mod Run
+pub mod Checks
+pub mod Call
+pub mod Clauses
+pub mod Example

@@ -1,0 +1,4 @@
+pub mod Insertion
+pub mod Sorted
+pub mod Shelved
+pub mod Order
