@@ -1,5 +1,5 @@
 -- The comparison's ways out: by the counts (`by_fewer`, `by_more`), and by the first difference (`by_cell`).
-use Rattle.std.specs.Prelude.{◌≡◌, List, ℕ, ◌≤◌, ◌<◌, length}
+use Rattle.std.specs.Prelude.{◌≡◌, List, ℕ, ◌≤◌, ◌<◌}
 use Rattle.std.proofs.Math.Path.{refl, sym}
 use Rattle.std.proofs.Common.{ap, ◌∙◌, arith}
 use Rattle.definition.specs.Answers.{comparison, compare_says}

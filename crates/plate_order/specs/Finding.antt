@@ -1,10 +1,10 @@
 -- The search for the first difference, row by row and column by column: what is left of it (`Rest`, `rest_next`,
 -- `rest_found`).
-use Rattle.std.specs.Prelude.{◌≡◌, refl, cond, List, ℕ, suc, ◌+◌, ◌*◌, ◌-◌, ◌^◌, ◌≤◌, ◌<◌, ltb, get_or}
+use Rattle.std.specs.Prelude.{◌≡◌, cond, List, ℕ, suc, ◌+◌, ◌*◌, ◌-◌, ◌^◌, ◌≤◌, ◌<◌, ltb, get_or}
 use Rattle.std.proofs.Math.Path.{sym, ap}
 use Rattle.std.proofs.Common.{ap₂, ◌∙◌, arith, mul-le-mul_right, suc-mul, add-one, pow_mono, Fits, lt-ltb, le-ltb}
-use Rattle.std.specs.Int.{w32, w64}
-use Rattle.definition.specs.Answers.{Compared, comparison, same, before_at, after_at, compare_says}
+use Rattle.std.specs.Int.{w64}
+use Rattle.definition.specs.Answers.{comparison, before_at, after_at, compare_says}
 use Rattle.definition.specs.Pyramid.{cell_count, place_in, row_at, column_at}
 use Rattle.definition.specs.Blocks.{burnt}
 use Rattle.definition.specs.Shelf.{pattern, first_difference}

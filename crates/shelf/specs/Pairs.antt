@@ -1,6 +1,6 @@
 -- Two plates of a shelf, as parts of it (`first_part`, `second_part`); and what their comparison says of their order
 -- (`parts_say`).
-use Rattle.std.specs.Prelude.{◌≡◌, refl, Bool, true, false, List, ℕ, ◌+◌, ◌*◌, ◌-◌, ◌≤◌, length, take, drop}
+use Rattle.std.specs.Prelude.{◌≡◌, Bool, false, List, ℕ, ◌+◌, ◌*◌, ◌-◌, ◌≤◌, take, drop}
 use Rattle.std.proofs.Common.{sym, ap, ap₂, ◌∙◌, arith}
 use Rattle.definition.specs.Answers.{Said, returned, finished, more, comparison, refused, compare_says}
 use Rattle.definition.specs.Pyramid.{cell_count}

@@ -1,6 +1,6 @@
 -- What the functions of the sort ask for and answer (`PairAsked`, `PlaceFor`, `SortAsked`): numbers that the refusals
 -- have been checked for, and buffers that are long enough.
-use Rattle.std.specs.Prelude.{◌≡◌, true, false, List, ℕ, ◌+◌, ◌*◌, ◌≤◌, ◌<◌, length, get_or, take}
+use Rattle.std.specs.Prelude.{◌≡◌, true, false, List, ℕ, ◌+◌, ◌*◌, ◌≤◌, ◌<◌, length, take}
 use Rattle.definition.specs.Pyramid.{cell_count}
 use Rattle.definition.specs.Shelf.{in_order}
 use Rattle.shelf_order.proofs.Insertion.{before_at_place}
