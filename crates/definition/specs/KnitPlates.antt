@@ -36,7 +36,6 @@ use Rattle.definition.specs.Expected.{
   serials_ribbed2,
   pyramid_ribbed2,
 }
-use Rattle.definition.specs.declared.Progress.{Progress}
 
 -- the weights of the nine places around a cell of side 4, in the order of the spread, and the sum of them
 abbrev weights : ℕ → ℕ → List ℕ

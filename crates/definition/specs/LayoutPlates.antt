@@ -1,9 +1,9 @@
 -- The rows for the pyramid by quarters, `layout_plates`: places worked by hand, whole pyramids of side 4 and side 8 that
 -- the reference renamed, each call on them, and Relay. Side 2 looks alike in either layout.
-use Rattle.std.specs.Prelude.{Bool, not, ◌&&◌, List, [], ◌∷◌, ◌++◌, map, ℕ, ◌/◌, ◌%◌, eqb, set, take, replicate, ℤ, pos}
+use Rattle.std.specs.Prelude.{Bool, not, ◌&&◌, List, [], ◌∷◌, ◌++◌, map, ℕ, ◌/◌, ◌%◌, eqb, take, replicate, ℤ, pos}
 use Rattle.definition.specs.Lists.{tabulate, tabulate_from}
 use Rattle.definition.specs.Answers.{Said}
-use Rattle.definition.specs.Diffusion.{plain, ribbed}
+use Rattle.definition.specs.Diffusion.{ribbed}
 use Rattle.definition.specs.Refusals.{Row}
 use Rattle.definition.specs.Quarters.{interleaved, row_of, column_of, rows_from, quarters_from, as_rows, as_quarters}
 use Rattle.definition.specs.Checkpoints.{RestoreOutcome}
@@ -17,18 +17,7 @@ use Rattle.definition.specs.ByQuarters.{
   relay_of,
 }
 use Rattle.definition.specs.PlateTools.{same, same_z, says, refuses, after_on, after, on_plain}
-use Rattle.definition.specs.Expected.{
-  greys4,
-  order4,
-  serials4,
-  pyramid4,
-  quarters4,
-  greys8,
-  pyramid8,
-  quarters8,
-  pyramid_ribbed8,
-  quarters_ribbed8,
-}
+use Rattle.definition.specs.Expected.{greys4, order4, serials4, pyramid4, quarters4, greys8, pyramid8, quarters8, quarters_ribbed8}
 use Rattle.definition.specs.declared.Progress.{Progress}
 
 -- the finished sheet of side 4 with this pyramid: Advance, Drill List into 64 bytes

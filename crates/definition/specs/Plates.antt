@@ -2,7 +2,7 @@
 -- reference wrote, as another, `further_plates`; as a third a row for each point that these leave open, `single_plates`;
 -- and those of the other plate modules. `plates_hold` proves them all. Rows that make holes ask the calls and the
 -- model.
-use Rattle.std.specs.Prelude.{◌≡◌, refl, Bool, true, false, cond, not, ◌&&◌, List, [], ◌∷◌, ◌++◌, map, ℕ, zero, suc, ◌+◌, ◌*◌, ◌/◌, ◌^◌, eqb, length, set, take, replicate, ℤ, pos, ◌+ℤ◌}
+use Rattle.std.specs.Prelude.{◌≡◌, refl, Bool, true, false, cond, not, ◌&&◌, List, [], ◌∷◌, ◌++◌, map, ℕ, ◌+◌, ◌*◌, ◌/◌, ◌^◌, eqb, length, set, take, replicate, ℤ, pos, ◌+ℤ◌}
 use Rattle.definition.specs.Lists.{sum_to, sum_z_to, all_to, tabulate_from, joined, repeated, eq_z}
 use Rattle.definition.specs.Answers.{Said, finished, more, comparison, refused, number_of, Compared}
 use Rattle.definition.specs.Answers as Answers

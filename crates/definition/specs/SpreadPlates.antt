@@ -1,5 +1,5 @@
 -- The rows for the order of the spread, `spread_plates`: which neighbour bears the odd units, place by place.
-use Rattle.std.specs.Prelude.{Bool, List, [], ◌∷◌, map, ℕ, set, replicate, pos}
+use Rattle.std.specs.Prelude.{Bool, List, [], ◌∷◌, map, ℕ, replicate, pos}
 use Rattle.definition.specs.Diffusion.{plain, ribbed, kernel_of, diffuse}
 use Rattle.definition.specs.Refusals.{Row}
 use Rattle.definition.specs.PlateTools.{same_z, minus}

@@ -1,35 +1,12 @@
 -- `text_read_iff`, one law for maps and sketches: a text is read just if it is a line of the side and, behind it, so
 -- many lines of as many numbers as are asked for, each a byte, where they fit. So a map's text is read just if it is
 -- that of a map that fits (`grammar`), and a written one is read back (`written_text_accepted`).
-use Rattle.std.specs.Prelude.{◌≡◌, List, [], ◌∷◌, ◌++◌, ◌↔◌, length, get_or}
-use Rattle.std.proofs.Math.Path.{refl}
-use Rattle.std.proofs.Common.{◌∙◌, suc-ne-zero, arith}
-use Rattle.std.proofs.Math.Option.{some, none}
-use Prim.Native.Nat.{ℕ, zero, suc, ◌*◌, ◌<◌, ◌≤◌}
-use Rattle.std.proofs.Math.Seq.{append_snoc}
+use Rattle.std.specs.Prelude.{◌≡◌, List, [], ◌∷◌, ◌++◌, length, get_or}
+use Prim.Native.Nat.{ℕ, ◌*◌, ◌<◌, ◌≤◌}
 use Rattle.definition.specs.Lists.{repeated}
-use Rattle.definition.specs.Refusals.{power_of, greys_refusal}
-use Rattle.definition.specs.Text.{newline, decimal, line, line_ends, field, malformed, is_digit, field_of}
-use Rattle.definition.specs.MapText.{
-  rows_text,
-  map_text,
-  values_of,
-  accepted,
-  read_numbers,
-  read_text,
-  read_map,
-}
-use Rattle.grammar.specs.Fields.{field_of_decimal_end, text_of_field}
-use Rattle.grammar.specs.Lines.{
-  fields_text,
-  rows_text_fields,
-  length_repeated_line_ends,
-  repeated_line_ends_no_digits,
-  values_of_fields,
-  fields_of_values,
-}
-use Rattle.refusals.specs.Powers.{side_positive, side_most, cell_count_side}
-use Rattle.refusals.specs.Lowest.{greys_none}
+use Rattle.definition.specs.Refusals.{power_of}
+use Rattle.definition.specs.Text.{line, line_ends}
+use Rattle.definition.specs.MapText.{rows_text, map_text}
 
 -- ---- maps and sketches alike: for a side, `n side` numbers on each line
 -- the bytes behind them

@@ -1,23 +1,12 @@
 -- What Lower Text makes of a text: the one text of the lowered greys (`converted`). It is read back as these
 -- (`reads_lowered`), is the text itself if no grey was too high (`copied_if_low`), is just as long in any case
 -- (`lowered_as_long`), and stays when converted again (`once_is_enough`).
-use Rattle.std.specs.Prelude.{◌≡◌, refl, true, List, [], ◌∷◌, ◌++◌, ℕ, suc, ◌*◌, ◌/◌, ◌≤◌, ◌<◌, min, length, take, drop}
-use Rattle.std.proofs.Common.{sym, ap, ◌∙◌, suc-ne-zero, arith, length-append, take_at, drop_at}
-use Rattle.std.proofs.Math.Decide.{dec_le}
-use borrow.Author.Tests.{lt-ltb, le-ltb}
-use Rattle.definition.specs.Lists.{repeated}
-use Rattle.definition.specs.Answers.{returned, refused}
+use Rattle.std.specs.Prelude.{◌≡◌, true, List, [], ◌∷◌, ◌++◌, ℕ, ◌*◌, ◌≤◌, length, take, drop}
+use Rattle.definition.specs.Answers.{returned}
 use Rattle.definition.specs.Lowering.{none_high, lowered}
-use Rattle.definition.specs.Refusals.{lowest}
-use Rattle.definition.specs.Text.{newline, decimal, line_ends}
-use Rattle.definition.specs.MapText.{map_text, Reading, accepted, rejected, read_map, map_text_of}
-use Rattle.definition.specs.LowerText.{LowerTextOutcome, text_kept, text_lowered, lower_text_of}
-use Rattle.refusals.specs.Powers.{side_positive}
-use Rattle.lowering.specs.Low.{low_at, lowered_length, lowered_low, lowered_same, lowered_twice}
-use Rattle.grammar.specs.Decimal.{decimal_below_ten, decimal_from_ten}
-use Rattle.grammar.specs.Lines.{AtMost, fields_text}
+use Rattle.definition.specs.MapText.{map_text, map_text_of}
+use Rattle.definition.specs.LowerText.{LowerTextOutcome, lower_text_of}
 use Rattle.grammar.specs.Grammar.{MapOf}
-use Rattle.grammar.specs.MapText.{LowMapOf}
 
 -- ---- what a call that returns n has left, `out`
 pub record Converted (text greys output : List ℕ) (n : ℕ) (out : LowerTextOutcome) : Type 0 where

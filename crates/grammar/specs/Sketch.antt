@@ -1,34 +1,13 @@
 -- The grammar of sketches: pairs taken apart into lows and highs and put together again (`apart`); the text that the
 -- call takes, told by its lows and highs (`sketch_read_iff`); what the call answers and leaves on such a text
 -- (`sketch_outcome`), and that on no other it returns figures (`sketch_returned_iff`).
-use Rattle.std.specs.Prelude.{◌≡◌, true, not, List, [], ◌∷◌, ◌++◌, ◌↔◌, ℕ, zero, suc, ◌*◌, ◌^◌, ◌<◌, ◌≤◌, min, leb, ltb, drop}
-use Rattle.std.proofs.Math.Path.{refl}
-use Rattle.std.proofs.Common.{ap, ◌∙◌, suc-ne-zero, ltb-false, le-ltb, leb-true, le-leb}
-use native.Mathlib.Omega.{arith}
+use Rattle.std.specs.Prelude.{◌≡◌, true, List, ℕ, ◌*◌, ◌^◌, ◌<◌, ◌≤◌}
 use Rattle.std.proofs.Math.ListN.{length, get_or}
-use Rattle.std.proofs.lemmas.Bool.{not-false}
-use Rattle.definition.specs.Answers.{returned}
 use Rattle.definition.specs.Blocks.{grey_total, total_of}
 use Rattle.definition.specs.Lowering.{none_high}
-use Rattle.definition.specs.Refusals.{power_of, lowest}
-use Rattle.definition.specs.MapText.{Reading, accepted, rejected, read_text}
-use Rattle.definition.specs.SketchQuote.{
-  paired,
-  sketch_text,
-  sketch_ends,
-  lows_of,
-  highs_of,
-  pairs_rise,
-  caps_of,
-  SketchOutcome,
-  sketch_kept,
-  sketch_quoted,
-  sketch_refusal,
-  sketch_quote_of,
-}
-use Rattle.refusals.specs.Names.{both}
-use Rattle.refusals.specs.Lowest.{lowest_past, lowest_none}
-use Rattle.lowering.specs.Low.{low_at}
+use Rattle.definition.specs.Refusals.{power_of}
+use Rattle.definition.specs.MapText.{accepted, read_text}
+use Rattle.definition.specs.SketchQuote.{paired, sketch_text, sketch_ends, lows_of, highs_of, pairs_rise}
 
 -- taken apart and put together
 pub record Apart (n : ℕ) (pairs : List ℕ) : Type 0 where

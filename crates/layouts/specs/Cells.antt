@@ -1,11 +1,11 @@
 -- One level by quarters, written row after row; and the levels of a pyramid one by one: what is read and stored at an
 -- entry's place is read and stored at its place row after row (`rows_in`, `rows_set`, `rows_cells`).
-use Rattle.std.specs.Prelude.{◌≡◌, refl, List, ◌++◌, ℕ, zero, suc, ◌+◌, ◌*◌, ◌^◌, ◌≤◌, ◌<◌, length, get_or, set, take, drop, ℤ, pos}
+use Rattle.std.specs.Prelude.{◌≡◌, refl, List, ◌++◌, ℕ, suc, ◌+◌, ◌*◌, ◌^◌, ◌≤◌, ◌<◌, length, get_or, set, take, drop, ℤ, pos}
 use Rattle.std.proofs.Common.{sym, ap, ap₂, ◌∙◌, arith, length-set, get_or-append-add, get_or-set_same, get_or-set_other, get_or-drop, get_or-take, length-take-le, take_at, drop_at}
 use Rattle.std.proofs.Math.Decide.{ℕ_discrete}
 use Rattle.std.proofs.Math.ListN.{get_or-append}
 use Rattle.definition.specs.Lists.{tabulate, joined}
-use Rattle.definition.specs.Pyramid.{start, needed, place_in, row_at, column_at, level_of, in_level}
+use Rattle.definition.specs.Pyramid.{start, place_in, row_at, column_at, level_of, in_level}
 use Rattle.definition.specs.Quarters.{interleaved, row_of, column_of, quarter_entry, quarter_level, rows_from}
 use Rattle.integers.specs.Lists.{length_tabulate, get_d_tabulate, eq_tabulate}
 use Rattle.quadtree.specs.Levels.{

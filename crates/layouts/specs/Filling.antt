@@ -1,6 +1,6 @@
 -- A level by quarters that is filled cell by cell, in the order of rows (`Filling`): a store at the place of cell i is,
 -- in the level written row after row, a store at i (`one_filled`, `all_filled`).
-use Rattle.std.specs.Prelude.{◌≡◌, ℕ, ◌+◌, ◌*◌, ◌/◌, ◌%◌, ◌^◌, ◌≤◌, ◌<◌, length, set, ℤ, pos}
+use Rattle.std.specs.Prelude.{◌≡◌, ℕ, ◌+◌, ◌/◌, ◌%◌, ◌^◌, ◌≤◌, ◌<◌, length, set, ℤ, pos}
 use Rattle.std.proofs.Math.Path.{sym, ap}
 use Rattle.std.proofs.Common.{◌∙◌, arith, length-set, pow_pos, pow_mono}
 use mathlib.Core.List.{List}

@@ -1,7 +1,7 @@
 -- Laws of interleaved places: each entry has one place (`row_interleaved`, `column_interleaved`), and each place one
 -- entry (`interleaved_of`); the four below (`quarter`); larger levels from the table (`interleaved_larger`).
 use Rattle.std.specs.Prelude.{◌≡◌, refl, ℕ, zero, suc, ◌+◌, ◌*◌, ◌-◌, ◌/◌, ◌%◌, ◌^◌, ◌≤◌, ◌<◌}
-use Rattle.std.proofs.Common.{sym, ap, ap₂, ◌∙◌, arith, zero-add, suc-add, div-one, mod-eq_of_lt, mod-lt, pow_pos}
+use Rattle.std.proofs.Common.{sym, ap, ◌∙◌, arith, zero-add, suc-add, div-one, mod-eq_of_lt, pow_pos}
 use Rattle.std.proofs.Math.Nat.{pow-succ', div-div-eq-div-mul, div-eq_of_lt}
 use Rattle.std.proofs.Math.Arith.{mod-mul}
 use Rattle.definition.specs.Quarters.{interleaved, row_of, column_of}

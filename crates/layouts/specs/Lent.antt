@@ -1,25 +1,12 @@
 -- A lent pyramid in one layout and in the other: `as_rows` and `as_quarters` undo each other on every list
 -- (`rows_quarters`, `quarters_rows`); its length stays, and so does what lies past the needed length (`rows_length`,
 -- `rows_drop`).
-use Rattle.std.specs.Prelude.{◌≡◌, refl, Bool, true, false, List, ◌++◌, ℕ, suc, ◌+◌, ◌-◌, ◌*◌, ◌^◌, ◌≤◌, ◌<◌, ltb, length, get_or, take, drop, ℤ, pos}
+use Rattle.std.specs.Prelude.{◌≡◌, List, ◌++◌, ℕ, suc, ◌+◌, ◌*◌, ◌^◌, ◌≤◌, ◌<◌, length, get_or, take, drop, ℤ, pos}
 use Rattle.std.proofs.Common.{sym, ap, ap₂, ◌∙◌, arith, length-append, length-drop, take-append-drop, get_or-take, take_at, drop_at, length-take-le}
 use Rattle.std.proofs.Math.Decide.{dec_lt}
-use Rattle.std.proofs.lemmas.List.{take-append-le}
 use borrow.Author.Tests.{lt-ltb, le-ltb}
-use Rattle.definition.specs.Lists.{joined}
-use Rattle.definition.specs.Pyramid.{start, needed, entry, place_in, level_of}
-use Rattle.definition.specs.Quarters.{
-  interleaved,
-  row_of,
-  column_of,
-  quarter_entry,
-  quarter_level,
-  rows_from,
-  quarters_from,
-  relaid,
-  as_rows,
-  as_quarters,
-}
+use Rattle.definition.specs.Pyramid.{start, needed, entry, place_in}
+use Rattle.definition.specs.Quarters.{interleaved, quarter_entry, rows_from, quarters_from, relaid, as_rows, as_quarters}
 use Rattle.quadtree.specs.Levels.{start_suc, start_mono, place_lt}
 use Rattle.layouts.specs.Interleaved.{interleaved_lt}
 use Rattle.layouts.specs.Relaid.{

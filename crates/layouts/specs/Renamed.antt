@@ -1,7 +1,7 @@
 -- Every call answers as it would row after row, places renamed: lent a pyramid that was written by quarters, it leaves
 -- what the call by rows leaves, written by quarters, and the same otherwise; for every input, refused ones too
 -- (`load_renamed_lem`, `advance_renamed_lem`, `drill_list_renamed`, `restore_renamed_lem`, `renewal_renamed`).
-use Rattle.std.specs.Prelude.{◌≡◌, Bool, List, ℕ, ℤ}
+use Rattle.std.specs.Prelude.{◌≡◌, List, ℕ, ℤ}
 use Rattle.std.proofs.Common.{ap}
 use Rattle.definition.specs.Refusals.{power_of}
 use Rattle.definition.specs.Load.{LoadOutcome, load_of}
@@ -9,7 +9,7 @@ use Rattle.definition.specs.Advance.{AdvanceOutcome, advance_of}
 use Rattle.definition.specs.DrillList.{drill_list_of}
 use Rattle.definition.specs.Renewal.{renewal_of}
 use Rattle.definition.specs.Checkpoints.{RestoreOutcome, restore_of}
-use Rattle.definition.specs.Quarters.{as_rows, as_quarters}
+use Rattle.definition.specs.Quarters.{as_quarters}
 use Rattle.definition.specs.ByQuarters.{
   load_by_quarters,
   advance_by_quarters,

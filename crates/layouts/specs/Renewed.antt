@@ -1,6 +1,6 @@
 -- The renewal on a pyramid by quarters, said by place: the entry at place i is over the places 4i to 4i + 3 of the next
 -- finer level. Written row after row, it is the definition's renewal (`rows_renewed`).
-use Rattle.std.specs.Prelude.{◌≡◌, Bool, cond, ◌||◌, ℕ, zero, suc, ◌+◌, ◌*◌, ◌^◌, ◌≤◌, ◌<◌, length, get_or, take, drop, ℤ, pos}
+use Rattle.std.specs.Prelude.{◌≡◌, Bool, cond, ◌||◌, ℕ, zero, suc, ◌+◌, ◌*◌, ◌^◌, ◌<◌, length, get_or, take, drop, ℤ, pos}
 use Rattle.std.proofs.Math.Path.{refl, sym, ap, ap₂}
 use Rattle.std.proofs.Common.{◌∙◌, length-take-le}
 use mathlib.Core.List.{List, ◌++◌}
@@ -17,7 +17,7 @@ use Rattle.quadtree.specs.Levels.{start_suc}
 use Rattle.quadtree.specs.Renewal.{level_ext}
 use Rattle.layouts.specs.Interleaved.{quarter}
 use Rattle.layouts.specs.Relaid.{rows_entry, length_levels_rows}
-use Rattle.layouts.specs.Cells.{rows_level, rows_made, up_to, up_taken, rows_up, rows_append, rows_cells}
+use Rattle.layouts.specs.Cells.{rows_made, up_to, up_taken, rows_up, rows_append, rows_cells}
 use Rattle.layouts.specs.Sums.{four_from, four_places}
 
 -- whether place i is over one of the chosen places of the next finer level

@@ -1,13 +1,13 @@
 -- The pyramid over cells that lie by quarters: the entry at place i of a level is the sum of those at the places 4i to
 -- 4i + 3 of the next finer one (`four_places`). Row after row, it is the definition's pyramid over these cells
 -- (`rows_over`).
-use Rattle.std.specs.Prelude.{◌≡◌, List, ◌++◌, ℕ, zero, suc, ◌+◌, ◌*◌, ◌^◌, ◌≤◌, ◌<◌, length, get_or, ℤ, pos}
+use Rattle.std.specs.Prelude.{◌≡◌, List, ◌++◌, ℕ, zero, suc, ◌+◌, ◌*◌, ◌^◌, ◌<◌, length, get_or, ℤ, pos}
 use Rattle.std.proofs.Math.Path.{refl, ap₂}
 use Rattle.std.proofs.Common.{sym, ap, ◌∙◌, arith, length-append}
 use Rattle.std.proofs.Math.Nat.{pow-succ'}
 use Rattle.std.proofs.Math.IntN.{◌+ℤ◌}
 use Rattle.definition.specs.Lists.{tabulate, joined}
-use Rattle.definition.specs.Pyramid.{start, level_of, in_level, four, coarser, pyramid_over}
+use Rattle.definition.specs.Pyramid.{start, in_level, four, coarser, pyramid_over}
 use Rattle.definition.specs.Quarters.{interleaved, quarter_entry, rows_from}
 use Rattle.integers.specs.Lists.{length_tabulate, get_d_tabulate}
 use Rattle.quadtree.specs.Levels.{start_thrice, start_suc}
