@@ -27,7 +27,7 @@ use Rattle.layouts.specs.Lent.{rows_length, rows_taken, rows_take, rows_drop, ro
 use Rattle.shares.specs.Kernels.{knit_fit}
 use Rattle.refusals.specs.Powers.{power_small}
 use Rattle.refusals.specs.Numbers.{number_positive}
-use Rattle.dots.specs.Steps.{Sheet, steps_sheet}
+use Rattle.dots.proofs.Steps.{Sheet, steps_sheet}
 use Rattle.dots.specs.SoundTest.{test_sound}
 use Rattle.checks.specs.Checks.{checked, passed_none, failed_number}
 use Rattle.checks.specs.declared.Check.{Check}

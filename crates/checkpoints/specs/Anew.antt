@@ -10,7 +10,8 @@ use Rattle.definition.specs.Advance.{dots_due}
 use Rattle.pyramid.specs.PyramidPart.{fresh_pyramid}
 use Rattle.layouts.specs.Relaid.{length_rows, length_quarters, rows_back, quarters_back}
 use Rattle.shares.specs.Kernels.{knit_fit}
-use Rattle.dots.specs.Steps.{Sheet, steps_min}
+use Rattle.dots.proofs.Steps.{Sheet}
+use Rattle.dots.proofs.StepsMin.{steps_min}
 use Rattle.guarantee.proofs.Start.{each_of, start_sheet}
 use Rattle.fresh_sheet.specs.Filling.{Filled}
 use Rattle.dot_run.specs.Running.{RunAsked, Ran}

@@ -12,7 +12,7 @@ use Rattle.integers.specs.Tests.{T_or, all_to_at, cond_both}
 use Rattle.integers.specs.Sums.{sum_to_none, sum_to_suc, sum_to_bound}
 use Rattle.shares.specs.Kernels.{knit_fit}
 use Rattle.shares.specs.Neighbours.{on, on_yes, on_no, weight_is}
-use Rattle.shares.specs.Outflow.{weights_some}
+use Rattle.shares.proofs.Outflow.{weights_some}
 use Rattle.diffusion.specs.OneTurn.{CellAsked}
 
 -- ---- the weights of the nine places: what holds for all is tested for each

@@ -16,7 +16,7 @@ use Rattle.integers.specs.Linear.{ints, up_or_dn}
 use Rattle.quadtree.specs.Levels.{start_suc, cells_few}
 use Rattle.layouts.specs.Relaid.{rows_entry}
 use Rattle.shares.specs.Kernels.{knit_fit}
-use Rattle.dots.specs.Steps.{Sheet, top_entry, due_is, steps_sheet, steps_due}
+use Rattle.dots.proofs.Steps.{Sheet, top_entry, due_is, steps_sheet, steps_due}
 use Rattle.place_dot.specs.DotDue.{DotAsked}
 use Rattle.dot_run.specs.Tops.{none_owed, some_owed}
 

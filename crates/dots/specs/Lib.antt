@@ -1,6 +1,5 @@
 pub mod Placing
 pub mod Marks
 pub mod Near
-pub mod Kept
-pub mod Steps
 pub mod SoundTest
+pub mod Unburnt

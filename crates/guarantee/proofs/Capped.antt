@@ -10,15 +10,16 @@ use Rattle.definition.specs.Model.{Halftone, top_of}
 use Rattle.integers.specs.Linear.{zz, ints}
 use Rattle.quadtree.specs.Areas.{In, span, area, area_add, area_ext}
 use Rattle.quadtree.specs.Points.{δ, Seen, seen, inside, outside, area_point}
-use Rattle.quadtree.specs.Sides.{sides, some_sides}
+use Rattle.quadtree.specs.Sides.{sides}
+use Rattle.quadtree.proofs.SomeSides.{some_sides}
 use Rattle.quadtree.specs.Residues.{area_z}
 use Rattle.quadtree.specs.Levels.{block_on_map}
 use Rattle.quadtree.specs.Pyramids.{entry_area}
 use Rattle.shares.specs.Kernels.{Fit}
-use Rattle.shares.specs.Outflow.{outflow}
+use Rattle.shares.proofs.Outflow.{outflow}
 use Rattle.dots.specs.Marks.{burnt_at_le}
-use Rattle.dots.specs.Kept.{sound_summed, owed, owed_most, after_burnt}
-use Rattle.dots.specs.Steps.{
+use Rattle.dots.proofs.Kept.{sound_summed, owed, owed_most, after_burnt}
+use Rattle.dots.proofs.Steps.{
   Sheet,
   target,
   reached,

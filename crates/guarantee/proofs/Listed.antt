@@ -19,7 +19,7 @@ use Rattle.integers.specs.Tests.{true_T}
 use Rattle.refusals.specs.Lowest.{lowest_past}
 use Rattle.layouts.specs.Relaid.{length_quarters, rows_back}
 use Rattle.layouts.specs.Lent.{rows_part}
-use Rattle.dots.specs.Steps.{Sheet}
+use Rattle.dots.proofs.Steps.{Sheet}
 use Rattle.dots.specs.SoundTest.{sound_test}
 
 -- what Drill List answers and writes: the list of this sheet, and the bytes past it stay

@@ -28,7 +28,8 @@ use Rattle.definition.specs.AdvanceList.{
 }
 use Rattle.integers.specs.Linear.{ints, up_or_dn}
 use Rattle.shares.specs.Kernels.{knit_fit}
-use Rattle.dots.specs.Steps.{Sheet, due_is, steps_sheet, steps_due, steps_made, steps_min, steps_add}
+use Rattle.dots.proofs.Steps.{Sheet, due_is, steps_sheet, steps_due, steps_made, steps_add}
+use Rattle.dots.proofs.StepsMin.{steps_min}
 use Rattle.guarantee.proofs.Lent.{held_of}
 use Rattle.guarantee.proofs.OneCall.{model_taken, model_refused, reply_taken, reply_refused, call_same, held_same}
 

@@ -25,7 +25,8 @@ use Rattle.refusals.specs.Lowest.{lowest_none}
 use Rattle.shares.specs.Kernels.{knit_fit}
 use Rattle.layouts.specs.Relaid.{length_quarters}
 use Rattle.layouts.specs.Lent.{rows_length}
-use Rattle.dots.specs.Steps.{Sheet, steps_sheet, steps_made, steps_min}
+use Rattle.dots.proofs.Steps.{Sheet, steps_sheet, steps_made}
+use Rattle.dots.proofs.StepsMin.{steps_min}
 use Rattle.dots.specs.SoundTest.{sound_test}
 use Rattle.guarantee.proofs.Lent.{held_of, lent_test, lent_part, lent_back, rows_part, rows_over, rows_stay}
 

@@ -25,7 +25,7 @@ use Rattle.refusals.specs.Lowest.{lowest_none}
 use Rattle.layouts.specs.Relaid.{length_quarters, rows_back}
 use Rattle.layouts.specs.Lent.{rows_length, rows_drop, rows_part, as_quarters_part, quarters_rows, quarters_taken}
 use Rattle.shares.specs.Kernels.{knit_fit}
-use Rattle.dots.specs.Steps.{Sheet, steps_sheet}
+use Rattle.dots.proofs.Steps.{Sheet, steps_sheet}
 use Rattle.dots.specs.SoundTest.{test_sound}
 
 -- `new` begins with the pyramid `old` written by quarters

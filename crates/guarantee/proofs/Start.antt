@@ -29,8 +29,8 @@ use Rattle.quadtree.specs.Levels.{block_side_lem, cell_lt, place_row_column}
 use Rattle.quadtree.specs.Pyramids.{length_level, level_entry, length_pyramid, pyramid_cells, pyramid_summed}
 use Rattle.layouts.specs.Lent.{rows_length, rows_drop, as_quarters_part}
 use Rattle.dots.specs.Placing.{Sized}
-use Rattle.dots.specs.Kept.{sound_summed}
-use Rattle.dots.specs.Steps.{Sheet, top_area, due_is}
+use Rattle.dots.proofs.Kept.{sound_summed}
+use Rattle.dots.proofs.Steps.{Sheet, top_area, due_is}
 use Rattle.guarantee.specs.PriceList.{Each, Accepted}
 use Rattle.guarantee.proofs.Capped.{Capped}
 use Rattle.guarantee.proofs.Lent.{held_of}

@@ -34,7 +34,7 @@ use Rattle.quadtree.specs.Areas.{span, area, area_ext, block_area}
 use Rattle.quadtree.specs.Levels.{start_suc, cell_lt, block_side_lem, block_on_map}
 use Rattle.layouts.specs.Relaid.{length_quarters, quarters_top}
 use Rattle.shares.specs.Kernels.{knit_fit}
-use Rattle.dots.specs.Steps.{Sheet, steps_keep}
+use Rattle.dots.proofs.Steps.{Sheet, steps_keep}
 use Rattle.guarantee.specs.PriceList.{Each, EachBlock, Accepted, UnderCap, Ends, Holds, HoldsFrom, PriceList}
 use Rattle.guarantee.proofs.Floor.{floor}
 use Rattle.guarantee.proofs.Quote.{figures_fit, under_quote}

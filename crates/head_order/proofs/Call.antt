@@ -18,7 +18,7 @@ use Rattle.quadtree.specs.Levels.{start_suc, cell_lt}
 use Rattle.layouts.specs.Relaid.{length_quarters, quarters_top}
 use Rattle.layouts.specs.Lent.{rows_length, rows_drop, as_quarters_part, quarters_rows}
 use Rattle.shares.specs.Kernels.{knit_fit}
-use Rattle.dots.specs.Steps.{Sheet}
+use Rattle.dots.proofs.Steps.{Sheet}
 use Rattle.guarantee.specs.PriceList.{Each}
 use Rattle.guarantee.proofs.Theorem.{all_dots_is}
 use Rattle.head_order.specs.Promise.{TwoHeads, HeadsAccepted, HeadsHold}

@@ -20,7 +20,7 @@ use Rattle.dots.specs.SoundTest.{sound_test}
 use Rattle.guarantee.proofs.Start.{accepted_loaded}
 use Rattle.guarantee.proofs.Clauses as guarantee
 use Rattle.shares.specs.Kernels.{knit_fit}
-use Rattle.dots.specs.Steps.{Sheet}
+use Rattle.dots.proofs.Steps.{Sheet}
 use Rattle.heads.specs.TwoHeads.{
   Macroblock,
   wanted,

@@ -11,7 +11,7 @@ use Rattle.definition.specs.Diffusion.{Kernel}
 use Rattle.definition.specs.Model.{Halftone}
 use Rattle.heads.specs.TwoHeads.{Macroblock, work, work_all, row_offset, column_offset, across, macroblocks, rounds}
 use Rattle.shares.specs.Kernels.{Fit}
-use Rattle.dots.specs.Steps.{Sheet}
+use Rattle.dots.proofs.Steps.{Sheet}
 use Rattle.guarantee.specs.PriceList.{Each}
 use Rattle.head_order.specs.Promise.{Fits, Apart, Reordered}
 use Rattle.head_order.proofs.Working.{

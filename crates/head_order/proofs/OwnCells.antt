@@ -12,8 +12,8 @@ use Rattle.integers.specs.Linear.{up}
 use Rattle.quadtree.specs.Points.{δ}
 use Rattle.shares.specs.Kernels.{Fit}
 use Rattle.shares.specs.Neighbours.{fall}
-use Rattle.dots.specs.Kept.{sound_summed}
-use Rattle.dots.specs.Steps.{Sheet}
+use Rattle.dots.proofs.Kept.{sound_summed}
+use Rattle.dots.proofs.Steps.{Sheet}
 use Rattle.guarantee.specs.PriceList.{Each}
 use Rattle.head_order.specs.Promise.{Has, Fits, Apart, Agree, OwnCells}
 use Rattle.head_order.proofs.Working.{

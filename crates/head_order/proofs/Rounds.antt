@@ -28,7 +28,7 @@ use Rattle.heads.specs.TwoHeads.{
 }
 use Rattle.integers.specs.Linear.{zz, ints}
 use Rattle.shares.specs.Kernels.{Fit}
-use Rattle.dots.specs.Steps.{Sheet, dot_top}
+use Rattle.dots.proofs.Steps.{Sheet, dot_top}
 use Rattle.guarantee.specs.PriceList.{Each}
 use Rattle.guarantee.proofs.Start.{start_sheet, start_capped}
 use Rattle.head_order.specs.Promise.{Fits}

@@ -8,7 +8,7 @@ use Rattle.definition.specs.Model.{Halftone, model_start}
 use Rattle.definition.specs.Sound.{Sound}
 use Rattle.heads.specs.TwoHeads.{Macroblock, macroblocks, most_rounds, two_heads_in, two_heads}
 use Rattle.shares.specs.Kernels.{Fit}
-use Rattle.dots.specs.Steps.{Sheet}
+use Rattle.dots.proofs.Steps.{Sheet}
 use Rattle.guarantee.specs.PriceList.{Each}
 use Rattle.guarantee.proofs.Start.{start_sheet}
 use Rattle.head_order.specs.Promise.{Reordered, TwoHeads}

@@ -24,8 +24,8 @@ use Rattle.quadtree.specs.Pyramids.{Summed}
 use Rattle.quadtree.specs.Guidance.{first_fair, Quarter, largest_quarter, largest_due, Reached, descend_reached}
 use Rattle.shares.specs.Kernels.{Fit}
 use Rattle.shares.specs.Neighbours.{fall}
-use Rattle.dots.specs.Kept.{sound_summed, after_sized, after_sound, after_falls, after_away, after_burnt, after_dots}
-use Rattle.dots.specs.Steps.{Sheet}
+use Rattle.dots.proofs.Kept.{sound_summed, after_sized, after_sound, after_falls, after_away, after_burnt, after_dots}
+use Rattle.dots.proofs.Steps.{Sheet}
 use Rattle.head_order.specs.Promise.{Has, Fits, Apart}
 use Rattle.head_order.proofs.Local.{pyramid_same, largest_same, four_same, entry_same, descend_same}
 

@@ -23,7 +23,7 @@ use Rattle.heads.specs.TwoHeads.{
   two_heads_by_quarters,
 }
 use Rattle.quadtree.specs.Areas.{In}
-use Rattle.dots.specs.Steps.{Sheet}
+use Rattle.dots.proofs.Steps.{Sheet}
 use Rattle.guarantee.specs.PriceList.{Each}
 use Rattle.guarantee.proofs.Listed.{listed_of}
 

@@ -5,7 +5,7 @@ use Rattle.definition.specs.Pyramid.{needed, cell_count}
 use Rattle.definition.specs.Quarters.{rows_from, quarters_from}
 use Rattle.definition.specs.Diffusion.{kernel_of}
 use Rattle.definition.specs.Model.{Halftone, top_of}
-use Rattle.dots.specs.Steps.{Sheet}
+use Rattle.dots.proofs.Steps.{Sheet}
 use Rattle.heads.specs.TwoHeads.{macroblocks, rounds, most_rounds, TwoHeadsOutcome}
 
 -- the sheet without dots that lies in the buffers, with its pyramid written row after row

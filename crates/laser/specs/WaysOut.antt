@@ -24,7 +24,7 @@ use Rattle.refusals.specs.Powers.{power_small}
 use Rattle.refusals.specs.Lowest.{lowest_none, lowest_before}
 use Rattle.layouts.specs.Relaid.{length_quarters, rows_back}
 use Rattle.layouts.specs.Lent.{rows_length, rows_taken, quarters_rows}
-use Rattle.dots.specs.Steps.{Sheet}
+use Rattle.dots.proofs.Steps.{Sheet}
 use Rattle.guarantee.specs.PriceList.{Each}
 use Rattle.guarantee.proofs.Lent.{held_of}
 use Rattle.guarantee.proofs.Start.{each_of, start_sheet, Loaded, accepted_loaded, loaded_held}

@@ -5,7 +5,7 @@ use Rattle.definition.specs.Pyramid.{half_dot, start, needed, entry}
 use Rattle.definition.specs.Quarters.{interleaved}
 use Rattle.definition.specs.Descent.{first_of_equals, largest}
 use Rattle.definition.specs.Model.{Halftone}
-use Rattle.dots.specs.Steps.{Sheet}
+use Rattle.dots.proofs.Steps.{Sheet}
 use Rattle.heads.specs.TwoHeads.{block_sums, macroblock_sum}
 use Rattle.pyramid.specs.PyramidPart.{Within, SmallPyramid}
 use Rattle.macroblock.specs.declared.Block.{Block}

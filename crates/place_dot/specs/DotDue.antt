@@ -2,7 +2,7 @@
 use Rattle.std.specs.Prelude.{ℕ, ◌^◌, ◌≤◌, ◌<◌, pos, ◌≤ℤ◌, ◌<ℤ◌}
 use Rattle.definition.specs.Pyramid.{half_dot, entry}
 use Rattle.definition.specs.Model.{Halftone, top_of}
-use Rattle.dots.specs.Steps.{Sheet}
+use Rattle.dots.proofs.Steps.{Sheet}
 
 -- a sheet of just the needed lengths, sound, with a dot due
 pub record DotAsked (r : ℕ) (s : Halftone) : Type 0 where

@@ -18,8 +18,8 @@ use Rattle.quadtree.specs.Levels.{start_thrice, start_suc, start_mono, cell_lt, 
 use Rattle.quadtree.specs.Pyramids.{entry_drop, pyramid_cells}
 use Rattle.quadtree.specs.Renewal.{Changed, renewed_right}
 use Rattle.shares.specs.Kernels.{knit_fit}
-use Rattle.dots.specs.Kept.{sound_summed, after_sound, after_away}
-use Rattle.dots.specs.Steps.{Sheet, target, step_made, row_in, column_in_lem, owes}
+use Rattle.dots.proofs.Kept.{sound_summed, after_sound, after_away}
+use Rattle.dots.proofs.Steps.{Sheet, target, step_made, row_in, column_in_lem, owes}
 use Rattle.layouts.specs.Interleaved.{interleaved_lt, interleaved_any}
 use Rattle.layouts.specs.Cells.{rows_level, length_rows_level, rows_in, rows_cells, rows_replaced}
 use Rattle.places.specs.declared.Parts.{Parts}

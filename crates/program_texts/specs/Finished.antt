@@ -22,7 +22,8 @@ use Rattle.refusals.specs.Powers.{side_pow}
 use Rattle.refusals.specs.Lowest.{LoadLent, load_none}
 use Rattle.layouts.specs.Relaid.{length_quarters}
 use Rattle.shares.specs.Kernels.{knit_fit}
-use Rattle.dots.specs.Steps.{Sheet, steps_sheet, steps_made, steps_min}
+use Rattle.dots.proofs.Steps.{Sheet, steps_sheet, steps_made}
+use Rattle.dots.proofs.StepsMin.{steps_min}
 use Rattle.guarantee.proofs.Lent.{held_of}
 use Rattle.guarantee.proofs.OneCall.{model_taken, held_same}
 use Rattle.guarantee.proofs.Start.{Loaded, loaded_held}

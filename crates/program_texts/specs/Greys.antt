@@ -6,7 +6,7 @@ use Rattle.std.proofs.Math.ListN.{get_or-append}
 use Rattle.definition.specs.Pyramid.{cell_count}
 use Rattle.definition.specs.Model.{model_start}
 use Rattle.definition.specs.Load.{low_map}
-use Rattle.dots.specs.Steps.{Sheet}
+use Rattle.dots.proofs.Steps.{Sheet}
 use Rattle.guarantee.proofs.Start.{each_of, start_sheet, start_front, at_low_map}
 
 module _ (r : ℕ) (values rest : List ℕ) (count : length values ≡ cell_count r) where

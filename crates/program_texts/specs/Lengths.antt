@@ -11,7 +11,7 @@ use Rattle.definition.specs.Model.{Halftone}
 use Rattle.definition.specs.Text.{line}
 use Rattle.definition.specs.DrillList.{dot_lines, drill_text}
 use Rattle.quadtree.specs.Levels.{start_thrice, quadruple}
-use Rattle.dots.specs.Steps.{Sheet}
+use Rattle.dots.proofs.Steps.{Sheet}
 use Rattle.decimals.specs.Writing.{length_decimal}
 use Rattle.drill_list.specs.Listing.{length_two, length_three}
 

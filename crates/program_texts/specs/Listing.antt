@@ -17,7 +17,7 @@ use Rattle.definition.specs.declared.Refusal.{Refusal}
 use Rattle.definition.specs.declared.TextAnswer.{TextAnswer}
 use Rattle.definition.specs.declared.TextAnswer.TheVariants.{Length, Refused}
 use Rattle.refusals.specs.Powers.{side_pow}
-use Rattle.dots.specs.Steps.{Sheet}
+use Rattle.dots.proofs.Steps.{Sheet}
 use Rattle.guarantee.proofs.Lent.{held_of}
 use Rattle.guarantee.proofs.Listed.{listed_of, lists}
 use Rattle.decimals.specs.Printed.{Printed}

@@ -20,7 +20,7 @@ use Rattle.definition.specs.declared.Refusal.{Refusal}
 use Rattle.definition.specs.declared.TextAnswer.{TextAnswer}
 use Rattle.definition.specs.declared.TextAnswer.TheVariants.{Length, Refused}
 use Rattle.refusals.specs.Powers.{power_of_small}
-use Rattle.dots.specs.Steps.{Sheet}
+use Rattle.dots.proofs.Steps.{Sheet}
 use Rattle.decimals.specs.Printed.{Printed}
 use Rattle.quote_page.specs.Page.{page_length_lem}
 use Rattle.program_texts.specs.Finished.{finished_in, MapAsked, finished_sheet}

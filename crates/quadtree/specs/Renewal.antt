@@ -1,8 +1,8 @@
 -- The renewal. `renewed_right`: a pyramid that was right before some cells changed is, with the entries over these
--- cells renewed, right everywhere. `renewed_says`: what the renewal of any pyramid does, entry by entry.
+-- cells renewed, right everywhere. `Renewed`: what the renewal of any pyramid does, entry by entry.
 use Rattle.std.specs.Prelude.{◌≡◌, Bool, true, false, cond, ◌||◌, List, ◌++◌, length, take, drop, ℤ, pos}
 use Rattle.std.proofs.Math.Path.{refl, sym, ap}
-use Rattle.std.proofs.Common.{◌∙◌, length-append, length-drop, length-take-le, drop_at}
+use Rattle.std.proofs.Common.{◌∙◌, length-append, length-take-le, drop_at}
 use Prim.Native.Nat.{ℕ, zero, suc, ◌+◌, ◌*◌, ◌^◌, ◌≤◌, ◌<◌}
 use native.Mathlib.Omega.{arith}
 use Rattle.std.proofs.Math.Nat.{pow-succ'}
@@ -25,7 +25,7 @@ use Rattle.definition.specs.Renewal.{over_these, renewed}
 use Rattle.integers.specs.Lists.{tabulate_ext}
 use Rattle.integers.specs.Tests.{false_T, or_false, cond_both}
 use Rattle.quadtree.specs.Levels.{start_suc, start_mono, place_lt, row_lt, column_lt}
-use Rattle.quadtree.specs.Pyramids.{length_level, length_coarser, level_entry, entry_drop, Summed, four_ext}
+use Rattle.quadtree.specs.Pyramids.{length_level, length_coarser, level_entry, Summed, four_ext}
 
 -- levels whose entries agree
 pub level_ext : (k : ℕ) (f g : ℕ → ℕ → ℤ) → ((a b : ℕ) → a < 2 ^ k → b < 2 ^ k → f a b ≡ g a b)
@@ -185,30 +185,30 @@ pub record Renewed (r : ℕ) (these : ℕ → ℕ → Bool) (before after : List
       → entry after k a b ≡ entry before k a b
 
 module _ (k : ℕ) (these : ℕ → ℕ → Bool) (before : List ℤ) (long : length before ≡ start (suc (suc k))) where
-  abbrev finer : List ℤ
+  abbrev pub finer : List ℤ
   finer = drop (start (suc k)) before
 
-  abbrev over : ℕ → ℕ → Bool
+  abbrev pub over : ℕ → ℕ → Bool
   over = over_these these
 
   abbrev made : ℕ → ℕ → ℤ
   made a b = cond (over a b) (four (in_level (suc k) finer) a b) (entry before k a b)
 
-  abbrev coarse : List ℤ
+  abbrev pub coarse : List ℤ
   coarse = take (start k) before ++ level_of k made
 
   kept_long : length (take (start k) before) ≡ start k
   kept_long = length-take-le (start k) before (omega (arith, long, start_suc k, start_suc (suc k)))
 
-  coarse_long : length coarse ≡ start (suc k)
+  pub coarse_long : length coarse ≡ start (suc k)
   coarse_long =
       omega (arith, length-append (take (start k) before) (level_of k made), kept_long, length_level k made, start_suc k)
 
   module _ (up : List ℤ) (ih : Renewed k over coarse up) where
-    abbrev after : List ℤ
+    abbrev pub after : List ℤ
     after = up ++ finer
 
-    up_long : length up ≡ start (suc k)
+    pub up_long : length up ≡ start (suc k)
     up_long = ih.same_length ∙ coarse_long
 
     after_up : (m a b : ℕ) → m ≤ k → a < 2 ^ m → b < 2 ^ m → entry after m a b ≡ entry up m a b
@@ -217,7 +217,7 @@ module _ (k : ℕ) (these : ℕ → ℕ → Bool) (before : List ℤ) (long : le
         get_or-append up finer (pos 0) (start m + place_in m a b)
         (omega (arith, up_long, before_level m (suc k) a b (omega arith) p q))
 
-    after_finer : (x y : ℕ) → entry after (suc k) x y ≡ in_level (suc k) finer x y
+    pub after_finer : (x y : ℕ) → entry after (suc k) x y ≡ in_level (suc k) finer x y
     unfolding entry in_level
     after_finer x y =
         ap (λ (n : ℕ). get_or after (n + place_in (suc k) x y) (pos 0)) (sym up_long)
@@ -240,7 +240,7 @@ module _ (k : ℕ) (these : ℕ → ℕ → Bool) (before : List ℤ) (long : le
     up_made : (a b : ℕ) → a < 2 ^ k → b < 2 ^ k → entry after k a b ≡ made a b
     up_made a b p q = after_up k a b (omega arith) p q ∙ ih.cells a b ∙ coarse_made a b p q
 
-    says_sums : (j m a b : ℕ) → suc j + m ≡ suc k → a < 2 ^ m → b < 2 ^ m → over_at (suc j) these a b ≡ true
+    pub says_sums : (j m a b : ℕ) → suc j + m ≡ suc k → a < 2 ^ m → b < 2 ^ m → over_at (suc j) these a b ≡ true
         → entry after m a b ≡ four (entry after (suc m)) a b
     unfolding over_at
     says_sums zero m a b e p q t =
@@ -252,64 +252,9 @@ module _ (k : ℕ) (these : ℕ → ℕ → Bool) (before : List ℤ) (long : le
         after_up m a b (omega arith) p q ∙ ih.sums j m a b (omega arith) p q t
         ∙ sym (four_ext (2 ^ m) _ _ a b p q (λ x y i s. after_up (suc m) x y (omega arith) (omega arith) (omega arith)))
 
-    says_others : (j m a b : ℕ) → suc j + m ≡ suc k → a < 2 ^ m → b < 2 ^ m → over_at (suc j) these a b ≡ false
+    pub says_others : (j m a b : ℕ) → suc j + m ≡ suc k → a < 2 ^ m → b < 2 ^ m → over_at (suc j) these a b ≡ false
         → entry after m a b ≡ entry before m a b
     unfolding over_at
     says_others zero m a b e p q t = let z : m ≡ k = omega arith in rw z (up_made a b (rw z at p) (rw z at q) ∙ rw t)
     says_others (suc j) m a b e p q t =
         after_up m a b (omega arith) p q ∙ ih.others j m a b (omega arith) p q t ∙ coarse_above m a b (omega arith) p q
-
-    says : Renewed (suc k) these before after
-    says =
-        record {
-          same_length =
-              omega (
-                arith,
-                length-append up finer,
-                up_long,
-                length-drop (start (suc k)) before,
-                long,
-                start_suc
-                    (suc k),
-              );
-          cells = λ x y. after_finer x y ∙ entry_drop before (suc k) x y;
-          sums = says_sums;
-          others = says_others;
-        }
-
--- what the renewal does to any pyramid, right or not (S 12.3)
-pub renewed_says : (r : ℕ) (these : ℕ → ℕ → Bool) (before : List ℤ) → length before ≡ start (suc r)
-    → Renewed r these before (renewed r these before)
-unfolding renewed
-renewed_says zero these before long =
-    record {
-      same_length = refl;
-      cells = λ x y. refl;
-      sums = λ j k a b e. absurd (omega arith);
-      others = λ j k a b e. absurd (omega arith);
-    }
-renewed_says (suc k) these before long =
-    says k these before long _
-    (renewed_says k (over_these these) (coarse k these before long) (coarse_long k these before long))
-
--- ---- what the request asks for, written out clause by clause, each taken from a field
-module _ (r : ℕ) (these : ℕ → ℕ → Bool) (before : List ℤ) (long : length before ≡ start (suc r)) where
-  abbrev renewal : List ℤ
-  renewal = renewed r these before
-
-  says_so : Renewed r these before renewal
-  says_so = renewed_says r these before long
-
-  pub renewed_length : length renewal ≡ length before
-  renewed_length = says_so.same_length
-
-  pub renewed_cells : (x y : ℕ) → entry renewal r x y ≡ entry before r x y
-  renewed_cells = says_so.cells
-
-  -- an entry of level k, at least one level above the cells
-  module _ (j k a b : ℕ) (coarser : suc j + k ≡ r) (row : a < 2 ^ k) (column : b < 2 ^ k) where
-    pub over_these_lem : over_at (suc j) these a b ≡ true → entry renewal k a b ≡ four (entry renewal (suc k)) a b
-    over_these_lem = says_so.sums j k a b coarser row column
-
-    pub not_over_these : over_at (suc j) these a b ≡ false → entry renewal k a b ≡ entry before k a b
-    not_over_these = says_so.others j k a b coarser row column

@@ -1,7 +1,7 @@
 -- How many of a square's four sides a cell lies on: over all cells of the square, four times its side (`sides_sum`).
-use Rattle.std.specs.Prelude.{◌≡◌, ℕ, ◌+◌, ◌*◌, ◌-◌, ◌≤◌, ◌<◌}
-use Rattle.std.proofs.Common.{arith, mul-le-mul_right}
-use Rattle.quadtree.specs.Areas.{In, span, area, span_add, area_add, area_rows, area_columns, area_mono}
+use Rattle.std.specs.Prelude.{◌≡◌, ℕ, ◌+◌, ◌*◌, ◌-◌, ◌<◌}
+use Rattle.std.proofs.Common.{arith}
+use Rattle.quadtree.specs.Areas.{span, area, span_add, area_add, area_rows, area_columns}
 use Rattle.quadtree.specs.Points.{δ, span_in}
 
 -- how many of the two ends of the n places from p on x is: 2 where there is one place
@@ -33,14 +33,3 @@ sides_sum p q n h =
       ends_sum p n h,
       ends_sum q n h,
     ) (omega arith)
-
--- the sides of some of the cells, each at most once
-pub some_sides : (p q n : ℕ) → 0 < n → (f : ℕ → ℕ → ℕ) → ((x y : ℕ) → In p n x → In q n y → f x y ≤ 1)
-    → area p q n (λ x y. f x y * sides p q n x y) ≤ 4 * n
-some_sides p q n h f once =
-    omega (
-      arith,
-      sides_sum p q n h,
-      area_mono p q n (λ x y. f x y * sides p q n x y) (sides p q n)
-          (λ x y i j. omega (arith, mul-le-mul_right (sides p q n x y) (once x y i j))),
-    )

@@ -11,7 +11,7 @@ use Rattle.definition.specs.Diffusion.{kernel_of}
 use Rattle.definition.specs.Model.{Halftone}
 use Rattle.heads.specs.TwoHeads.{Macroblock, row_offset, column_offset, across, macroblocks, work, work_all}
 use Rattle.shares.specs.Kernels.{knit_fit}
-use Rattle.dots.specs.Steps.{Sheet}
+use Rattle.dots.proofs.Steps.{Sheet}
 use Rattle.head_order.specs.Promise.{Fits}
 use Rattle.head_order.proofs.Working.{work_sheet}
 use Rattle.head_order.proofs.Orders.{in_round, in_place, round_fits_at}

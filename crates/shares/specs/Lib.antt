@@ -1,4 +1,4 @@
 pub mod Shares
 pub mod Kernels
 pub mod Neighbours
-pub mod Outflow
+pub mod Stays

@@ -59,7 +59,7 @@ use Rattle.refusals.specs.Lowest.{lowest_none}
 use Rattle.refusals.specs.Names.{both}
 use Rattle.layouts.specs.Relaid.{length_quarters}
 use Rattle.layouts.specs.Lent.{rows_length}
-use Rattle.dots.specs.Steps.{Sheet}
+use Rattle.dots.proofs.Steps.{Sheet}
 use Rattle.dots.specs.SoundTest.{sound_test}
 use Rattle.guarantee.specs.PriceList.{Each}
 use Rattle.guarantee.proofs.Start.{each_get_or, start_front, total_front}

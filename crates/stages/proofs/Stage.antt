@@ -10,7 +10,8 @@ use Rattle.definition.specs.Refusals.{power_of}
 use Rattle.definition.specs.Advance.{dots_due}
 use Rattle.definition.specs.AdvanceList.{Call, model_call}
 use Rattle.shares.specs.Kernels.{knit_fit}
-use Rattle.dots.specs.Steps.{Sheet, steps_sheet, steps_made, steps_min, steps_add}
+use Rattle.dots.proofs.Steps.{Sheet, steps_sheet, steps_made, steps_add}
+use Rattle.dots.proofs.StepsMin.{steps_min}
 use Rattle.guarantee.specs.PriceList.{Each}
 use Rattle.guarantee.proofs.Start.{start_sheet, start_dots, start_due}
 use Rattle.guarantee.proofs.ManyCalls.{call_keeps}

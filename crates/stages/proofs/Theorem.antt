@@ -38,7 +38,7 @@ use Rattle.definition.specs.Stages.{
 }
 use Rattle.refusals.specs.Names.{both, one_to_eight}
 use Rattle.layouts.specs.Relaid.{length_quarters}
-use Rattle.dots.specs.Steps.{Sheet}
+use Rattle.dots.proofs.Steps.{Sheet}
 use Rattle.guarantee.specs.PriceList.{Each, Accepted, PriceList}
 use Rattle.guarantee.proofs.Start.{Loaded, start_sheet, accepted_loaded, loaded_held}
 use Rattle.guarantee.proofs.Lent.{held_of}

@@ -1,9 +1,8 @@
--- A dot at a cell of a sound sheet that owes something: the cell is unburnt (`unburnt`) and owes at most one dot
+-- A dot at a cell of a sound sheet that owes something: the cell is (unburnt kernel fit r big s sized sound row column i j due) (`unburnt`) and owes at most one dot
 -- (`owed_most`), and the sheet is sound afterwards (`after_sound`).
 use Rattle.std.specs.Prelude.{◌≡◌, ◌⊎◌, false, ℕ, suc, ◌+◌, ◌*◌, ◌-◌, ◌^◌, ◌≤◌, ◌<◌, pos, neg_ℤ, ◌-ℤ◌, ◌≤ℤ◌, ◌<ℤ◌}
 use Rattle.std.proofs.Math.Path.{refl}
 use Rattle.std.proofs.Common.{sym, ap, ap₂, ◌∙◌, inl, inr, arith}
-use Rattle.std.proofs.Math.Decide.{ℕ_discrete}
 use Rattle.definition.specs.Lists.{sum_to}
 use Rattle.definition.specs.Pyramid.{one_dot, entry}
 use Rattle.definition.specs.Blocks.{burnt_at}
@@ -16,9 +15,10 @@ use Rattle.quadtree.specs.Points.{δ, δ_same, hit}
 use Rattle.quadtree.specs.Pyramids.{Summed}
 use Rattle.shares.specs.Kernels.{Fit}
 use Rattle.shares.specs.Neighbours.{spread, fall, fall_away}
-use Rattle.shares.specs.Outflow.{weights_some}
+use Rattle.shares.proofs.Outflow.{weights_some}
+use Rattle.dots.specs.Unburnt.{unburnt}
 use Rattle.dots.specs.Placing.{Sized, placed_sized, placed_summed, placed_falls}
-use Rattle.dots.specs.Marks.{burnt_at_le, Ordered, burnt_at_lem, room, ordered'}
+use Rattle.dots.specs.Marks.{Ordered, burnt_at_lem, room, ordered'}
 use Rattle.dots.specs.Near.{near, burnt_near_is, near_add, spread_near}
 
 pub sound_summed : {r : ℕ} {s : Halftone} → Sound r s → Summed r s.pyramid
@@ -40,15 +40,6 @@ module _ (kernel : Kernel) (fit : Fit kernel) (r : ℕ) (big : 2 ≤ 2 ^ r) (s :
   -- it owes at most one dot (S 3.4)
   pub owed_most : owed ≤ one_dot
   owed_most = omega (ints, sound.at_most row column i j, up_or_dn (entry s.pyramid r row column))
-
-  pub unburnt : burnt_at r s.serials row column ≡ 0
-  unburnt = go (ℕ_discrete (burnt_at r s.serials row column) 0)
-    where
-      go : Dec (burnt_at r s.serials row column ≡ 0) → burnt_at r s.serials row column ≡ 0
-      go (yes z) = z
-      go (no z) =
-          absurd (omega
-          (ints, due, sound.burnt_at_most row column i j (omega (arith, burnt_at_le r s.serials row column))))
 
   some : 0 < sum_to 9 (weight_at kernel r row column)
   some = weights_some kernel r row column fit big 0 0 (2 ^ r) (omega arith) (omega arith) (omega arith) (omega arith)
@@ -90,12 +81,12 @@ module _ (kernel : Kernel) (fit : Fit kernel) (r : ℕ) (big : 2 ≤ 2 ^ r) (s :
   pub after_burnt : (x y : ℕ) → x < 2 ^ r → y < 2 ^ r
       → burnt_at r after.serials x y ≡ burnt_at r s.serials x y + δ row x * δ column y
   unfolding place_dot
-  after_burnt = burnt_at_lem r s.serials s.order s.dots sized.serials sized.order row column i j unburnt
+  after_burnt = burnt_at_lem r s.serials s.order s.dots sized.serials sized.order row column i j (unburnt kernel fit r big s sized sound row column i j due)
 
   ordered_after : Ordered r after.serials after.order after.dots
   unfolding place_dot
   ordered_after =
-      ordered' r s.serials s.order s.dots sized.serials sized.order row column i j unburnt
+      ordered' r s.serials s.order s.dots sized.serials sized.order row column i j (unburnt kernel fit r big s sized sound row column i j due)
       (sound_ordered sound)
 
   pub after_dots : after.dots ≡ suc s.dots
@@ -118,7 +109,7 @@ module _ (kernel : Kernel) (fit : Fit kernel) (r : ℕ) (big : 2 ≤ 2 ^ r) (s :
               arith,
               after_dots,
               room r s.serials s.order s.dots sized.serials sized.order row
-                  column i j unburnt (sound_ordered sound),
+                  column i j (unburnt kernel fit r big s sized sound row column i j due) (sound_ordered sound),
             );
         in_order = ordered_after.in_order;
         count = ordered_after.count;

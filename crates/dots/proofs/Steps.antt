@@ -1,12 +1,11 @@
 -- The model's steps on any sound sheet: it stays sound (`steps_sheet`); a step makes a dot just if one is due, and the
 -- top then falls by one dot's worth (`due_is`, `next_top`); so n steps make the smaller of n and the dots due
--- (`steps_made`, `steps_min`).
+-- (`steps_made`; `StepsMin` goes on).
 use Rattle.std.specs.Prelude.{◌≡◌, refl, Bool, true, false, cond, List, ℤ, pos, nat_abs, ◌-ℤ◌, ◌≤ℤ◌, ◌<ℤ◌}
 use Rattle.std.proofs.Math.Path.{sym}
 use Rattle.std.proofs.Common.{ap, ap₂, ◌∙◌, add-zero, add-suc, zero-mul}
 use Prim.Native.Nat.{ℕ, zero, suc, ◌+◌, ◌/◌, ◌^◌, ◌≤◌, ◌<◌, min}
 use native.Mathlib.Omega.{arith}
-use Rattle.std.proofs.Math.Decide.{dec_le}
 use Rattle.std.specs.Int.Signed.{le_z, lt_z}
 use Rattle.definition.specs.Pyramid.{one_dot, half_dot, start, place_in, entry}
 use Rattle.definition.specs.Descent.{Choice, choice_of, descend}
@@ -21,9 +20,9 @@ use Rattle.quadtree.specs.Residues.{area_z, area_z_ext, area_z_fall}
 use Rattle.quadtree.specs.Pyramids.{Summed, entry_area}
 use Rattle.quadtree.specs.Guidance.{Fair, choice_fair, Reached, descend_reached}
 use Rattle.shares.specs.Kernels.{Fit}
-use Rattle.shares.specs.Outflow.{fall_whole}
+use Rattle.shares.proofs.Outflow.{fall_whole}
 use Rattle.dots.specs.Placing.{Sized}
-use Rattle.dots.specs.Kept.{
+use Rattle.dots.proofs.Kept.{
   sound_summed,
   owed,
   owed_most,
@@ -224,28 +223,6 @@ module _ (kernel : Kernel) (fit : Fit kernel) (r : ℕ) (big : 2 ≤ 2 ^ r) wher
   steps_made zero s sheet = omega arith
   steps_made (suc n) s sheet =
       omega (arith, steps_made n s sheet, steps_due n s sheet, step_count (steps kernel r n s) (steps_sheet n s sheet))
-
-  -- and steps past the dots due change nothing
-  idle : (s : Halftone) → dots_due (top_of s.pyramid) ≡ 0 → step kernel r s ≡ s
-  idle s h = step_idle kernel r s (go (le_z (pos half_dot) (top_of s.pyramid)) refl)
-    where
-      go : (b : Bool) → le_z (pos half_dot) (top_of s.pyramid) ≡ b → le_z (pos half_dot) (top_of s.pyramid) ≡ false
-      go true e = absurd (omega (ints, due_is (top_of s.pyramid), up_or_dn (top_of s.pyramid)))
-      go false e = e
-
-  pub steps_min : (n : ℕ) (s : Halftone) → Sheet r s
-      → steps kernel r (min n (dots_due (top_of s.pyramid))) s ≡ steps kernel r n s
-  unfolding steps
-  steps_min zero s sheet = let z : min 0 (dots_due (top_of s.pyramid)) ≡ 0 = omega arith in rw z
-  steps_min (suc n) s sheet = go (dec_le (suc n) (dots_due (top_of s.pyramid))) (steps_min n s sheet)
-    where
-      go : Dec (suc n ≤ dots_due (top_of s.pyramid))
-          → steps kernel r (min n (dots_due (top_of s.pyramid))) s ≡ steps kernel r n s
-          → steps kernel r (min (suc n) (dots_due (top_of s.pyramid))) s ≡ step kernel r (steps kernel r n s)
-      go (yes d) ih = let z : min (suc n) (dots_due (top_of s.pyramid)) ≡ suc n = omega arith in rw z
-      go (no d) ih =
-          let z : min (suc n) (dots_due (top_of s.pyramid)) ≡ min n (dots_due (top_of s.pyramid)) = omega arith in
-          rw z ih ∙ sym (idle (steps kernel r n s) (omega (arith, steps_due n s sheet, steps_made n s sheet)))
 
 pub steps_add : (kernel : Kernel) (r m n : ℕ) (s : Halftone)
     → steps kernel r n (steps kernel r m s) ≡ steps kernel r (m + n) s

@@ -1,0 +1,2 @@
+pub mod SomeSides
+pub mod RenewedSays
