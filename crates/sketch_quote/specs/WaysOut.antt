@@ -26,11 +26,10 @@ use Rattle.refusals.specs.Numbers.{number_positive}
 use Rattle.refusals.specs.Powers.{power_of_small, cell_count_side}
 use Rattle.grammar.specs.Lines.{repeated_line_ends_no_digits}
 use Rattle.grammar.proofs.MapText.{values_low}
-use Rattle.grammar.specs.Sketch.{Apart, Passed}
+use Rattle.grammar.specs.Sketch.{Apart}
 use Rattle.grammar.proofs.Sketch.{read_apart, sketch_none}
 use Rattle.checks.specs.Checks.{checked, passed_none, failed_number}
 use Rattle.checks.specs.declared.Check.{Check}
-use Rattle.checks.specs.declared.Check.TheVariants as Check
 use Rattle.decimals.specs.Writing.{sets_front}
 use Rattle.text_cells.specs.Cells.{CellsRead}
 use Rattle.text_cells.specs.Found.{numbers_from, cells_stored}
