@@ -1,0 +1,26 @@
+-- `macroblock::block_at`.
+use borrow.Author.Rules.{rules}
+use Rattle.integers.specs.Machine.{back64}
+use Rattle.macroblock.specs.Owing.{row_few, column_few, block_in, at_fits, at_bytes, block_is}
+use Rattle.macroblock.proofs.block_at.Goals as goal
+
+pub place-requires : goal.place-requires
+place-requires c =
+    (search rules, search (row_few, column_few, rules), search (row_few, column_few, rules))
+
+pub overflow_add-at : goal.overflow_add-at
+overflow_add-at c =
+    search (at_fits, rules)
+
+pub offset_bounds-pyramid-at : goal.offset_bounds-pyramid-at
+offset_bounds-pyramid-at c =
+    search (at_bytes, rules)
+
+pub bounds-pyramid-at : goal.bounds-pyramid-at
+bounds-pyramid-at c =
+    search (block_in, rules)
+
+pub returns : goal.returns
+returns c =
+    block_is _ _ _ _ c.requires.block_asked _ _ c.level_start-first.ensures c.place.ensures
+    (back64 _ c.sum-1.given)
