@@ -2,11 +2,28 @@
 // text is enough to tell that an input is none.
 #![tactic(auto)]
 
-fn main() {
-    let mut input = [0u8; 262149];
-    let n = io::read_full(0, &mut input);
-    let text = program_texts::convert_text(&input[..n]);
-    let bytes = text.bytes;
-    let length = text.length;
-    io::write_all(1, &bytes[..length]);
+ghost use Rattle.std.specs.Prelude.{IfSome, OnOk, take};
+ghost use Rattle.std.specs.Io.KnownBytes.{Appends};
+ghost use Rattle.definition.specs.Convert.{convert_of};
+
+use std::alloc::Global;
+use std::io;
+use std::io::{Read, Write};
+
+// The bytes read at most, one more than the longest map text has.
+const INPUT_LIMIT: u64 = 262149;
+
+// Reads an input, no further than the limit, and writes what `convert_text` says of it.
+fn run<R: Read + Drop, W: Write>(alloc: Global, input: R, out: &mut W) -> io::Result<()>
+    ensures { OnOk result (IfSome (R.remaining input) (λ bytes.
+        Appends (W.contents out.old) (W.contents out.new) (convert_of (take 262149 bytes)))) }
+{
+    let mut read = Vec::new(alloc);
+    input.take(INPUT_LIMIT).read_to_end(&mut read)?;
+    let text = program_texts::convert_text(&read);
+    out.write_all(&text.bytes[..text.length])
+}
+
+fn main(rt: HostRuntime) -> io::Result<()> {
+    run(rt.alloc(), rt.stdin(), &mut rt.stdout())
 }

@@ -1,9 +1,21 @@
 // The program sample: writes what `sample_text` says.
 #![tactic(auto)]
 
-fn main() {
+ghost use Rattle.std.specs.Prelude.{OnOk};
+ghost use Rattle.std.specs.Io.KnownBytes.{Appends};
+ghost use Rattle.definition.specs.Sample.{sample_text};
+
+use std::io;
+use std::io::Write;
+
+// Writes what `sample_text` says.
+fn run<W: Write>(out: &mut W) -> io::Result<()>
+    ensures { OnOk result (Appends (W.contents out.old) (W.contents out.new) sample_text) }
+{
     let text = program_texts::sample_text();
-    let bytes = text.bytes;
-    let length = text.length;
-    io::write_all(1, &bytes[..length]);
+    out.write_all(&text.bytes[..text.length])
+}
+
+fn main(rt: HostRuntime) -> io::Result<()> {
+    run(&mut rt.stdout())
 }
