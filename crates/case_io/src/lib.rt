@@ -1,12 +1,27 @@
-// What the programs share: numbers read from a text of numbers parted by commas and line ends (`next`), and numbers,
-// lists, answers and refusals written to standard output (`field`, `print_load`, `print_call`); and the buffers of a
-// case, their greys (`make_greys`), and Advance on them (`advance_on`).
+// What the programs share: the input (`read_input`), numbers read from a text of numbers parted by commas and line ends
+// (`next`), and numbers, lists, answers and refusals written to an output (`field`, `print_load`, `print_call`); and
+// the buffers of a case, their greys (`make_greys`), and Advance on them (`advance_on`).
 #![tactic(auto)]
 
-ghost use Rattle.std.specs.Prelude.{◌≤◌, ◌<◌, ◌^◌, length};
+ghost use Rattle.std.specs.Prelude.{◌≡◌, ◌≤◌, ◌<◌, ◌^◌, IfOk, IfSome, length, take};
 
 use decimals::Number;
 use definition::{AdvanceAnswer, AdvanceStatus, LoadAnswer, LoadStatus, Progress, Refusal};
+use std::alloc::Global;
+use std::io;
+use std::io::{Read, Write};
+
+// The bytes read at most, more than the cases of any program have.
+const INPUT_LIMIT: u64 = 65536;
+
+// Reads an input to its end, or no further than the limit.
+pub fn read_input<R: Read + Drop>(alloc: Global, input: R) -> io::Result<Vec<u8>>
+    ensures { IfOk result (λ read. IfSome (R.remaining input) (λ bytes. read.items ≡ take 65536 bytes)) }
+{
+    let mut read = Vec::new(alloc);
+    input.take(INPUT_LIMIT).read_to_end(&mut read)?;
+    Ok(read)
+}
 
 // A number that was read, and the place behind the byte that ends it.
 #[derive(Clone, Copy)]
@@ -37,12 +52,10 @@ pub fn next(text: &[u8], from: usize) -> Found {
 // Reads a number for each place, modulo 256, and returns the place behind the last.
 pub fn read_bytes(text: &[u8], from: usize, bytes: &mut [u8]) -> usize {
     let mut at = from;
-    let mut i = 0;
-    while i < bytes.len() {
+    for byte in bytes.iter_mut() {
         let n = next(text, at);
-        bytes[i] = (n.value % 256) as u8;
+        *byte = (n.value % 256) as u8;
         at = n.at;
-        i += 1;
     }
     at
 }
@@ -70,28 +83,28 @@ fn put_digits(digits: &mut [u8], n: u64) -> usize
 }
 
 // Writes a number.
-pub fn print_number(n: u64) {
+pub fn print_number<W: Write>(out: &mut W, n: u64) -> io::Result<()> {
     let mut digits = [0u8; 20];
     let length = put_digits(&mut digits, n);
-    io::write_all(1, &digits[..length]);
+    out.write_all(&digits[..length])
 }
 
-pub fn end_line() {
-    io::write_all(1, b"\n");
+pub fn end_line<W: Write>(out: &mut W) -> io::Result<()> {
+    out.write_all(b"\n")
 }
 
 // Writes a comma and a number.
-pub fn field(n: u64) {
-    io::write_all(1, b",");
-    print_number(n);
+pub fn field<W: Write>(out: &mut W, n: u64) -> io::Result<()> {
+    out.write_all(b",")?;
+    print_number(out, n)
 }
 
-pub fn field_u32(n: u32) {
-    field(n as u64);
+pub fn field_u32<W: Write>(out: &mut W, n: u32) -> io::Result<()> {
+    field(out, n as u64)
 }
 
-fn field_u8(n: u8) {
-    field(n as u64);
+fn field_u8<W: Write>(out: &mut W, n: u8) -> io::Result<()> {
+    field(out, n as u64)
 }
 
 // n itself, or -1 - n for a number n below 0.
@@ -104,81 +117,72 @@ pub fn folded(n: i64) -> u64
     n as u64
 }
 
-pub fn field_i64(n: i64) {
+pub fn field_i64<W: Write>(out: &mut W, n: i64) -> io::Result<()> {
     if n < 0 {
-        io::write_all(1, b",-");
-        print_number(folded(n) + 1);
-        return;
+        out.write_all(b",-")?;
+        return print_number(out, folded(n) + 1);
     }
-    field(folded(n));
+    field(out, folded(n))
 }
 
 // Writes a field for each value, and ends the line.
-pub fn fields_u32(values: &[u32]) {
-    let mut i = 0;
-    while i < values.len() {
-        field_u32(values[i]);
-        i += 1;
+pub fn fields_u32<W: Write>(out: &mut W, values: &[u32]) -> io::Result<()> {
+    for value in values {
+        field_u32(out, *value)?;
     }
-    end_line();
+    end_line(out)
 }
 
 // The same for signed values.
-pub fn fields_i64(values: &[i64]) {
-    let mut i = 0;
-    while i < values.len() {
-        field_i64(values[i]);
-        i += 1;
+pub fn fields_i64<W: Write>(out: &mut W, values: &[i64]) -> io::Result<()> {
+    for value in values {
+        field_i64(out, *value)?;
     }
-    end_line();
+    end_line(out)
 }
 
 // The same for bytes.
-pub fn fields_u8(values: &[u8]) {
-    let mut i = 0;
-    while i < values.len() {
-        field_u8(values[i]);
-        i += 1;
+pub fn fields_u8<W: Write>(out: &mut W, values: &[u8]) -> io::Result<()> {
+    for value in values {
+        field_u8(out, *value)?;
     }
-    end_line();
+    end_line(out)
 }
 
 // Writes a refusal, and ends the line.
-pub fn print_refused(why: Refusal) {
-    io::write_all(1, b"refused");
-    field_u32(checks::number_of(why));
-    end_line();
+pub fn print_refused<W: Write>(out: &mut W, why: Refusal) -> io::Result<()> {
+    out.write_all(b"refused")?;
+    field_u32(out, checks::number_of(why))?;
+    end_line(out)
 }
 
 // Ends a line with a refusal.
-pub fn end_refused(why: Refusal) {
-    io::write_all(1, b",");
-    print_refused(why);
+pub fn end_refused<W: Write>(out: &mut W, why: Refusal) -> io::Result<()> {
+    out.write_all(b",")?;
+    print_refused(out, why)
 }
 
 // Writes the line before a case's answers.
-pub fn print_case(number: u32) {
-    io::write_all(1, b"case");
-    field_u32(number);
-    end_line();
+pub fn print_case<W: Write>(out: &mut W, number: u32) -> io::Result<()> {
+    out.write_all(b"case")?;
+    field_u32(out, number)?;
+    end_line(out)
 }
 
 // Writes a field for each number of a record: the side, the dots, the knit.
-pub fn print_record(progress: Progress) {
-    field_u32(progress.side);
-    field_u32(progress.dots);
-    field_u32(progress.knit);
+pub fn print_record<W: Write>(out: &mut W, progress: Progress) -> io::Result<()> {
+    field_u32(out, progress.side)?;
+    field_u32(out, progress.dots)?;
+    field_u32(out, progress.knit)
 }
 
 // Writes what Load answers.
-pub fn print_load(answer: LoadAnswer) {
-    let progress = answer.progress;
-    io::write_all(1, b"load");
-    print_record(progress);
-    let status = answer.status;
-    match status {
-        LoadStatus::Loaded => end_line(),
-        LoadStatus::Refused(why) => end_refused(why),
+pub fn print_load<W: Write>(out: &mut W, answer: LoadAnswer) -> io::Result<()> {
+    out.write_all(b"load")?;
+    print_record(out, answer.progress)?;
+    match answer.status {
+        LoadStatus::Loaded => end_line(out),
+        LoadStatus::Refused(why) => end_refused(out, why),
     }
 }
 
@@ -276,10 +280,8 @@ fn wide(n: u32) -> u64 {
 // The checksum of values.
 fn checksum_u32(values: &[u32]) -> u64 {
     let mut sum = 1;
-    let mut i = 0;
-    while i < values.len() {
-        sum = mix(sum, wide(values[i]));
-        i += 1;
+    for value in values {
+        sum = mix(sum, wide(*value));
     }
     sum
 }
@@ -287,61 +289,55 @@ fn checksum_u32(values: &[u32]) -> u64 {
 // The same for signed values.
 fn checksum_i64(values: &[i64]) -> u64 {
     let mut sum = 1;
-    let mut i = 0;
-    while i < values.len() {
-        sum = mix(sum, word(values[i]));
-        i += 1;
+    for value in values {
+        sum = mix(sum, word(*value));
     }
     sum
 }
 
 // Writes the values of a side up to 8, and the checksum of a larger one.
-fn write_u32(n: usize, values: &[u32]) {
+fn write_u32<W: Write>(out: &mut W, n: usize, values: &[u32]) -> io::Result<()> {
     if n <= 8 {
-        fields_u32(values);
-        return;
+        return fields_u32(out, values);
     }
-    field(checksum_u32(values));
-    end_line();
+    field(out, checksum_u32(values))?;
+    end_line(out)
 }
 
 // The same for signed values.
-fn write_i64(n: usize, values: &[i64]) {
+fn write_i64<W: Write>(out: &mut W, n: usize, values: &[i64]) -> io::Result<()> {
     if n <= 8 {
-        fields_i64(values);
-        return;
+        return fields_i64(out, values);
     }
-    field(checksum_i64(values));
-    end_line();
+    field(out, checksum_i64(values))?;
+    end_line(out)
 }
 
 // Writes the three buffers.
-pub fn write_places(n: usize, pyramid: &[i64], serials: &[u32], order: &[u32]) {
-    io::write_all(1, b"pyramid");
-    write_i64(n, pyramid);
-    io::write_all(1, b"serials");
-    write_u32(n, serials);
-    io::write_all(1, b"order");
-    write_u32(n, order);
+pub fn write_places<W: Write>(
+    out: &mut W,
+    n: usize,
+    pyramid: &[i64],
+    serials: &[u32],
+    order: &[u32],
+) -> io::Result<()> {
+    out.write_all(b"pyramid")?;
+    write_i64(out, n, pyramid)?;
+    out.write_all(b"serials")?;
+    write_u32(out, n, serials)?;
+    out.write_all(b"order")?;
+    write_u32(out, n, order)
 }
 
 // Writes what Advance answers to a budget.
-pub fn print_call(budget: u32, answer: AdvanceAnswer) {
-    let progress = answer.progress;
-    io::write_all(1, b"call");
-    field_u32(budget);
-    print_record(progress);
-    field_u32(answer.made);
-    let status = answer.status;
-    match status {
-        AdvanceStatus::Finished => {
-            io::write_all(1, b",finished");
-            end_line();
-        }
-        AdvanceStatus::More => {
-            io::write_all(1, b",more");
-            end_line();
-        }
-        AdvanceStatus::Refused(why) => end_refused(why),
+pub fn print_call<W: Write>(out: &mut W, budget: u32, answer: AdvanceAnswer) -> io::Result<()> {
+    out.write_all(b"call")?;
+    field_u32(out, budget)?;
+    print_record(out, answer.progress)?;
+    field_u32(out, answer.made)?;
+    match answer.status {
+        AdvanceStatus::Finished => out.write_all(b",finished\n"),
+        AdvanceStatus::More => out.write_all(b",more\n"),
+        AdvanceStatus::Refused(why) => end_refused(out, why),
     }
 }

@@ -8,6 +8,8 @@
 
 use case_io::{limit, next};
 use definition::Progress;
+use std::io;
+use std::io::{BufWriter, Write};
 
 // The record after a call, and the place behind the call.
 #[derive(Clone, Copy)]
@@ -17,14 +19,14 @@ struct Called {
 }
 
 // Reads a call, makes it, and writes its answer.
-fn run_call(
+fn run_call<W: Write>(
+    out: &mut W,
     text: &[u8],
     last: Called,
     pyramid: &mut [i64],
     serials: &mut [u32],
     order: &mut [u32],
-) -> Called {
-    let progress = last.progress;
+) -> io::Result<Called> {
     let b = next(text, last.at);
     let p = next(text, b.at);
     let s = next(text, p.at);
@@ -36,41 +38,46 @@ fn run_call(
     let place = entry.value as usize;
     case_io::shift_entry(pyramid, place, plus.value, minus.value);
     let answer = case_io::advance_on(
-        progress, budget, p.value, s.value, o.value, pyramid, serials, order,
+        last.progress,
+        budget,
+        p.value,
+        s.value,
+        o.value,
+        pyramid,
+        serials,
+        order,
     );
-    case_io::print_call(budget, answer);
-    let after = answer.progress;
-    Called {
-        progress: after,
+    case_io::print_call(out, budget, answer)?;
+    Ok(Called {
+        progress: answer.progress,
         at: minus.at,
-    }
+    })
 }
 
 // Reads the calls, makes them one after another, and returns the place behind the last.
-fn run_calls(
+fn run_calls<W: Write>(
+    out: &mut W,
     text: &[u8],
     from: usize,
     progress: Progress,
     pyramid: &mut [i64],
     serials: &mut [u32],
     order: &mut [u32],
-) -> usize {
+) -> io::Result<usize> {
     let count = next(text, from);
-    let calls = count.value;
     let mut last = Called {
         progress,
         at: count.at,
     };
-    let mut j = 0;
-    while j < calls {
-        last = run_call(text, last, pyramid, serials, order);
-        j += 1;
+    for _ in 0..count.value {
+        last = run_call(out, text, last, pyramid, serials, order)?;
     }
-    last.at
+    Ok(last.at)
 }
 
 // Reads what follows a case's first four numbers, on the whole parts, and returns the place behind the case.
-fn run(
+fn run<W: Write>(
+    out: &mut W,
     text: &[u8],
     from: usize,
     side: u32,
@@ -81,18 +88,17 @@ fn run(
     pyramid: &mut [i64],
     serials: &mut [u32],
     order: &mut [u32],
-) -> usize {
+) -> io::Result<usize> {
     let calls = case_io::make_greys(text, from, seed, side, greys);
     let answer = load::load(side, knit, greys, pyramid, serials, order);
-    case_io::print_load(answer);
-    let progress = answer.progress;
-    let end = run_calls(text, calls, progress, pyramid, serials, order);
-    case_io::write_places(n, pyramid, serials, order);
-    end
+    case_io::print_load(out, answer)?;
+    let end = run_calls(out, text, calls, answer.progress, pyramid, serials, order)?;
+    case_io::write_places(out, n, pyramid, serials, order)?;
+    Ok(end)
 }
 
 // Reads a case from a place on, writes its answers, and returns the place behind it.
-fn run_case(text: &[u8], from: usize) -> usize {
+fn run_case<W: Write>(out: &mut W, text: &[u8], from: usize) -> io::Result<usize> {
     let side = next(text, from);
     let knit = next(text, side.at);
     let seed = next(text, knit.at);
@@ -107,6 +113,7 @@ fn run_case(text: &[u8], from: usize) -> usize {
     let mut serials = [9u32; 65700];
     let mut order = [9u32; 65700];
     run(
+        out,
         text,
         spare.at,
         side.value,
@@ -121,20 +128,19 @@ fn run_case(text: &[u8], from: usize) -> usize {
 }
 
 // Runs every case of a text.
-fn run_cases(text: &[u8]) {
+fn run_cases<W: Write>(out: &mut W, text: &[u8]) -> io::Result<()> {
     let count = next(text, 0);
-    let cases = count.value;
     let mut at = count.at;
-    let mut j = 0;
-    while j < cases {
-        j += 1;
-        case_io::print_case(j);
-        at = run_case(text, at);
+    for number in 1..=count.value {
+        case_io::print_case(out, number)?;
+        at = run_case(out, text, at)?;
     }
+    Ok(())
 }
 
-fn main() {
-    let mut input = io::large_buffer();
-    let n = io::read_full(0, &mut input);
-    run_cases(&input[..n]);
+fn main(rt: HostRuntime) -> io::Result<()> {
+    let input = case_io::read_input(rt.alloc(), rt.stdin())?;
+    let mut out = BufWriter::new(rt.alloc(), rt.stdout())?;
+    run_cases(&mut out, &input)?;
+    out.flush()
 }

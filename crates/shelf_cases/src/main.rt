@@ -8,75 +8,75 @@
 
 use case_io::{end_line, end_refused, field_u32, fields_u32, limit, next};
 use definition::{CompareAnswer, ShelfAnswer};
+use std::io;
+use std::io::{BufWriter, Write};
 
 // Ends a line with a cell.
-fn end_cell(row: u32, column: u32) {
-    field_u32(row);
-    field_u32(column);
-    end_line();
+fn end_cell<W: Write>(out: &mut W, row: u32, column: u32) -> io::Result<()> {
+    field_u32(out, row)?;
+    field_u32(out, column)?;
+    end_line(out)
 }
 
-fn print_compare(answer: CompareAnswer) {
+fn print_compare<W: Write>(out: &mut W, answer: CompareAnswer) -> io::Result<()> {
+    out.write_all(b"compare")?;
     match answer {
-        CompareAnswer::Before => {
-            io::write_all(1, b"compare,before");
-            end_line();
-        }
+        CompareAnswer::Before => out.write_all(b",before\n"),
         CompareAnswer::BeforeAt(row, column) => {
-            io::write_all(1, b"compare,before");
-            end_cell(row, column);
+            out.write_all(b",before")?;
+            end_cell(out, row, column)
         }
-        CompareAnswer::Same => {
-            io::write_all(1, b"compare,same");
-            end_line();
-        }
+        CompareAnswer::Same => out.write_all(b",same\n"),
         CompareAnswer::AfterAt(row, column) => {
-            io::write_all(1, b"compare,after");
-            end_cell(row, column);
+            out.write_all(b",after")?;
+            end_cell(out, row, column)
         }
-        CompareAnswer::After => {
-            io::write_all(1, b"compare,after");
-            end_line();
-        }
-        CompareAnswer::Refused(why) => {
-            io::write_all(1, b"compare");
-            end_refused(why);
-        }
+        CompareAnswer::After => out.write_all(b",after\n"),
+        CompareAnswer::Refused(why) => end_refused(out, why),
     }
 }
 
-fn print_shelf(answer: ShelfAnswer) {
-    io::write_all(1, b"shelf");
+fn print_shelf<W: Write>(out: &mut W, answer: ShelfAnswer) -> io::Result<()> {
+    out.write_all(b"shelf")?;
     match answer {
-        ShelfAnswer::Sorted => end_line(),
-        ShelfAnswer::Refused(why) => end_refused(why),
+        ShelfAnswer::Sorted => end_line(out),
+        ShelfAnswer::Refused(why) => end_refused(out, why),
     }
 }
 
 // Reads a number for each place, and returns the place behind the last.
 fn read_numbers(text: &[u8], from: usize, numbers: &mut [u32]) -> usize {
     let mut at = from;
-    let mut i = 0;
-    while i < numbers.len() {
+    for number in numbers.iter_mut() {
         let n = next(text, at);
-        numbers[i] = n.value;
+        *number = n.value;
         at = n.at;
-        i += 1;
     }
     at
 }
 
 // Compares the two parts of a shelf, puts the shelf in order, and writes the answers and the list.
-fn sort(side: u32, n: u32, plates: &[u32], middle: u32, list: &mut [u32]) {
+fn sort<W: Write>(
+    out: &mut W,
+    side: u32,
+    n: u32,
+    plates: &[u32],
+    middle: u32,
+    list: &mut [u32],
+) -> io::Result<()> {
     let parted = limit(middle, plates.len());
-    print_compare(compare::compare(side, &plates[..parted], &plates[parted..]));
-    print_shelf(shelf::shelf(side, n, plates, list));
-    io::write_all(1, b"list");
-    fields_u32(list);
+    print_compare(
+        out,
+        compare::compare(side, &plates[..parted], &plates[parted..]),
+    )?;
+    print_shelf(out, shelf::shelf(side, n, plates, list))?;
+    out.write_all(b"list")?;
+    fields_u32(out, list)
 }
 
 // Reads a shelf of the places lent, has it sorted, and returns the place behind it.
-fn run(
+fn run<W: Write>(
+    out: &mut W,
     text: &[u8],
     from: usize,
     side: u32,
@@ -84,14 +84,14 @@ fn run(
     middle: u32,
     plates: &mut [u32],
     list: &mut [u32],
-) -> usize {
+) -> io::Result<usize> {
     let end = read_numbers(text, from, plates);
-    sort(side, n, plates, middle, list);
-    end
+    sort(out, side, n, plates, middle, list)?;
+    Ok(end)
 }
 
 // Reads a case from a place on, writes its answers, and returns the place behind it.
-fn run_case(text: &[u8], from: usize) -> usize {
+fn run_case<W: Write>(out: &mut W, text: &[u8], from: usize) -> io::Result<usize> {
     let side = next(text, from);
     let n = next(text, side.at);
     let p = next(text, n.at);
@@ -102,6 +102,7 @@ fn run_case(text: &[u8], from: usize) -> usize {
     let mut plates = [0u32; 5000];
     let mut list = [9u32; 300];
     run(
+        out,
         text,
         middle.at,
         side.value,
@@ -113,20 +114,19 @@ fn run_case(text: &[u8], from: usize) -> usize {
 }
 
 // Runs every case of a text.
-fn run_cases(text: &[u8]) {
+fn run_cases<W: Write>(out: &mut W, text: &[u8]) -> io::Result<()> {
     let count = next(text, 0);
-    let cases = count.value;
     let mut at = count.at;
-    let mut j = 0;
-    while j < cases {
-        j += 1;
-        case_io::print_case(j);
-        at = run_case(text, at);
+    for number in 1..=count.value {
+        case_io::print_case(out, number)?;
+        at = run_case(out, text, at)?;
     }
+    Ok(())
 }
 
-fn main() {
-    let mut input = io::large_buffer();
-    let n = io::read_full(0, &mut input);
-    run_cases(&input[..n]);
+fn main(rt: HostRuntime) -> io::Result<()> {
+    let input = case_io::read_input(rt.alloc(), rt.stdin())?;
+    let mut out = BufWriter::new(rt.alloc(), rt.stdout())?;
+    run_cases(&mut out, &input)?;
+    out.flush()
 }

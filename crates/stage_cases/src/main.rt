@@ -15,6 +15,8 @@
 
 use case_io::{end_line, end_refused, field, field_u32, limit, next};
 use definition::{CheckpointAnswer, CheckpointStatus, Checkpoints, Progress};
+use std::io;
+use std::io::{BufWriter, Write};
 
 // An action, and the place behind it.
 #[derive(Clone, Copy)]
@@ -51,26 +53,24 @@ struct Held {
 }
 
 // Ends a line with what Keep or Restore says, and returns what it gives back.
-fn end_answer(answer: CheckpointAnswer) -> Held {
-    let progress = answer.progress;
-    let checkpoints = answer.checkpoints;
-    let status = answer.status;
-    match status {
-        CheckpointStatus::Done => end_line(),
-        CheckpointStatus::Refused(why) => end_refused(why),
+fn end_answer<W: Write>(out: &mut W, answer: CheckpointAnswer) -> io::Result<Held> {
+    match answer.status {
+        CheckpointStatus::Done => end_line(out)?,
+        CheckpointStatus::Refused(why) => end_refused(out, why)?,
     }
-    Held {
-        progress,
-        checkpoints,
-    }
+    Ok(Held {
+        progress: answer.progress,
+        checkpoints: answer.checkpoints,
+    })
 }
 
-fn keep(held: Held, name: u32) -> Held {
-    let progress = held.progress;
-    let value = held.checkpoints;
-    io::write_all(1, b"keep");
-    field_u32(name);
-    end_answer(checkpoints::keep(progress, value, name))
+fn keep<W: Write>(out: &mut W, held: Held, name: u32) -> io::Result<Held> {
+    out.write_all(b"keep")?;
+    field_u32(out, name)?;
+    end_answer(
+        out,
+        checkpoints::keep(held.progress, held.checkpoints, name),
+    )
 }
 
 // Lends Restore the first places of each buffer, as many as the lengths say.
@@ -100,46 +100,58 @@ fn restore_on(
     )
 }
 
-fn restore(
+fn restore<W: Write>(
+    out: &mut W,
     held: Held,
     action: Action,
     greys: &[u8],
     pyramid: &mut [i64],
     serials: &mut [u32],
     order: &mut [u32],
-) -> Held {
-    let progress = held.progress;
-    let value = held.checkpoints;
+) -> io::Result<Held> {
     let name = action.a;
     let answer = restore_on(
-        progress, value, name, action.b, action.c, action.d, greys, pyramid, serials, order,
+        held.progress,
+        held.checkpoints,
+        name,
+        action.b,
+        action.c,
+        action.d,
+        greys,
+        pyramid,
+        serials,
+        order,
     );
-    let after = answer.progress;
-    io::write_all(1, b"restore");
-    field_u32(name);
-    case_io::print_record(after);
-    end_answer(answer)
+    out.write_all(b"restore")?;
+    field_u32(out, name)?;
+    case_io::print_record(out, answer.progress)?;
+    end_answer(out, answer)
 }
 
-fn advance(
+fn advance<W: Write>(
+    out: &mut W,
     held: Held,
     action: Action,
     pyramid: &mut [i64],
     serials: &mut [u32],
     order: &mut [u32],
-) -> Held {
-    let progress = held.progress;
-    let checkpoints = held.checkpoints;
+) -> io::Result<Held> {
     let budget = action.a;
     let answer = case_io::advance_on(
-        progress, budget, action.b, action.c, action.d, pyramid, serials, order,
+        held.progress,
+        budget,
+        action.b,
+        action.c,
+        action.d,
+        pyramid,
+        serials,
+        order,
     );
-    case_io::print_call(budget, answer);
-    let after = answer.progress;
-    Held {
-        progress: after,
-        checkpoints,
-    }
+    case_io::print_call(out, budget, answer)?;
+    Ok(Held {
+        progress: answer.progress,
+        checkpoints: held.checkpoints,
+    })
 }
 
 // A number of 64 bits, from its lower half and its upper one.
@@ -175,46 +187,44 @@ fn with_record(held: Held, side: u32, dots: u32, knit: u32) -> Held {
 }
 
 // Does what an action says.
-fn act(
+fn act<W: Write>(
+    out: &mut W,
     held: Held,
     action: Action,
     greys: &mut [u8],
     pyramid: &mut [i64],
     serials: &mut [u32],
     order: &mut [u32],
-) -> Held {
-    let kind = action.kind;
-    match kind {
-        0 => advance(held, action, pyramid, serials, order),
-        1 => keep(held, action.a),
-        2 => restore(held, action, greys, pyramid, serials, order),
-        3 => with_kept(held, action.b, joined(action.a, action.c)),
+) -> io::Result<Held> {
+    match action.kind {
+        0 => advance(out, held, action, pyramid, serials, order),
+        1 => keep(out, held, action.a),
+        2 => restore(out, held, action, greys, pyramid, serials, order),
+        3 => Ok(with_kept(held, action.b, joined(action.a, action.c))),
         4 => {
             set_grey(greys, action.b as usize, action.a);
-            held
+            Ok(held)
         }
-        5 => with_record(held, action.a, action.b, action.c),
+        5 => Ok(with_record(held, action.a, action.b, action.c)),
         _ => {
             case_io::shift_entry(pyramid, action.b as usize, action.c, action.d);
-            held
+            Ok(held)
         }
     }
 }
 
 // Writes the eight places of the value.
-fn write_kept(value: Checkpoints) {
-    let kept = value.kept;
-    io::write_all(1, b"kept");
-    let mut i = 0;
-    while i < 8 {
-        field(kept[i]);
-        i += 1;
+fn write_kept<W: Write>(out: &mut W, value: Checkpoints) -> io::Result<()> {
+    out.write_all(b"kept")?;
+    for number in &value.kept {
+        field(out, *number)?;
     }
-    end_line();
+    end_line(out)
 }
 
 // Reads the actions, does them one after another, writes the value, and returns the place behind the last.
-fn run_actions(
+fn run_actions<W: Write>(
+    out: &mut W,
     text: &[u8],
     from: usize,
     progress: Progress,
@@ -222,28 +232,25 @@ fn run_actions(
     pyramid: &mut [i64],
     serials: &mut [u32],
     order: &mut [u32],
-) -> usize {
+) -> io::Result<usize> {
     let count = next(text, from);
-    let actions = count.value;
     let mut at = count.at;
     let mut held = Held {
         progress,
         checkpoints: Checkpoints { kept: [0; 8] },
     };
-    let mut j = 0;
-    while j < actions {
+    for _ in 0..count.value {
         let action = read_action(text, at);
-        held = act(held, action, greys, pyramid, serials, order);
+        held = act(out, held, action, greys, pyramid, serials, order)?;
         at = action.at;
-        j += 1;
     }
-    let value = held.checkpoints;
-    write_kept(value);
-    at
+    write_kept(out, held.checkpoints)?;
+    Ok(at)
 }
 
 // Reads what follows a case's first four numbers, on the whole parts, and returns the place behind the case.
-fn run(
+fn run<W: Write>(
+    out: &mut W,
     text: &[u8],
     from: usize,
     side: u32,
@@ -254,18 +261,18 @@ fn run(
     pyramid: &mut [i64],
     serials: &mut [u32],
     order: &mut [u32],
-) -> usize {
+) -> io::Result<usize> {
     let actions = case_io::make_greys(text, from, seed, side, greys);
     let answer = load::load(side, knit, greys, pyramid, serials, order);
-    case_io::print_load(answer);
+    case_io::print_load(out, answer)?;
     let progress = answer.progress;
-    let end = run_actions(text, actions, progress, greys, pyramid, serials, order);
-    case_io::write_places(n, pyramid, serials, order);
-    end
+    let end = run_actions(out, text, actions, progress, greys, pyramid, serials, order)?;
+    case_io::write_places(out, n, pyramid, serials, order)?;
+    Ok(end)
 }
 
 // Reads a case from a place on, writes its answers, and returns the place behind it.
-fn run_case(text: &[u8], from: usize) -> usize {
+fn run_case<W: Write>(out: &mut W, text: &[u8], from: usize) -> io::Result<usize> {
     let side = next(text, from);
     let knit = next(text, side.at);
     let seed = next(text, knit.at);
@@ -280,6 +287,7 @@ fn run_case(text: &[u8], from: usize) -> usize {
     let mut serials = [9u32; 65700];
     let mut order = [9u32; 65700];
     run(
+        out,
         text,
         spare.at,
         side.value,
@@ -294,20 +302,19 @@ fn run_case(text: &[u8], from: usize) -> usize {
 }
 
 // Runs every case of a text.
-fn run_cases(text: &[u8]) {
+fn run_cases<W: Write>(out: &mut W, text: &[u8]) -> io::Result<()> {
     let count = next(text, 0);
-    let cases = count.value;
     let mut at = count.at;
-    let mut j = 0;
-    while j < cases {
-        j += 1;
-        case_io::print_case(j);
-        at = run_case(text, at);
+    for number in 1..=count.value {
+        case_io::print_case(out, number)?;
+        at = run_case(out, text, at)?;
     }
+    Ok(())
 }
 
-fn main() {
-    let mut input = io::large_buffer();
-    let n = io::read_full(0, &mut input);
-    run_cases(&input[..n]);
+fn main(rt: HostRuntime) -> io::Result<()> {
+    let input = case_io::read_input(rt.alloc(), rt.stdin())?;
+    let mut out = BufWriter::new(rt.alloc(), rt.stdout())?;
+    run_cases(&mut out, &input)?;
+    out.flush()
 }

@@ -7,101 +7,110 @@
 
 use case_io::{end_line, end_refused, field, field_u32, fields_i64, fields_u32, limit, next};
 use definition::{LevelsAnswer, LevelsStatus, TallyAnswer};
+use std::io;
+use std::io::{BufWriter, Write};
 
 // Writes a field for each of nine values.
-fn nine_fields(values: &[u64; 9]) {
-    let mut i = 0;
-    while i < 9 {
-        field(values[i]);
-        i += 1;
+fn nine_fields<W: Write>(out: &mut W, values: &[u64; 9]) -> io::Result<()> {
+    for value in values {
+        field(out, *value)?;
     }
+    Ok(())
 }
 
-fn print_tally(answer: TallyAnswer) {
+fn print_tally<W: Write>(out: &mut W, answer: TallyAnswer) -> io::Result<()> {
     match answer {
         TallyAnswer::Dots(dots) => {
-            field_u32(dots);
-            end_line();
+            field_u32(out, dots)?;
+            end_line(out)
         }
-        TallyAnswer::Refused(why) => end_refused(why),
+        TallyAnswer::Refused(why) => end_refused(out, why),
     }
 }
 
-fn print_levels(answer: LevelsAnswer) {
-    let sums = answer.sums;
-    io::write_all(1, b"levels");
-    nine_fields(&sums);
-    let status = answer.status;
-    match status {
-        LevelsStatus::Summed => end_line(),
-        LevelsStatus::Refused(why) => end_refused(why),
+fn print_levels<W: Write>(out: &mut W, answer: LevelsAnswer) -> io::Result<()> {
+    out.write_all(b"levels")?;
+    nine_fields(out, &answer.sums)?;
+    match answer.status {
+        LevelsStatus::Summed => end_line(out),
+        LevelsStatus::Refused(why) => end_refused(out, why),
     }
 }
 
 // Reads the cells to mark, stores 1, 2, .. at those that there are, and returns the place behind the last.
 fn read_marks(text: &[u8], from: usize, serials: &mut [u32]) -> usize {
     let count = next(text, from);
-    let marks = count.value;
     let mut at = count.at;
-    let mut j = 0;
-    while j < marks {
+    for mark in 1..=count.value {
         let n = next(text, at);
         let cell = n.value as usize;
         if cell < serials.len() {
-            serials[cell] = j + 1;
+            serials[cell] = mark;
         }
         at = n.at;
-        j += 1;
     }
     at
 }
 
 // Reads a block, writes its tally, and returns the place behind the block.
-fn tally_block(text: &[u8], from: usize, side: u32, serials: &[u32]) -> usize {
+fn tally_block<W: Write>(
+    out: &mut W,
+    text: &[u8],
+    from: usize,
+    side: u32,
+    serials: &[u32],
+) -> io::Result<usize> {
     let level = next(text, from);
     let row = next(text, level.at);
     let column = next(text, row.at);
-    io::write_all(1, b"tally");
-    field_u32(level.value);
-    field_u32(row.value);
-    field_u32(column.value);
-    print_tally(survey::tally(side, serials, level.value, row.value, column.value));
-    column.at
+    out.write_all(b"tally")?;
+    field_u32(out, level.value)?;
+    field_u32(out, row.value)?;
+    field_u32(out, column.value)?;
+    let answer = survey::tally(side, serials, level.value, row.value, column.value);
+    print_tally(out, answer)?;
+    Ok(column.at)
 }
 
 // Reads the blocks to tally, writes their tallies, and returns the place behind the last.
-fn tally_blocks(text: &[u8], from: usize, side: u32, serials: &[u32]) -> usize {
+fn tally_blocks<W: Write>(
+    out: &mut W,
+    text: &[u8],
+    from: usize,
+    side: u32,
+    serials: &[u32],
+) -> io::Result<usize> {
     let count = next(text, from);
-    let tallies = count.value;
     let mut at = count.at;
-    let mut j = 0;
-    while j < tallies {
-        at = tally_block(text, at, side, serials);
-        j += 1;
+    for _ in 0..count.value {
+        at = tally_block(out, text, at, side, serials)?;
     }
-    at
+    Ok(at)
 }
 
 // Loads the places lent, and writes the answer and all of these places.
-fn load_places(
+fn load_places<W: Write>(
+    out: &mut W,
     side: u32,
     knit: u32,
     greys: &[u8],
     pyramid: &mut [i64],
     serials: &mut [u32],
     order: &mut [u32],
-) {
-    case_io::print_load(load::load(side, knit, greys, pyramid, serials, order));
-    io::write_all(1, b"pyramid");
-    fields_i64(pyramid);
-    io::write_all(1, b"serials");
-    fields_u32(serials);
-    io::write_all(1, b"order");
-    fields_u32(order);
+) -> io::Result<()> {
+    let answer = load::load(side, knit, greys, pyramid, serials, order);
+    case_io::print_load(out, answer)?;
+    out.write_all(b"pyramid")?;
+    fields_i64(out, pyramid)?;
+    out.write_all(b"serials")?;
+    fields_u32(out, serials)?;
+    out.write_all(b"order")?;
+    fields_u32(out, order)
 }
 
 // Reads what follows a case's lengths, on the places lent, and returns the place behind the case.
-fn run(
+fn run<W: Write>(
+    out: &mut W,
     text: &[u8],
     from: usize,
     side: u32,
@@ -110,17 +119,17 @@ fn run(
     pyramid: &mut [i64],
     serials: &mut [u32],
     order: &mut [u32],
-) -> usize {
+) -> io::Result<usize> {
     let marks = case_io::read_bytes(text, from, greys);
-    load_places(side, knit, greys, pyramid, serials, order);
+    load_places(out, side, knit, greys, pyramid, serials, order)?;
     let tallies = read_marks(text, marks, serials);
-    let end = tally_blocks(text, tallies, side, serials);
-    print_levels(survey::levels(side, greys, serials));
-    end
+    let end = tally_blocks(out, text, tallies, side, serials)?;
+    print_levels(out, survey::levels(side, greys, serials))?;
+    Ok(end)
 }
 
 // Reads a case from a place on, writes its answers, and returns the place behind it.
-fn run_case(text: &[u8], from: usize) -> usize {
+fn run_case<W: Write>(out: &mut W, text: &[u8], from: usize) -> io::Result<usize> {
     let side = next(text, from);
     let knit = next(text, side.at);
     let g = next(text, knit.at);
@@ -136,6 +145,7 @@ fn run_case(text: &[u8], from: usize) -> usize {
     let mut serials = [9u32; 1100];
     let mut order = [9u32; 1100];
     run(
+        out,
         text,
         o.at,
         side.value,
@@ -148,20 +158,19 @@ fn run_case(text: &[u8], from: usize) -> usize {
 }
 
 // Runs every case of a text.
-fn run_cases(text: &[u8]) {
+fn run_cases<W: Write>(out: &mut W, text: &[u8]) -> io::Result<()> {
     let count = next(text, 0);
-    let cases = count.value;
     let mut at = count.at;
-    let mut j = 0;
-    while j < cases {
-        j += 1;
-        case_io::print_case(j);
-        at = run_case(text, at);
+    for number in 1..=count.value {
+        case_io::print_case(out, number)?;
+        at = run_case(out, text, at)?;
     }
+    Ok(())
 }
 
-fn main() {
-    let mut input = io::large_buffer();
-    let n = io::read_full(0, &mut input);
-    run_cases(&input[..n]);
+fn main(rt: HostRuntime) -> io::Result<()> {
+    let input = case_io::read_input(rt.alloc(), rt.stdin())?;
+    let mut out = BufWriter::new(rt.alloc(), rt.stdout())?;
+    run_cases(&mut out, &input)?;
+    out.flush()
 }

@@ -12,6 +12,8 @@ ghost use Rattle.std.specs.Prelude.{◌≤◌};
 
 use case_io::{end_line, field, field_u32, least, limit, next};
 use definition::{MapTextAnswer, Progress, TextAnswer};
+use std::io;
+use std::io::{BufWriter, Write};
 
 // What a case asks for: the damage, the knit of the load, and the knit that the record says afterwards.
 #[derive(Clone, Copy)]
@@ -31,41 +33,39 @@ fn untouched(b: u8) -> usize
 // The number of such places from a place on.
 fn count_untouched(out: &[u8], from: usize) -> usize {
     let mut count = 0;
-    let mut i = from;
-    while i < out.len() {
+    for i in from..out.len() {
         count += untouched(out[i]);
-        i += 1;
     }
     count
 }
 
-fn print_spare(out: &[u8], from: usize) {
-    io::write_all(1, b"spare");
-    field(count_untouched(out, from) as u64);
-    end_line();
+fn print_spare<W: Write>(to: &mut W, out: &[u8], from: usize) -> io::Result<()> {
+    to.write_all(b"spare")?;
+    field(to, count_untouched(out, from) as u64)?;
+    end_line(to)
 }
 
 // Writes a text of this length, and what is left past it.
-fn print_text(out: &[u8], length: usize) {
+fn print_text<W: Write>(to: &mut W, out: &[u8], length: usize) -> io::Result<()> {
     let end = least(length, out.len());
-    io::write_all(1, &out[..end]);
-    print_spare(out, end);
+    to.write_all(&out[..end])?;
+    print_spare(to, out, end)
 }
 
 // Writes the list's length, and the list.
-fn print_list(out: &[u8], length: usize) {
-    io::write_all(1, b"list");
-    field(length as u64);
-    end_line();
-    print_text(out, length);
+fn print_list<W: Write>(to: &mut W, out: &[u8], length: usize) -> io::Result<()> {
+    to.write_all(b"list")?;
+    field(to, length as u64)?;
+    end_line(to)?;
+    print_text(to, out, length)
 }
 
-fn print_answer(answer: TextAnswer, out: &[u8]) {
+fn print_answer<W: Write>(to: &mut W, answer: TextAnswer, out: &[u8]) -> io::Result<()> {
     match answer {
-        TextAnswer::Length(length) => print_list(out, length),
+        TextAnswer::Length(length) => print_list(to, out, length),
         TextAnswer::Refused(why) => {
-            case_io::print_refused(why);
-            print_spare(out, 0);
+            case_io::print_refused(to, why)?;
+            print_spare(to, out, 0)
         }
     }
 }
@@ -152,7 +152,8 @@ fn run_map(
 }
 
 // Runs a map on the places lent, and writes what Drill List answers.
-fn list_places(
+fn list_places<W: Write>(
+    to: &mut W,
     asked: Asked,
     side: u32,
     greys: &[u8],
@@ -160,16 +161,22 @@ fn list_places(
     serials: &mut [u32],
     order: &mut [u32],
     out: &mut [u8],
-) {
+) -> io::Result<()> {
     let damage = asked.damage;
     let record = run_map(side, asked.knit, greys, pyramid, serials, order);
     case_io::shift_entry(pyramid, 0, top_damage(damage), 0);
     let answer = list_damaged(damage, asked.said, record, pyramid, serials, order, out);
-    print_answer(answer, out);
+    print_answer(to, answer, out)
 }
 
 // The same on buffers of the needed lengths, for a side up to 16.
-fn list_map(asked: Asked, side: u32, greys: &[u8], out: &mut [u8]) {
+fn list_map<W: Write>(
+    to: &mut W,
+    asked: Asked,
+    side: u32,
+    greys: &[u8],
+    out: &mut [u8],
+) -> io::Result<()> {
     let r = sizes::power_of(side);
     let needed = least(sizes::needed(r), 341);
     let cells = least(sizes::cell_count(r), 256);
@@ -177,6 +184,7 @@ fn list_map(asked: Asked, side: u32, greys: &[u8], out: &mut [u8]) {
     let mut serials = [9u32; 256];
     let mut order = [9u32; 256];
     list_places(
+        to,
         asked,
         side,
         greys,
@@ -184,81 +192,93 @@ fn list_map(asked: Asked, side: u32, greys: &[u8], out: &mut [u8]) {
         &mut serials[..cells],
         &mut order[..cells],
         out,
-    );
+    )
 }
 
-fn print_greys(greys: &[u8]) {
-    io::write_all(1, b"greys");
-    case_io::fields_u8(greys);
+fn print_greys<W: Write>(to: &mut W, greys: &[u8]) -> io::Result<()> {
+    to.write_all(b"greys")?;
+    case_io::fields_u8(to, greys)
 }
 
-fn print_side(side: u32) {
-    io::write_all(1, b"side");
-    field_u32(side);
-    end_line();
+fn print_side<W: Write>(to: &mut W, side: u32) -> io::Result<()> {
+    to.write_all(b"side")?;
+    field_u32(to, side)?;
+    end_line(to)
 }
 
 // Gives Map Text a text, and writes its answer, the greys buffer, and Drill List's answer where a map was read.
-fn run_text(text: &[u8], asked: Asked, greys: &mut [u8], out: &mut [u8]) {
+fn run_text<W: Write>(
+    to: &mut W,
+    text: &[u8],
+    asked: Asked,
+    greys: &mut [u8],
+    out: &mut [u8],
+) -> io::Result<()> {
     match map_text::map_text(text, greys) {
         MapTextAnswer::Side(side) => {
-            print_side(side);
-            print_greys(greys);
-            list_map(asked, side, greys, out);
+            print_side(to, side)?;
+            print_greys(to, greys)?;
+            list_map(to, asked, side, greys, out)
         }
         MapTextAnswer::Refused(why) => {
-            case_io::print_refused(why);
-            print_greys(greys);
+            case_io::print_refused(to, why)?;
+            print_greys(to, greys)
         }
     }
 }
 
 // The same with so many places lent of both buffers.
-fn run_lent(text: &[u8], asked: Asked, g: u32, o: u32) {
+fn run_lent<W: Write>(to: &mut W, text: &[u8], asked: Asked, g: u32, o: u32) -> io::Result<()> {
     let greys_lent = limit(g, 300);
     let output_lent = limit(o, 4000);
     let mut greys = [9u8; 300];
     let mut out = [46u8; 4000];
     run_text(
+        to,
         text,
         asked,
         &mut greys[..greys_lent],
         &mut out[..output_lent],
-    );
+    )
 }
 
 // Writes the text's length, the greys, and the text.
-fn print_lowered(greys: &[u8], out: &[u8], length: usize) {
-    io::write_all(1, b"lowered");
-    field(length as u64);
-    end_line();
-    print_greys(greys);
-    print_text(out, length);
+fn print_lowered<W: Write>(to: &mut W, greys: &[u8], out: &[u8], length: usize) -> io::Result<()> {
+    to.write_all(b"lowered")?;
+    field(to, length as u64)?;
+    end_line(to)?;
+    print_greys(to, greys)?;
+    print_text(to, out, length)
 }
 
 // Gives Lower Text a text, and writes its answer and both buffers.
-fn lower_text(text: &[u8], greys: &mut [u8], out: &mut [u8]) {
+fn lower_text<W: Write>(
+    to: &mut W,
+    text: &[u8],
+    greys: &mut [u8],
+    out: &mut [u8],
+) -> io::Result<()> {
     match map_text::lower_text(text, greys, out) {
-        TextAnswer::Length(length) => print_lowered(greys, out, length),
+        TextAnswer::Length(length) => print_lowered(to, greys, out, length),
         TextAnswer::Refused(why) => {
-            case_io::print_refused(why);
-            print_greys(greys);
-            print_spare(out, 0);
+            case_io::print_refused(to, why)?;
+            print_greys(to, greys)?;
+            print_spare(to, out, 0)
         }
     }
 }
 
 // The same with so many places lent of both buffers.
-fn lower_lent(text: &[u8], g: u32, o: u32) {
+fn lower_lent<W: Write>(to: &mut W, text: &[u8], g: u32, o: u32) -> io::Result<()> {
     let greys_lent = limit(g, 300);
     let output_lent = limit(o, 4000);
     let mut greys = [9u8; 300];
     let mut out = [46u8; 4000];
-    lower_text(text, &mut greys[..greys_lent], &mut out[..output_lent]);
+    lower_text(to, text, &mut greys[..greys_lent], &mut out[..output_lent])
 }
 
 // Reads a case from a place on, writes its answers, and returns the place behind it.
-fn run_case(text: &[u8], from: usize) -> usize {
+fn run_case<W: Write>(to: &mut W, text: &[u8], from: usize) -> io::Result<usize> {
     let length = next(text, from);
     let g = next(text, length.at);
     let o = next(text, g.at);
@@ -273,26 +293,25 @@ fn run_case(text: &[u8], from: usize) -> usize {
         knit: knit.value,
         said: said.value,
     };
-    run_lent(&text[start..end], asked, g.value, o.value);
-    lower_lent(&text[start..end], g.value, o.value);
-    end
+    run_lent(to, &text[start..end], asked, g.value, o.value)?;
+    lower_lent(to, &text[start..end], g.value, o.value)?;
+    Ok(end)
 }
 
 // Runs every case of a text.
-fn run_cases(text: &[u8]) {
+fn run_cases<W: Write>(to: &mut W, text: &[u8]) -> io::Result<()> {
     let count = next(text, 0);
-    let cases = count.value;
     let mut at = count.at;
-    let mut j = 0;
-    while j < cases {
-        j += 1;
-        case_io::print_case(j);
-        at = run_case(text, at);
+    for number in 1..=count.value {
+        case_io::print_case(to, number)?;
+        at = run_case(to, text, at)?;
     }
+    Ok(())
 }
 
-fn main() {
-    let mut input = io::large_buffer();
-    let n = io::read_full(0, &mut input);
-    run_cases(&input[..n]);
+fn main(rt: HostRuntime) -> io::Result<()> {
+    let input = case_io::read_input(rt.alloc(), rt.stdin())?;
+    let mut to = BufWriter::new(rt.alloc(), rt.stdout())?;
+    run_cases(&mut to, &input)?;
+    to.flush()
 }
