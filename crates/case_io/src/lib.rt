@@ -18,9 +18,7 @@ const INPUT_LIMIT: u64 = 65536;
 pub fn read_input<R: Read + Drop>(alloc: Global, input: R) -> io::Result<Vec<u8>>
     ensures { IfOk result (λ read. IfSome (R.remaining input) (λ bytes. read.items ≡ take 65536 bytes)) }
 {
-    let mut read = Vec::new(alloc);
-    input.take(INPUT_LIMIT).read_to_end(&mut read)?;
-    Ok(read)
+    program_input::read_at_most(alloc, input, INPUT_LIMIT)
 }
 
 // A number that was read, and the place behind the byte that ends it.

@@ -5,6 +5,7 @@ ghost use Rattle.std.specs.Prelude.{IfSome, OnOk, take};
 ghost use Rattle.std.specs.Io.KnownBytes.{Appends};
 ghost use Rattle.definition.specs.Plate.{plate_of};
 
+use program_input::read_at_most;
 use std::alloc::Global;
 use std::io;
 use std::io::{Read, Write};
@@ -12,13 +13,12 @@ use std::io::{Read, Write};
 // The bytes read at most, more than the longest map text that is read has.
 const INPUT_LIMIT: u64 = 65536;
 
-// Reads an input, no further than the limit, and writes what `plate_text` says of it.
+// Reads an input, and writes what `plate_text` says of it.
 fn run<R: Read + Drop, W: Write>(alloc: Global, input: R, out: &mut W) -> io::Result<()>
     ensures { OnOk result (IfSome (R.remaining input) (λ bytes.
         Appends (W.contents out.old) (W.contents out.new) (plate_of (take 65536 bytes)))) }
 {
-    let mut read = Vec::new(alloc);
-    input.take(INPUT_LIMIT).read_to_end(&mut read)?;
+    let read = read_at_most(alloc, input, INPUT_LIMIT)?;
     let text = program_texts::plate_text(&read);
     out.write_all(&text.bytes[..text.length])
 }
