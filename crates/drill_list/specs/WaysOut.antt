@@ -1,6 +1,6 @@
 -- Drill List's ways out: refused before the list is made, with nothing changed (`refused_is`); and the list, written or
 -- refused for its length (`listed_is`).
-use Rattle.std.specs.Prelude.{◌≡◌, Bool, true, List, [], ◌∷◌, ◌++◌, ℕ, suc, ◌-◌, ◌≤◌, length, ℤ}
+use Rattle.std.specs.Prelude.{◌≡◌, Bool, true, List, [], ◌∷◌, ℕ, suc, ◌-◌, ◌≤◌, length, ℤ}
 use Rattle.std.proofs.Math.Path.{refl}
 use Rattle.std.proofs.Common.{sym, ◌∙◌, arith, take-take}
 use Rattle.definition.specs.Answers.{text_says, number_of}

@@ -2,13 +2,13 @@
 use Rattle.std.specs.Prelude.{◌≡◌, ℕ, zero, suc, ◌+◌, ◌-◌, ◌*◌, ◌/◌, ◌%◌, ◌^◌, ◌≤◌, ◌<◌, length, get_or, set, take, drop, ℤ, pos}
 use Rattle.std.proofs.Math.Path.{refl, ap}
 use Rattle.std.proofs.Common.{sym, ap₂, ◌∙◌, arith, add-one, length-append, length-take, length-drop, get_or-drop, take_all, take_at, drop_at, drop-drop, SFits, to_z, of_z, to_z-of_z}
-use mathlib.Core.List.{List, [], ◌++◌, append_assoc}
+use mathlib.Core.List.{List, ◌++◌, append_assoc}
 use Rattle.std.specs.Int.{w64}
 use borrow.Rule.Slice.PartMut.{put_mid, post_of, same_len_mid, mid_len}
-use Rattle.definition.specs.Lists.{joined, tabulate}
+use Rattle.definition.specs.Lists.{joined}
 use Rattle.definition.specs.Pyramid.{cell_count, needed, start, place_in, in_level, entry}
 use Rattle.definition.specs.Quarters.{interleaved, row_of, column_of, quarter_level, quarters_from}
-use Rattle.integers.specs.Lists.{length_tabulate, tabulate_ext}
+use Rattle.integers.specs.Lists.{tabulate_ext}
 use Rattle.quadtree.specs.Levels.{start_suc, start_mono}
 use Rattle.layouts.specs.Cells.{length_quarter_level}
 use Rattle.layouts.specs.Filling.{Filling, one_filled, all_filled}

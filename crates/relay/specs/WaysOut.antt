@@ -1,8 +1,8 @@
 -- Relay's check (`relay_sound`, `relay_unsound`), and its two ways out: refused, with nothing changed (`refused_is`),
 -- and the second pyramid written (`relaid_is`).
 use Rattle.std.specs.Prelude.{◌≡◌, refl, Bool, true, false, cond, not, ◌||◌, List, ◌++◌, ltb, eqb, length, drop, ℤ}
-use Rattle.std.proofs.Common.{sym, ap, ◌∙◌, arith, lt-ltb, le-ltb}
-use Prim.Native.Nat.{ℕ, suc, ◌-◌, ◌≤◌, ◌<◌, min}
+use Rattle.std.proofs.Common.{sym, ◌∙◌, arith, lt-ltb, le-ltb}
+use Prim.Native.Nat.{ℕ, suc, ◌-◌, ◌<◌, min}
 use Rattle.std.proofs.Math.Decide.{dec_lt}
 use Rattle.definition.specs.Answers.{relay_says, number_of}
 use Rattle.definition.specs.Pyramid.{needed, cell_count}

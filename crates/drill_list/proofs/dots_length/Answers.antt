@@ -1,9 +1,6 @@
 use mathlib.Core.Path.{◌≡◌}
-use Prim.Native.Nat.{◌+◌, ◌-◌, ◌*◌, ◌<◌, ◌≤◌}
+use Prim.Native.Nat.{◌-◌}
 use native.Mathlib.Omega.{arith}
-use borrow.Author.Rules.{rules}
-use lib.ListN.{length, take}
-use Rattle.definition.specs.DrillList.{dot_lines}
 use Rattle.drill_list.specs.Listing.{no_dots_add, one_more_adds}
 use Rattle.drill_list.proofs.dots_length.Goals as goal
 

@@ -1,11 +1,8 @@
 -- `drill_list::dots_length`: before each turn the lengths of the lines with smaller serials are added up.
 use mathlib.Core.Path.{◌≡◌}
 use Prim.Native.Nat.{◌+◌, ◌-◌, ◌*◌, ◌<◌, ◌≤◌}
-use native.Mathlib.Omega.{arith}
-use borrow.Author.Rules.{rules}
 use lib.ListN.{length, take}
 use Rattle.definition.specs.DrillList.{dot_lines}
-use Rattle.drill_list.specs.Listing.{no_dots_add, one_more_adds}
 use Rattle.drill_list.proofs.dots_length.Given as goal
 
 abbrev pub invariant-loop-serial : goal.invariant-loop-serial

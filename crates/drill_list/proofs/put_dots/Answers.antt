@@ -1,10 +1,6 @@
-use Prim.Native.Nat.{◌+◌, ◌-◌, ◌*◌, ◌≤◌}
 use mathlib.Core.Path.{◌≡◌}
 use native.Mathlib.Omega.{arith}
 use borrow.Author.Rules.{rules}
-use lib.ListN.{take}
-use Rattle.definition.specs.DrillList.{dot_lines}
-use Rattle.decimals.specs.Writing.{Wrote, wrote_length}
 use Rattle.drill_list.specs.Listing.{no_dots, one_more_dot, dot_end}
 use Rattle.drill_list.proofs.put_dots.Goals as goal
 

@@ -1,12 +1,8 @@
 -- `drill_list::put_dots`: after j turns the first j lines are written.
 use Prim.Native.Nat.{◌+◌, ◌-◌, ◌*◌, ◌≤◌}
-use mathlib.Core.Path.{◌≡◌}
-use native.Mathlib.Omega.{arith}
-use borrow.Author.Rules.{rules}
 use lib.ListN.{take}
 use Rattle.definition.specs.DrillList.{dot_lines}
-use Rattle.decimals.specs.Writing.{Wrote, wrote_length}
-use Rattle.drill_list.specs.Listing.{no_dots, one_more_dot, dot_end}
+use Rattle.decimals.specs.Writing.{Wrote}
 use Rattle.drill_list.proofs.put_dots.Given as goal
 
 abbrev pub invariant-loop-j : goal.invariant-loop-j

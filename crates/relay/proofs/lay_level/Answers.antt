@@ -1,8 +1,7 @@
-use Prim.Native.Nat.{◌-◌}
 use native.Mathlib.Omega.{arith}
 use borrow.Author.Rules.{rules}
-use Rattle.layouts.specs.Filling.{Filling, none_filled, some_side, place_few, place_in_lem, on_map_lem}
-use Rattle.relay.specs.Laying.{value_at, one_laid, level_laid}
+use Rattle.layouts.specs.Filling.{none_filled, some_side, place_few, place_in_lem, on_map_lem}
+use Rattle.relay.specs.Laying.{one_laid, level_laid}
 use Rattle.relay.proofs.lay_level.Goals as goal
 
 pub loop-i-init : goal.loop-i-init

@@ -1,7 +1,6 @@
-use Prim.Native.Nat.{suc, ◌-◌}
 use native.Mathlib.Omega.{arith}
 use borrow.Author.Rules.{rules}
-use Rattle.relay.specs.Laying.{Laid, none_laid, start_few, in_order, in_second, in_pyramid}
+use Rattle.relay.specs.Laying.{none_laid, start_few, in_order, in_second, in_pyramid}
 use Rattle.relay.specs.Laying.{level_asked, level_more, all_laid}
 use Rattle.relay.proofs.lay_levels.Goals as goal
 
