@@ -25,7 +25,7 @@ use Rattle.definition.specs.AdvanceList.{
 }
 use Rattle.definition.specs.declared.Progress.{Progress}
 use Rattle.guarantee.specs.PriceList.{Accepted, Holds, PriceList}
-use Rattle.guarantee.proofs.Theorem.{price_list}
+use Rattle.guarantee.proofs.Promised.{price_list}
 
 -- call i of the list; a length that the slices do not give is 0
 abbrev pub call_at : List ℕ → List ℕ → List ℕ → List ℕ → ℕ → Call

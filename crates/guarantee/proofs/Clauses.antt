@@ -3,7 +3,7 @@
 -- `everyone`, says who may ask: nobody is left out.
 use Rattle.std.specs.Prelude.{◌≡◌, ◌≢◌, ◌↔◌, true, false, ℕ, suc, ◌+◌, ◌*◌, ◌-◌, ◌/◌, ◌^◌, ◌≤◌, ◌<◌, min, length, get_or, take, drop, ℤ, pos, ◌+ℤ◌, ◌<ℤ◌}
 use Rattle.std.proofs.Math.Path.{sym, ap}
-use Rattle.std.proofs.Common.{◌∙◌, arith}
+use Rattle.std.proofs.Common.{◌∙◌}
 use mathlib.Core.List.{List, []}
 use Rattle.definition.specs.Answers.{returned, finished}
 use Rattle.definition.specs.Pyramid.{start, entry}
@@ -34,7 +34,7 @@ use Rattle.layouts.specs.Relaid.{quarters_entry}
 use Rattle.layouts.specs.Lent.{rows_length, quarter_taken}
 use Rattle.guarantee.specs.PriceList.{Each, Accepted, PriceList}
 use Rattle.guarantee.proofs.Start.{each_of, at_low_map}
-use Rattle.guarantee.proofs.Theorem.{price_list}
+use Rattle.guarantee.proofs.Promised.{price_list}
 
 module _ (side knit : ℕ) (greys : List ℕ) (pyramid : List ℤ) (serials order : List ℕ)
     (accepted : Accepted side knit greys pyramid serials order) (calls : List Call) where

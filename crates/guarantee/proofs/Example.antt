@@ -63,7 +63,8 @@ use Rattle.definition.specs.ByQuarters.{load_by_quarters, advance_by_quarters}
 use Rattle.definition.specs.AdvanceList.{Call, held_after_load, call_of, held_after, outcomes_of, replies_of}
 use Rattle.guarantee.specs.PriceList.{Accepted, HoldsFrom, PriceList}
 use Rattle.guarantee.proofs.Lent.{held_of}
-use Rattle.guarantee.proofs.Theorem.{loaded_before, price_list}
+use Rattle.guarantee.proofs.Theorem.{loaded_before}
+use Rattle.guarantee.proofs.Promised.{price_list}
 
 abbrev greys : List ℕ
 greys = 128 ∷ 128 ∷ 128 ∷ 128 ∷ []

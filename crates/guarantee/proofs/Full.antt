@@ -4,7 +4,7 @@
 use Rattle.std.specs.Prelude.{◌≡◌, List, ℕ, ◌+◌, ◌*◌, ◌-◌, ◌^◌, ◌≤◌, ◌<◌, get_or, ℤ}
 use native.Mathlib.Omega.{arith}
 use Rattle.std.proofs.Math.Nat.{mul-le-mul}
-use Rattle.std.proofs.Common.{mul-le-mul_right, pow_mono}
+use Rattle.std.proofs.Common.{mul-le-mul_right}
 use Rattle.definition.specs.Pyramid.{cell_count, cell_number}
 use Rattle.definition.specs.Blocks.{block_side, grey_at, grey_sum, grey_total, dots_in, all_dots}
 use Rattle.definition.specs.Refusals.{power_of}
@@ -13,7 +13,7 @@ use Rattle.quadtree.specs.Areas.{area, area_mono, area_rows, span_const, block_a
 use Rattle.quadtree.specs.Levels.{block_side_lem, block_on_map, cell_lt}
 use Rattle.guarantee.specs.PriceList.{Accepted, PriceList}
 use Rattle.guarantee.proofs.Start.{accepted_loaded, low_map_at}
-use Rattle.guarantee.proofs.Theorem.{price_list}
+use Rattle.guarantee.proofs.Promised.{price_list}
 
 -- a square of low greys has at most 240 for each of its cells
 module _ (r : ℕ) (greys : List ℕ) (low : (i : ℕ) → i < cell_count r → get_or greys i 0 ≤ 240) where

@@ -6,6 +6,7 @@ pub mod Start
 pub mod OneCall
 pub mod ManyCalls
 pub mod Theorem
+pub mod Promised
 pub mod Clauses
 pub mod Full
 pub mod Sharp

@@ -2,13 +2,13 @@
 -- have row after row: Drill List and every Advance answer the same (`relaid_lists`, `relaid_goes_on`), and what Advance
 -- leaves is again an older sheet and its pyramid relaid.
 use Rattle.std.proofs.Math.Path.{◌≡◌, sym, ap}
-use Rattle.std.specs.Prelude.{refl, Bool, true, false, not, ℕ, zero, suc, ◌+◌, ◌^◌, ◌≤◌, ◌<◌, min, ltb, eqb, length, drop, ℤ}
+use Rattle.std.specs.Prelude.{refl, Bool, true, not, ℕ, zero, suc, ◌≤◌, min, ltb, eqb, length, drop, ℤ}
 use Rattle.std.proofs.Common.{◌∙◌, arith, pow_mono, length-append, take-append-drop}
 use mathlib.Core.List.{List, [], ◌∷◌, ◌++◌}
 use Rattle.std.proofs.Math.ListN.{take}
 use Rattle.std.proofs.Math.Seq.{take_at, drop_at, length-take-le}
 use borrow.Author.Tests.{ltb-false, le-ltb, eqb-false, not-false}
-use Rattle.definition.specs.Answers.{Said, returned, refused}
+use Rattle.definition.specs.Answers.{returned, refused}
 use Rattle.definition.specs.Pyramid.{needed, cell_count}
 use Rattle.definition.specs.Diffusion.{kernel_of}
 use Rattle.definition.specs.Model.{Halftone, top_of, steps}

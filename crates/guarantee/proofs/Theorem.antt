@@ -29,25 +29,17 @@ use Rattle.definition.specs.AdvanceList.{
 }
 use Rattle.integers.specs.Linear.{zz, ints}
 use Rattle.integers.specs.Sums.{sum_to_rows, sum_to_ext}
-use Rattle.refusals.specs.Powers.{power_small, power_of_pow, power_of_small}
+use Rattle.refusals.specs.Powers.{power_small, power_of_pow}
 use Rattle.quadtree.specs.Areas.{span, area, area_ext, block_area}
 use Rattle.quadtree.specs.Levels.{start_suc, cell_lt, block_side_lem, block_on_map}
 use Rattle.layouts.specs.Relaid.{length_quarters, quarters_top}
 use Rattle.shares.specs.Kernels.{knit_fit}
 use Rattle.dots.proofs.Steps.{Sheet, steps_keep}
-use Rattle.guarantee.specs.PriceList.{Each, EachBlock, Accepted, UnderCap, Ends, Holds, HoldsFrom, PriceList}
+use Rattle.guarantee.specs.PriceList.{Each, EachBlock, UnderCap, Ends, Holds, HoldsFrom}
 use Rattle.guarantee.proofs.Floor.{floor}
 use Rattle.guarantee.proofs.Quote.{figures_fit, under_quote}
 use Rattle.guarantee.proofs.Capped.{Capped, capped_kept}
-use Rattle.guarantee.proofs.Start.{
-  grey_byte,
-  start_sheet,
-  start_dots,
-  start_capped,
-  start_due,
-  accepted_loaded,
-  loaded_held,
-}
+use Rattle.guarantee.proofs.Start.{grey_byte, start_sheet, start_dots, start_capped, start_due}
 use Rattle.guarantee.proofs.Lent.{held_of}
 use Rattle.guarantee.proofs.OneCall.{call_same, held_same}
 use Rattle.guarantee.proofs.ManyCalls.{
@@ -263,14 +255,3 @@ loaded_before r knit some most known greys bytes pyramid serials order calls =
     rw (calls_held knit known r big power (drop (needed r) pyramid) (drop (cell_count r) serials)
     (drop (cell_count r) order) calls (model_start r greys) (start_sheet r greys bytes))
     (holds knit known r big power greys bytes calls pyramid serials order)
-
--- The price list, for either knit (S 15.2, S 15.3, S 15.4, S 15.5, S 15.6, S 15.7): an accepted Load leaves such a
--- sheet
-pub price_list : (side knit : ℕ) (greys : List ℕ) (pyramid : List ℤ) (serials order : List ℕ)
-    → Accepted side knit greys pyramid serials order → (calls : List Call)
-    → PriceList side knit greys pyramid serials order calls
-price_list side knit greys pyramid serials order accepted calls =
-    let h = accepted_loaded side knit greys pyramid serials order accepted in
-    rw (loaded_held side knit greys pyramid serials order h)
-    (loaded_before (power_of side) knit h.lent.power (power_of_small side) h.lent.known greys accepted.bytes
-    pyramid serials order calls)

@@ -9,6 +9,7 @@ use Rattle.definition.specs.Load.{load_refusal}
 use Rattle.heads.specs.TwoHeads.{two_heads_refusal}
 use Rattle.refusals.specs.Lowest.{lowest_here, lowest_past, lowest_none}
 use Rattle.refusals.specs.Powers.{side_pow}
+use Rattle.head_order.proofs.LargeSides.{side_large}
 
 -- the sides from 16 on are the powers from 4 on
 pub power_large : (side : ℕ) → 0 < power_of side → 16 ≤ side → 4 ≤ power_of side
@@ -17,9 +18,6 @@ power_large side some h = go (dec_le 4 (power_of side))
     go : Dec (4 ≤ power_of side) → 4 ≤ power_of side
     go (yes d) = d
     go (no d) = absurd (omega (arith, side_pow side some, pow_mono {i = power_of side} {j = 3} (omega arith)))
-
-pub side_large : (side : ℕ) → 4 ≤ power_of side → 16 ≤ side
-side_large side h = omega (arith, side_pow side (omega arith), pow_mono {i = 4} {j = power_of side} h)
 
 module _ (side knit greys pyramid serials order : ℕ) (low : Bool) where
   abbrev heads : ℕ

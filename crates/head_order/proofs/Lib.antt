@@ -8,3 +8,8 @@ pub mod Checks
 pub mod Call
 pub mod Clauses
 pub mod Example
+pub mod Rim
+pub mod ApartOf
+pub mod LargeSides
+pub mod RoundState
+pub mod FourRounds

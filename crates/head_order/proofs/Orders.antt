@@ -14,6 +14,7 @@ use Rattle.shares.specs.Kernels.{Fit}
 use Rattle.dots.proofs.Steps.{Sheet}
 use Rattle.guarantee.specs.PriceList.{Each}
 use Rattle.head_order.specs.Promise.{Fits, Apart, Reordered}
+use Rattle.head_order.proofs.ApartOf.{apart_of}
 use Rattle.head_order.proofs.Working.{
   apart_sym,
   Alike,
@@ -97,11 +98,6 @@ round_fits_at r t i h =
 pub round_fits : (r t : ℕ) → Each (Fits r) (macroblocks r t)
 unfolding macroblocks
 round_fits r t = each_tabulate (Fits r) 0 (in_round r t) (in_place r t) (λ i l h. round_fits_at r t i (omega arith))
-
--- no two share a cell
-apart_of : (o u a b c d : ℕ) → ((a ≡ c) → (b ≡ d) → ⊥) → Apart (o + 2 * a, u + 2 * b) (o + 2 * c, u + 2 * d)
-apart_of o u a b c d ne =
-    record { none = λ x y h k. ne (omega (arith, h.row, k.row)) (omega (arith, h.column, k.column)) }
 
 differ : (n i j : ℕ) → i ≢ j → i / n ≡ j / n → i % n ≡ j % n → ⊥
 differ n i j ne e f = ne (omega (arith, div-add-mod' i n, div-add-mod' j n, ap (λ (q : ℕ). q * n) e))

@@ -1,31 +1,20 @@
--- Rounds, as a loop makes them: what a run keeps (`State`, with `start_state` and `next_state_lem`), one round more
+-- Rounds, as a loop makes them: what a run keeps (`State` of `RoundState`, with `start_state` and `next_state_lem`), one round more
 -- (`rounds_on`), the end (`rounds_over`), and that a run ends only where no round makes a hole (`runs`).
-use Rattle.std.specs.Prelude.{◌≡◌, ◌⊎◌, Bool, cond, eqb, ℤ, pos, ◌+ℤ◌, ◌-ℤ◌}
+use Rattle.std.specs.Prelude.{◌≡◌, ◌⊎◌, Bool, cond, eqb, ℤ, pos, ◌-ℤ◌}
 use Rattle.std.proofs.Math.Path.{refl}
 use Rattle.std.proofs.Common.{sym, ap, ◌∙◌, inl, arith}
 use Rattle.std.proofs.Math.Logic.{inr}
 use Rattle.std.proofs.Math.Bool.{true, false}
 use mathlib.Core.List.{List, [], ◌∷◌}
-use Prim.Native.Nat.{ℕ, zero, suc, ◌+◌, ◌*◌, ◌-◌, ◌/◌, ◌%◌, ◌≤◌, ◌<◌}
+use Prim.Native.Nat.{ℕ, zero, suc, ◌+◌, ◌*◌, ◌-◌, ◌≤◌, ◌<◌}
 use Rattle.std.proofs.Math.Decide.{ℕ_discrete}
 use Rattle.std.proofs.Math.Dec.{leb}
 use borrow.Author.Tests.{eq-eqb, ne_eqb, leb-true, leb-false, le-leb, lt-leb}
-use Rattle.definition.specs.Pyramid.{one_dot, cell_count}
+use Rattle.definition.specs.Pyramid.{one_dot}
 use Rattle.definition.specs.Blocks.{grey_total}
 use Rattle.definition.specs.Diffusion.{Kernel}
 use Rattle.definition.specs.Model.{Halftone, top_of, model_start, place_dot}
-use Rattle.heads.specs.TwoHeads.{
-  Macroblock,
-  burns,
-  wanted,
-  work,
-  work_all,
-  row_offset,
-  column_offset,
-  macroblocks,
-  rounds,
-  most_rounds,
-}
+use Rattle.heads.specs.TwoHeads.{Macroblock, burns, wanted, work, work_all, macroblocks, rounds, most_rounds}
 use Rattle.integers.specs.Linear.{zz, ints}
 use Rattle.shares.specs.Kernels.{Fit}
 use Rattle.dots.proofs.Steps.{Sheet, dot_top}
@@ -43,6 +32,8 @@ use Rattle.head_order.proofs.Working.{
   work_made,
   work_idle,
 }
+use Rattle.head_order.proofs.RoundState.{Balance, State, Ended}
+use Rattle.head_order.proofs.FourRounds.{still_all}
 use Rattle.head_order.proofs.Orders.{round_fits, all_sheet}
 
 -- ---- rounds by their definition, in any order
@@ -66,14 +57,6 @@ module _ (kernel : Kernel) (r : ℕ) (order : ℕ → List Macroblock) where
   rounds_over zero t idle s h = refl
   rounds_over (suc fuel) t idle s h = rw (le-leb 4 idle h, rounds)
 
--- ---- a round goes by its number's remainder on division by 4
-round_turn : (r u v : ℕ) → u % 4 ≡ v % 4 → macroblocks r u ≡ macroblocks r v
-unfolding macroblocks
-round_turn r u v e =
-    let a : column_offset u ≡ column_offset v = omega arith in
-    let b : row_offset u ≡ row_offset v = ap (λ (n : ℕ). n / 2) e in
-    rw (a, b)
-
 -- one hole more or none, then some more or none
 grows_on : (s one all : Halftone) → (one.dots ≡ suc s.dots) ⊎ (one ≡ s) → (one.dots < all.dots) ⊎ (all ≡ one)
     → (s.dots < all.dots) ⊎ (all ≡ s)
@@ -92,14 +75,10 @@ module _ (kernel : Kernel) (fit : Fit kernel) (r : ℕ) (four≤ : 4 ≤ r) wher
       dot_top kernel fit r (big r four≤) s sheet c.0 c.1 (cell_row kernel fit r four≤ s sheet m fits b)
       (cell_column kernel fit r four≤ s sheet m fits b) (cell_owes kernel fit r four≤ s sheet m fits b)
 
-  -- the holes' worth and the debt
-  abbrev pub Balance : ℤ → Halftone → Type 0
-  Balance z s = pos (one_dot * s.dots) +ℤ top_of s.pyramid ≡ z
-
-  work_balance : (z : ℤ) (s : Halftone) → Sheet r s → (m : Macroblock) → Fits r m → Balance z s
-      → Balance z (work kernel r s m)
+  work_balance : (z : ℤ) (s : Halftone) → Sheet r s → (m : Macroblock) → Fits r m → Balance kernel fit r four≤ z s
+      → Balance kernel fit r four≤ z (work kernel r s m)
   work_balance z s sheet m fits h =
-      work_keeps kernel fit r four≤ (Balance z) s m h
+      work_keeps kernel fit r four≤ (Balance kernel fit r four≤ z) s m h
       (λ b.
       let t = burned_top s sheet m fits b in
       let d = burned_dots kernel fit r four≤ s sheet m fits b in
@@ -118,8 +97,8 @@ module _ (kernel : Kernel) (fit : Fit kernel) (r : ℕ) (four≤ : 4 ≤ r) wher
       go false e = inr (work_idle kernel r s m e)
 
   -- ---- a list of macroblocks
-  all_balance : (z : ℤ) (ms : List Macroblock) → Each (Fits r) ms → (s : Halftone) → Sheet r s → Balance z s
-      → Balance z (work_all kernel r s ms)
+  all_balance : (z : ℤ) (ms : List Macroblock) → Each (Fits r) ms → (s : Halftone) → Sheet r s → Balance kernel fit r four≤ z s
+      → Balance kernel fit r four≤ z (work_all kernel r s ms)
   unfolding work_all
   all_balance z [] f s sheet h = h
   all_balance z (m ∷ ms) f s sheet h =
@@ -142,42 +121,17 @@ module _ (kernel : Kernel) (fit : Fit kernel) (r : ℕ) (four≤ : 4 ≤ r) wher
   abbrev idle_next : ℕ → ℕ → Halftone → ℕ
   idle_next t idle s = next_idle kernel r (macroblocks r) t idle s
 
-  -- the last `idle` of the t rounds made no hole, and would make none again
-  abbrev pub Quiet : ℕ → ℕ → Halftone → Type 0
-  Quiet t idle s = (u : ℕ) → u < t → t ≤ u + idle → work_all kernel r s (macroblocks r u) ≡ s
-
-  -- What is kept: t rounds have been made, the last `idle` of them without a hole, and `fuel` are enough to end.
-  pub record State (z : ℤ) (fuel t idle : ℕ) (s : Halftone) : Type 0 where
-    pub sheet : Sheet r s
-    pub balance : Balance z s
-    pub quiet : Quiet t idle s
-    pub few : idle ≤ 4
-    pub past : idle ≤ t
-    pub enough : 4 * (cell_count r - s.dots) + 4 ≤ fuel + idle
-
-  -- and what is reached
-  pub record Ended (z : ℤ) (s : Halftone) : Type 0 where
-    pub sheet : Sheet r s
-    pub balance : Balance z s
-    pub still : (u : ℕ) → work_all kernel r s (macroblocks r u) ≡ s
-
-  -- four rounds are all rounds
-  still_all : (t : ℕ) (s : Halftone) → 4 ≤ t → Quiet t 4 s → (u : ℕ) → work_all kernel r s (macroblocks r u) ≡ s
-  still_all t s h q u =
-      let v = t - 4 + (u + 4 * t - (t - 4)) % 4 in
-      ap (work_all kernel r s) (round_turn r u v (omega arith)) ∙ q v (omega arith) (omega arith)
-
-  pub state_fuel : (z : ℤ) (fuel t idle : ℕ) (s : Halftone) → State z fuel t idle s → idle < 4 → 0 < fuel
+  pub state_fuel : (z : ℤ) (fuel t idle : ℕ) (s : Halftone) → State kernel fit r four≤ z fuel t idle s → idle < 4 → 0 < fuel
   state_fuel z fuel t idle s h lt = omega (arith, h.enough)
 
-  pub next_state_lem : (z : ℤ) (fuel t idle : ℕ) (s : Halftone) → State z (suc fuel) t idle s → idle < 4
-      → State z fuel (suc t) (idle_next t idle s) (after t s)
+  pub next_state_lem : (z : ℤ) (fuel t idle : ℕ) (s : Halftone) → State kernel fit r four≤ z (suc fuel) t idle s → idle < 4
+      → State kernel fit r four≤ z fuel (suc t) (idle_next t idle s) (after t s)
   next_state_lem z fuel t idle s h lt = go (all_grows (macroblocks r t) (round_fits r t) s h.sheet)
     where
       sheet' : Sheet r (after t s)
       sheet' = all_sheet kernel fit r four≤ (macroblocks r t) (round_fits r t) s h.sheet
 
-      go : (s.dots < (after t s).dots) ⊎ (after t s ≡ s) → State z fuel (suc t) (idle_next t idle s) (after t s)
+      go : (s.dots < (after t s).dots) ⊎ (after t s ≡ s) → State kernel fit r four≤ z fuel (suc t) (idle_next t idle s) (after t s)
       go (inl g) =
           rw (ne_eqb (after t s).dots s.dots (λ e. omega arith))
           (record {
@@ -204,46 +158,46 @@ module _ (kernel : Kernel) (fit : Fit kernel) (r : ℕ) (four≤ : 4 ≤ r) wher
           last u lo hi (no z) = h.quiet u (omega arith) (omega arith)
 
   -- the same for a loop that counts its fuel down from a number that it knows not to be 0
-  some_left : (z : ℤ) (fuel t idle : ℕ) (s : Halftone) → State z fuel t idle s → idle < 4 → suc (fuel - 1) ≡ fuel
+  some_left : (z : ℤ) (fuel t idle : ℕ) (s : Halftone) → State kernel fit r four≤ z fuel t idle s → idle < 4 → suc (fuel - 1) ≡ fuel
   some_left z fuel t idle s h lt = omega (arith, h.enough)
 
-  pub state_on : (z : ℤ) (fuel t idle : ℕ) (s : Halftone) → State z fuel t idle s → idle < 4
-      → State z (fuel - 1) (suc t) (idle_next t idle s) (after t s)
+  pub state_on : (z : ℤ) (fuel t idle : ℕ) (s : Halftone) → State kernel fit r four≤ z fuel t idle s → idle < 4
+      → State kernel fit r four≤ z (fuel - 1) (suc t) (idle_next t idle s) (after t s)
   state_on z fuel t idle s h lt =
       let e = some_left z fuel t idle s h lt in
       next_state_lem z (fuel - 1) t idle s (rw e h) lt
 
-  pub rounds_next : (z : ℤ) (fuel t idle : ℕ) (s : Halftone) → State z fuel t idle s → idle < 4
+  pub rounds_next : (z : ℤ) (fuel t idle : ℕ) (s : Halftone) → State kernel fit r four≤ z fuel t idle s → idle < 4
       → rounds kernel r (macroblocks r) fuel t idle s
       ≡ rounds kernel r (macroblocks r) (fuel - 1) (suc t) (idle_next t idle s) (after t s)
   rounds_next z fuel t idle s h lt =
       ap (λ (n : ℕ). rounds kernel r (macroblocks r) n t idle s) (sym (some_left z fuel t idle s h lt))
       ∙ rounds_on kernel r (macroblocks r) (fuel - 1) t idle s (lt-leb 4 idle lt)
 
-  pub ended : (z : ℤ) (fuel t idle : ℕ) (s : Halftone) → State z fuel t idle s → idle ≡ 4 → Ended z s
+  pub ended : (z : ℤ) (fuel t idle : ℕ) (s : Halftone) → State kernel fit r four≤ z fuel t idle s → idle ≡ 4 → Ended kernel fit r four≤ z s
   ended z fuel t idle s h e =
       record {
         sheet = h.sheet;
         balance = h.balance;
-        still = still_all t s (omega (arith, h.past)) (λ u lo hi. h.quiet u lo (omega arith));
+        still = still_all kernel fit r four≤ t s (omega (arith, h.past)) (λ u lo hi. h.quiet u lo (omega arith));
       }
 
-  pub runs : (z : ℤ) (fuel t idle : ℕ) (s : Halftone) → State z fuel t idle s
-      → Ended z (rounds kernel r (macroblocks r) fuel t idle s)
+  pub runs : (z : ℤ) (fuel t idle : ℕ) (s : Halftone) → State kernel fit r four≤ z fuel t idle s
+      → Ended kernel fit r four≤ z (rounds kernel r (macroblocks r) fuel t idle s)
   unfolding rounds
   runs z zero t idle s h = ended z 0 t idle s h (omega (arith, h.few, h.enough))
   runs z (suc fuel) t idle s h = go (leb 4 idle) refl (runs z fuel (suc t) (idle_next t idle s) (after t s))
     where
       go : (b : Bool) → leb 4 idle ≡ b
-          → (State z fuel (suc t) (idle_next t idle s) (after t s)
-          → Ended z (rounds kernel r (macroblocks r) fuel (suc t) (idle_next t idle s) (after t s)))
-          → Ended z (rounds kernel r (macroblocks r) (suc fuel) t idle s)
+          → (State kernel fit r four≤ z fuel (suc t) (idle_next t idle s) (after t s)
+          → Ended kernel fit r four≤ z (rounds kernel r (macroblocks r) fuel (suc t) (idle_next t idle s) (after t s)))
+          → Ended kernel fit r four≤ z (rounds kernel r (macroblocks r) (suc fuel) t idle s)
       go true b ih = rw (b, rounds) (ended z (suc fuel) t idle s h (omega (arith, leb-true 4 idle b, h.few)))
       go false b ih = rw (b, rounds) (ih (next_state_lem z fuel t idle s h (omega (arith, leb-false 4 idle b))))
 
   -- at the start of a map
   pub start_state : (greys : List ℕ) → Each (λ grey. grey ≤ 255) greys
-      → State (pos (256 * grey_total r greys)) (most_rounds r) 0 0 (model_start r greys)
+      → State kernel fit r four≤ (pos (256 * grey_total r greys)) (most_rounds r) 0 0 (model_start r greys)
   unfolding most_rounds
   start_state greys bytes =
       record {

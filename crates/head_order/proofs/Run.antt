@@ -14,7 +14,8 @@ use Rattle.guarantee.proofs.Start.{start_sheet}
 use Rattle.head_order.specs.Promise.{Reordered, TwoHeads}
 use Rattle.head_order.proofs.Working.{Alike, alike_refl}
 use Rattle.head_order.proofs.Orders.{run_any_order}
-use Rattle.head_order.proofs.Rounds.{Ended, runs, start_state}
+use Rattle.head_order.proofs.Rounds.{runs, start_state}
+use Rattle.head_order.proofs.RoundState.{Ended}
 
 -- the serials of the first places are their numbers
 different : (r : ℕ) (s : Halftone) → Sound r s → (i j : ℕ) → i < j → j < s.dots

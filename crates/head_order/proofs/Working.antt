@@ -1,12 +1,11 @@
 -- One macroblock worked: it reads its own 64 cells only (`wanted_same`, `burns_same`), a cell that it burns is one of
 -- them and owes something (`cell_has`, `cell_owes`), no other cell changes (`work_away`, `work_unburnt`), and the sheet
 -- stays sound (`work_sheet`). Two macroblocks that share no cell can be worked in either order (`work_swap`).
-use Rattle.std.specs.Prelude.{◌≡◌, refl, ◌⊎◌, Bool, true, false, not, ◌&&◌, ◌||◌, List, T, leb, eqb, ℤ, pos, ◌-ℤ◌, ◌<ℤ◌}
+use Rattle.std.specs.Prelude.{◌≡◌, refl, ◌⊎◌, Bool, true, false, not, ◌&&◌, List, T, leb, ℤ, pos, ◌-ℤ◌, ◌<ℤ◌}
 use Rattle.std.proofs.Math.Path.{sym, ap, ap₂}
-use Rattle.std.proofs.Common.{◌∙◌, inl, inr, add-zero, eqb→eq, pow-add, pow_mono}
+use Rattle.std.proofs.Common.{◌∙◌, inl, inr, add-zero, pow-add, pow_mono}
 use Prim.Native.Nat.{ℕ, suc, ◌+◌, ◌*◌, ◌-◌, ◌^◌, ◌≤◌, ◌<◌}
 use native.Mathlib.Omega.{arith}
-use Rattle.std.proofs.Math.Decide.{ℕ_discrete}
 use Rattle.std.proofs.Math.Dec.{leb→le}
 use Rattle.std.specs.Int.Signed.{le_z}
 use Rattle.definition.specs.Pyramid.{half_dot, entry}
@@ -17,8 +16,7 @@ use Rattle.definition.specs.Model.{Halftone, place_dot}
 use Rattle.definition.specs.Renewal.{is_near}
 use Rattle.heads.specs.TwoHeads.{Macroblock, block_sums, macroblock_sum, wanted, clear, burns, work}
 use Rattle.integers.specs.Linear.{zz, ints, up}
-use Rattle.integers.specs.Tests.{T_true, false_T, T_and, T_or, T_four, T_or_not, neqb→ne}
-use Rattle.quadtree.specs.Areas.{In}
+use Rattle.integers.specs.Tests.{T_true, false_T, T_and, T_four, T_or_not}
 use Rattle.quadtree.specs.Points.{δ, hit}
 use Rattle.quadtree.specs.Pyramids.{Summed}
 use Rattle.quadtree.specs.Guidance.{first_fair, Quarter, largest_quarter, largest_due, Reached, descend_reached}
@@ -27,37 +25,12 @@ use Rattle.shares.specs.Neighbours.{fall}
 use Rattle.dots.proofs.Kept.{sound_summed, after_sized, after_sound, after_falls, after_away, after_burnt, after_dots}
 use Rattle.dots.proofs.Steps.{Sheet}
 use Rattle.head_order.specs.Promise.{Has, Fits, Apart}
+use Rattle.head_order.proofs.Rim.{near_in}
 use Rattle.head_order.proofs.Local.{pyramid_same, largest_same, four_same, entry_same, descend_same}
 
 -- ---- the cells of a macroblock
 pub apart_sym : (m n : Macroblock) → Apart m n → Apart n m
 apart_sym m n h = record { none = λ x y k l. h.none x y l k }
-
--- ---- the rim
-clear_is : (r a x : ℕ) → T (clear r a x) → ((x ≡ 4 * a) → a ≡ 0) × ((x ≡ 4 * a + 7) → 4 * a + 8 ≡ 2 ^ r)
-unfolding clear
-clear_is r a x t =
-    let u = T_and (not (eqb x (4 * a)) || eqb a 0) (not (eqb x (4 * a + 7)) || eqb (4 * a + 8) (2 ^ r)) t in (
-      first (T_or (not (eqb x (4 * a))) (eqb a 0) u.0),
-      last (T_or (not (eqb x (4 * a + 7))) (eqb (4 * a + 8) (2 ^ r)) u.1),
-    )
-  where
-    first : T (not (eqb x (4 * a))) ⊎ T (eqb a 0) → (x ≡ 4 * a) → a ≡ 0
-    first (inl n) e = absurd (neqb→ne x (4 * a) n e)
-    first (inr y) e = eqb→eq a 0 y
-
-    last : T (not (eqb x (4 * a + 7))) ⊎ T (eqb (4 * a + 8) (2 ^ r)) → (x ≡ 4 * a + 7) → 4 * a + 8 ≡ 2 ^ r
-    last (inl n) e = absurd (neqb→ne x (4 * a + 7) n e)
-    last (inr y) e = eqb→eq (4 * a + 8) (2 ^ r) y
-
--- what is next to a clear row of the macroblock, and on the map, is one of its rows
-near_in : (r a x z : ℕ) → In (4 * a) 8 x → T (clear r a x) → z < 2 ^ r → x ≤ z + 1 → z ≤ x + 1 → In (4 * a) 8 z
-near_in r a x z i t lt p q = go (ℕ_discrete x (4 * a)) (ℕ_discrete x (4 * a + 7))
-  where
-    go : Dec (x ≡ 4 * a) → Dec (x ≡ 4 * a + 7) → In (4 * a) 8 z
-    go (yes e) d = omega (arith, (clear_is r a x t).0 e)
-    go (no n) (yes e) = omega (arith, (clear_is r a x t).1 e)
-    go (no n) (no k) = omega arith
 
 -- ---- the block taken
 -- the one with the largest of its four sums, by row and column, each 0 or 1

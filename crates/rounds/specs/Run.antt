@@ -13,7 +13,8 @@ use Rattle.heads.specs.TwoHeads.{work_all, macroblocks, rounds, most_rounds}
 use Rattle.integers.specs.Linear.{zz, ints}
 use Rattle.quadtree.specs.Levels.{cells_few}
 use Rattle.shares.specs.Kernels.{knit_fit}
-use Rattle.head_order.proofs.Rounds.{State, rounds_over, state_fuel, state_on, rounds_next}
+use Rattle.head_order.proofs.Rounds.{rounds_over, state_fuel, state_on, rounds_next}
+use Rattle.head_order.proofs.RoundState.{State}
 use Rattle.macroblock.specs.FourBlocks.{LargeSheet}
 
 -- ---- the rounds in a row without a hole

@@ -16,7 +16,7 @@ use Rattle.quadtree.specs.Areas.{area_mono, block_area}
 use Rattle.quadtree.specs.Levels.{cell_lt, block_side_lem, block_on_map}
 use Rattle.guarantee.specs.PriceList.{Accepted, PriceList}
 use Rattle.guarantee.proofs.Start.{total_area}
-use Rattle.guarantee.proofs.Theorem.{price_list}
+use Rattle.guarantee.proofs.Promised.{price_list}
 use Rattle.guarantee.proofs.Clauses.{everyone}
 use Rattle.sketch_range.specs.Promise.{Between, Same, Finished, Ranged}
 

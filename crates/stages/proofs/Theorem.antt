@@ -44,7 +44,7 @@ use Rattle.guarantee.proofs.Start.{Loaded, start_sheet, accepted_loaded, loaded_
 use Rattle.guarantee.proofs.Lent.{held_of}
 use Rattle.guarantee.proofs.OneCall.{model_taken}
 use Rattle.guarantee.proofs.ManyCalls.{calls_held}
-use Rattle.guarantee.proofs.Theorem.{price_list}
+use Rattle.guarantee.proofs.Promised.{price_list}
 use Rattle.stages.specs.Promise.{StagesHold, NamesHold}
 use Rattle.stages.proofs.Stage.{stage_first, stage_sheet, stage_most, stage_again}
 use Rattle.stages.proofs.OneAction.{
