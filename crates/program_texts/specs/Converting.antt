@@ -5,7 +5,7 @@ use Rattle.std.proofs.Math.Path.{sym, ap}
 use Rattle.std.proofs.Common.{◌∙◌, arith}
 use Rattle.std.proofs.Math.Nat.{suc-ne-zero}
 use Rattle.std.proofs.Math.ListN.{length}
-use Rattle.definition.specs.Answers.{Said, returned, refused, text_says, number_of}
+use Rattle.definition.specs.Answers.{returned, refused, text_says, number_of}
 use Rattle.definition.specs.Lowering.{lowered}
 use Rattle.definition.specs.MapText.{map_text, Reading, accepted, rejected, read_map}
 use Rattle.definition.specs.LowerText.{LowerTextOutcome, text_kept, lower_text_of}

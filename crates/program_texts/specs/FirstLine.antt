@@ -1,6 +1,6 @@
 -- The first line of `quote` and of `sketch`: a level is read (`level_read`), or none (`no_level`); `printed` has what
 -- is printed behind it.
-use Rattle.std.specs.Prelude.{◌≡◌, List, ℕ, ◌-◌, ◌≤◌, ◌<◌, min, length, take, drop}
+use Rattle.std.specs.Prelude.{◌≡◌, List, ℕ, ◌-◌, ◌<◌, min, length, take, drop}
 use Rattle.std.proofs.Math.Path.{sym, ap}
 use Rattle.std.proofs.Common.{◌∙◌, arith, drop_of_length-le, length-drop, take_all}
 use Rattle.std.proofs.Math.Decide.{dec_lt}

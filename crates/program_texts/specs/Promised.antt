@@ -4,7 +4,7 @@ use Rattle.std.specs.Prelude.{◌≡◌, List, [], ◌∷◌, ℕ, suc, ◌≤�
 use Rattle.std.proofs.Common.{sym, ◌∙◌}
 use Rattle.std.proofs.Math.Path.{ap}
 use Rattle.std.proofs.Math.Nat.{suc-ne-zero}
-use Rattle.definition.specs.Answers.{Said, returned, refused, text_says, number_of}
+use Rattle.definition.specs.Answers.{returned, refused, text_says, number_of}
 use Rattle.definition.specs.Text.{TextOutcome, text_into}
 use Rattle.definition.specs.declared.Refusal.{Refusal}
 use Rattle.definition.specs.declared.TextAnswer.{TextAnswer}

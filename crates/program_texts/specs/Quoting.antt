@@ -1,11 +1,11 @@
 -- The quote page of the finished sheet: Quote Page refuses only a level that the map hasn't (`quote_refused`), and
 -- prints the page (`quote_printed`).
-use Rattle.std.specs.Prelude.{◌≡◌, cond, List, ◌++◌, ℕ, ◌+◌, ◌*◌, ◌^◌, ◌≤◌, ◌<◌, ltb, length, get_or, drop, ℤ}
-use Rattle.std.proofs.Common.{sym, ap, ◌∙◌, suc-ne-zero, mul-le-mul, arith, Fits, pow_mono, length-append}
+use Rattle.std.specs.Prelude.{◌≡◌, List, ◌++◌, ℕ, ◌^◌, ◌≤◌, ◌<◌, length, get_or, drop, ℤ}
+use Rattle.std.proofs.Common.{sym, ap, ◌∙◌, mul-le-mul, arith, Fits, pow_mono, length-append}
 use Rattle.std.proofs.Math.Decide.{dec_lt}
 use borrow.Author.Tests.{ne_eqb, lt-ltb, le-ltb}
 use Rattle.std.specs.Int.{w8}
-use Rattle.definition.specs.Answers.{returned, refused, text_says, number_of}
+use Rattle.definition.specs.Answers.{text_says, number_of}
 use Rattle.definition.specs.Pyramid.{cell_count}
 use Rattle.definition.specs.Diffusion.{plain}
 use Rattle.definition.specs.Model.{Halftone}
