@@ -90,14 +90,14 @@ pub fn run(
       pyramid = rows_from r pyramid.exit.now;
       serials = serials.new;
       order = order.new;
-      result = result;
+      dots = result;
     }
         ≡ rounds (kernel_of knit) r (macroblocks r) (most_rounds r) 0 0
         (record {
           pyramid = rows_from r pyramid.entry.now;
           serials = serials.old;
           order = order.old;
-          result = 0;
+          dots = 0;
         }) }
 {
     let mut dots = 0;
