@@ -1,6 +1,6 @@
 -- The comparison is an order on burnt patterns. The laws are at the end, for all sheets (`one_way`, `reversing`,
 -- `chain`, `same_iff`); and what a cell that is named says (`cell_first`).
-use Rattle.std.specs.Prelude.{◌≡◌, ◌↔◌, ◌⊎◌, Bool, List, ℕ, suc, ◌+◌, ◌*◌, ◌^◌, ◌≤◌, ◌<◌, get_or}
+use Rattle.std.specs.Prelude.{◌≡◌, ◌↔◌, ◌⊎◌, List, ℕ, ◌+◌, ◌^◌, ◌≤◌, ◌<◌}
 use Rattle.std.proofs.Math.Path.{refl}
 use Rattle.std.proofs.Common.{sym, ap, ◌∙◌, inl, inr, true≢false, arith, zero-mul, mul-le-mul_right, suc-mul}
 use Rattle.std.proofs.Math.Bool.{true, false}
@@ -8,7 +8,7 @@ use Rattle.std.proofs.Math.Decide.{dec_lt}
 use borrow.Author.Tests.{lt-ltb, le-ltb}
 use Rattle.definition.specs.Answers.{Compared, before, before_at, same, after_at, after}
 use Rattle.definition.specs.Pyramid.{cell_count, cell_number, row_at, column_at}
-use Rattle.definition.specs.Blocks.{burnt, burnt_at, dots_in, all_dots}
+use Rattle.definition.specs.Blocks.{burnt_at, dots_in, all_dots}
 use Rattle.definition.specs.Shelf.{pattern, first_difference, compared, is_before}
 use Rattle.dots.specs.Marks.{burnt_at_le}
 use Rattle.quadtree.specs.Areas.{area, area_ext, block_area}

@@ -1,16 +1,15 @@
 -- What the list of a shelf is (`sorted`), and that no other list is so (`only_list`).
-use Rattle.std.specs.Prelude.{◌≡◌, ◌≢◌, ◌↔◌, ◌⊎◌, true, false, List, [], ◌∷◌, ◌++◌, ℕ, zero, suc, ◌+◌, ◌≤◌, ◌<◌, eqb, ltb, length, get_or, take, drop}
+use Rattle.std.specs.Prelude.{◌≡◌, ◌≢◌, false, List, [], ◌∷◌, ℕ, suc, ◌≤◌, ◌<◌, ltb, length, get_or}
 use Rattle.std.proofs.Math.Path.{refl}
-use Rattle.std.proofs.Common.{sym, ap, ap₂, ◌∙◌, inl, inr, true≢false, arith, take_at, drop_at, eq-eqb, ne_eqb}
+use Rattle.std.proofs.Common.{sym, ap₂, ◌∙◌, inl, inr, true≢false, arith, eq-eqb, ne_eqb}
 use Rattle.std.proofs.Math.Decide.{ℕ_discrete}
-use Rattle.definition.specs.Answers.{returned, same}
-use Rattle.definition.specs.Refusals.{power_of}
-use Rattle.definition.specs.Shelf.{is_before, compared, plate_at, in_order, shelf_refusal, ShelfOutcome, shelf_of}
+use Rattle.definition.specs.Answers.{same}
+use Rattle.definition.specs.Shelf.{is_before, plate_at, in_order}
 use Rattle.integers.specs.Tests.{bit}
 use Rattle.shelf_order.specs.Differences.{not_before}
 use Rattle.shelf_order.proofs.Order.{OneWay, goes_before, is_same, goes_after, one_way, same_iff}
 use Rattle.shelf_order.specs.Insertion.{Each, Pairs, times}
-use Rattle.shelf_order.proofs.Insertion.{each_map, pairs_at, stands, Precedes, precedes_chain, not_itself, precedes, times_in_order, in_order_length, in_order_pairs}
+use Rattle.shelf_order.proofs.Insertion.{each_map, pairs_at, stands, Precedes, precedes_chain, not_itself, precedes, times_in_order, in_order_pairs}
 
 -- ---- two lists with the same numbers, both in a strict order
 module _ (R : ℕ → ℕ → Type 0) (through : (x y z : ℕ) → R x y → R y z → R x z) where

@@ -1,6 +1,6 @@
 -- `names_hold`: the promise of names, for either knit and every list of Advance, Keep and Restore calls after an
 -- accepted Load.
-use Rattle.std.specs.Prelude.{◌≡◌, refl, ◌≢◌, true, List, [], ◌∷◌, ◌++◌, ℕ, zero, suc, ◌^◌, ◌≤◌, length, drop, ℤ}
+use Rattle.std.specs.Prelude.{◌≡◌, refl, ◌≢◌, true, List, [], ◌∷◌, ◌++◌, ℕ, zero, suc, ◌^◌, ◌≤◌, drop, ℤ}
 use Rattle.std.proofs.Common.{sym, ◌∙◌, arith, pow_mono, take_at, drop_at}
 use Rattle.std.proofs.Math.Path.{ap}
 use Rattle.std.proofs.Math.Option.{some, none}
