@@ -125,24 +125,24 @@ pub fn field_i64<W: Write>(out: &mut W, n: i64) -> io::Result<()> {
 
 // Writes a field for each value, and ends the line.
 pub fn fields_u32<W: Write>(out: &mut W, values: &[u32]) -> io::Result<()> {
-    for value in values {
-        field_u32(out, *value)?;
+    for &value in values {
+        field_u32(out, value)?;
     }
     end_line(out)
 }
 
 // The same for signed values.
 pub fn fields_i64<W: Write>(out: &mut W, values: &[i64]) -> io::Result<()> {
-    for value in values {
-        field_i64(out, *value)?;
+    for &value in values {
+        field_i64(out, value)?;
     }
     end_line(out)
 }
 
 // The same for bytes.
 pub fn fields_u8<W: Write>(out: &mut W, values: &[u8]) -> io::Result<()> {
-    for value in values {
-        field_u8(out, *value)?;
+    for &value in values {
+        field_u8(out, value)?;
     }
     end_line(out)
 }
@@ -278,8 +278,8 @@ fn wide(n: u32) -> u64 {
 // The checksum of values.
 fn checksum_u32(values: &[u32]) -> u64 {
     let mut sum = 1;
-    for value in values {
-        sum = mix(sum, wide(*value));
+    for &value in values {
+        sum = mix(sum, wide(value));
     }
     sum
 }
@@ -287,8 +287,8 @@ fn checksum_u32(values: &[u32]) -> u64 {
 // The same for signed values.
 fn checksum_i64(values: &[i64]) -> u64 {
     let mut sum = 1;
-    for value in values {
-        sum = mix(sum, word(*value));
+    for &value in values {
+        sum = mix(sum, word(value));
     }
     sum
 }

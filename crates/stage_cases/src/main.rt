@@ -216,8 +216,8 @@ fn act<W: Write>(
 // Writes the eight places of the value.
 fn write_kept<W: Write>(out: &mut W, value: Checkpoints) -> io::Result<()> {
     out.write_all(b"kept")?;
-    for number in &value.kept {
-        field(out, *number)?;
+    for &number in &value.kept {
+        field(out, number)?;
     }
     end_line(out)
 }

@@ -12,8 +12,8 @@ use std::io::{BufWriter, Write};
 
 // Writes a field for each of nine values.
 fn nine_fields<W: Write>(out: &mut W, values: &[u64; 9]) -> io::Result<()> {
-    for value in values {
-        field(out, *value)?;
+    for &value in values {
+        field(out, value)?;
     }
     Ok(())
 }
