@@ -11,7 +11,7 @@ loop-i-init c =
 
 pub overflow_cast-greys : goal.overflow_cast-greys
 overflow_cast-greys c =
-    omega (arith, c.shared_slice_known-in-loop-i-1.given c.loop-i.i)
+    omega (arith, c.type_inv.greys c.loop-i.i)
 
 pub end_at-requires : goal.end_at-requires
 end_at-requires c =
@@ -27,7 +27,7 @@ loop-i-preserved c = (
   omega arith,
   omega (
     arith,
-    field_end _ (omega (arith, c.shared_slice_known-in-loop-i-1.given c.loop-i.i)) _
+    field_end _ (omega (arith, c.type_inv.greys c.loop-i.i)) _
         c.put_field-at.ensures,
   ),
   grey_wrote _ c.requires.1 _ (omega arith) c.loop-i.invariant.2
