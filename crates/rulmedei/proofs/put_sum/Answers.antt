@@ -1,6 +1,5 @@
 -- `rulmedei::put_sum`.
 use mathlib.Core.Path.{sym}
-use borrow.Author.Rules.{rules}
 use lib.Seq.{set_out}
 use Rattle.rulmedei.proofs.put_sum.Goals as goal
 

@@ -1,7 +1,5 @@
-use Prim.Native.Nat.{◌-◌}
-use native.Mathlib.Omega.{arith}
 use borrow.Author.Rules.{rules}
-use Rattle.rulmedei.specs.Sums.{SumsLeft, sums_whole, sums_less, sums_none}
+use Rattle.rulmedei.specs.Sums.{sums_whole, sums_less, sums_none}
 use Rattle.rulmedei.proofs.put_sums.Goals as goal
 
 pub loop-i-init : goal.loop-i-init

@@ -1,8 +1,6 @@
 -- `rulmedei::put_sums`: each sum in its turn.
 use Prim.Native.Nat.{◌-◌}
-use native.Mathlib.Omega.{arith}
-use borrow.Author.Rules.{rules}
-use Rattle.rulmedei.specs.Sums.{SumsLeft, sums_whole, sums_less, sums_none}
+use Rattle.rulmedei.specs.Sums.{SumsLeft}
 use Rattle.rulmedei.proofs.put_sums.Given as goal
 
 abbrev pub invariant-loop-i : goal.invariant-loop-i
