@@ -1,4 +1,4 @@
-//! Reads a file of definitions and laws (`specs/*.antt`, as `rt fmt` lays it out): its imports, its blocks
+//! Reads a file of definitions and laws (`specs/*.antt` or `proofs/*.antt`, as `rt fmt` lays it out): its imports, its blocks
 //! `module _ (..) where`, and its declarations with their whole text. A line that it does not understand is an error.
 
 use crate::text::{citations, indent, tokens};
@@ -46,6 +46,32 @@ pub struct Declaration {
     pub cites: Vec<(String, Option<String>)>,
 }
 
+/// Where in a crate a module stands.
+#[derive(Clone, Copy, PartialEq, Debug)]
+pub enum Folder {
+    Specs,
+    Proofs,
+}
+
+impl Folder {
+    pub const ALL: [Folder; 2] = [Folder::Specs, Folder::Proofs];
+
+    pub fn name(self) -> &'static str {
+        match self {
+            Folder::Specs => "specs",
+            Folder::Proofs => "proofs",
+        }
+    }
+}
+
+/// The crate, the folder and the module of a path `CRATE.specs.MODULE`.
+pub fn module_path(path: &str) -> Option<(&str, Folder, &str)> {
+    Folder::ALL.into_iter().find_map(|folder| {
+        let (crate_name, module) = path.split_once(&format!(".{}.", folder.name()))?;
+        Some((crate_name, folder, module))
+    })
+}
+
 /// A block `module _ (..) where`.
 #[derive(Debug)]
 pub struct Block {
@@ -59,6 +85,7 @@ pub struct Block {
 #[derive(Debug, Clone)]
 pub struct Import {
     pub crate_name: String,
+    pub folder: Folder,
     pub module: String,
     pub names: Vec<String>,
     pub alias: Option<String>,
@@ -67,6 +94,7 @@ pub struct Import {
 #[derive(Debug)]
 pub struct Module {
     pub crate_name: String,
+    pub folder: Folder,
     pub name: String,
     pub path: String,
     pub imports: Vec<Import>,
@@ -131,10 +159,11 @@ impl Module {
     }
 }
 
-/// The import of a line `use Rattle·CRATE.specs.MODULE.{A, B}` or `use .. as NAME`; none if it is of the kit.
+/// The import of a line `use Rattle.CRATE.specs.MODULE.{A, B}` or `use .. as NAME`, or of `proofs`; none if it is of
+/// the kit. What stands behind a module, as a type's variants, is not read.
 pub fn import(line: &str) -> Option<Import> {
     let path = line.trim().trim_end_matches(';').trim_start_matches("ghost ").trim_start_matches("pub ");
-    let path = path.strip_prefix("use ")?.strip_prefix("Rattle·")?;
+    let path = path.strip_prefix("use ")?.strip_prefix("Rattle.")?;
     let (path, names) = match path.split_once(".{") {
         Some((path, names)) => (path, names.trim_end_matches('}')),
         None => (path, ""),
@@ -143,9 +172,10 @@ pub fn import(line: &str) -> Option<Import> {
         Some((path, alias)) => (path, Some(alias.trim().to_string())),
         None => (path, None),
     };
-    let (crate_name, module) = path.split_once(".specs.")?;
+    let (crate_name, folder, module) = module_path(path)?;
     Some(Import {
-        crate_name: crate_name.trim_end_matches("·specs").to_string(),
+        crate_name: crate_name.to_string(),
+        folder,
         module: module.to_string(),
         names: names.split(',').map(|name| name.trim().to_string()).filter(|name| !name.is_empty()).collect(),
         alias,
@@ -163,8 +193,10 @@ struct Reader<'a> {
 
 /// Reads a file; an error has its line.
 pub fn parse(crate_name: &str, name: &str, path: &str, text: &str) -> Result<Module, String> {
+    let folder = if path.contains("/proofs/") { Folder::Proofs } else { Folder::Specs };
     let module = Module {
         crate_name: crate_name.to_string(),
+        folder,
         name: name.to_string(),
         path: path.to_string(),
         imports: Vec::new(),
@@ -222,7 +254,7 @@ impl Reader<'_> {
             "pub" | "unfoldable" if words[1] == "use" || words.get(2) == Some(&"use") => Err("a name passed on".into()),
             "module" => self.block(at),
             "unfolding" => self.clause(at, end, false),
-            "mutual" | "infix" | "infixl" | "infixr" | "open" | "axiom" => Err(format!("`{}`", words[0])),
+            "mutual" | "infix" | "infixl" | "infixr" | "syntax" | "open" | "axiom" => Err(format!("`{}`", words[0])),
             _ => self.declaration(at, end, &words),
         }
     }
@@ -281,7 +313,7 @@ impl Reader<'_> {
     /// A clause, or what is unfolded in the clauses, of the last declaration.
     fn clause(&mut self, at: usize, end: usize, named: bool) -> Result<usize, String> {
         let last = self.module.declarations.last_mut().ok_or("a clause of nothing")?;
-        let bare = last.name.trim_matches('_');
+        let bare = last.name.trim_matches('◌');
         if named && !tokens(self.lines[at]).contains(&bare) {
             return Err(format!("neither a declaration nor a clause of `{}`", last.name));
         }
@@ -350,8 +382,8 @@ mod tests {
     use super::*;
 
     const TEXT: &str = "-- A file (S 1.1).
-use Rattle·definition.specs.Lists.{
-  sumTo,
+use Rattle.definition.specs.Lists.{
+  sum_to,
   other,
 }
 
@@ -368,7 +400,7 @@ module _ (r : ℕ)
   -- a law (S 1.4)
   pub law : (n : ℕ)
       → twice ≡ n
-  unfolding sumTo
+  unfolding sum_to
   law n =
       proof
     where
@@ -409,7 +441,7 @@ last = 1
         assert_eq!(module.cites, ["1.1"]);
         assert_eq!(module.declarations[0].cites[1], ("1.3".to_string(), Some("dots".to_string())));
         assert_eq!(module.declarations[2].cites[0].0, "1.4");
-        assert_eq!(module.imports[0].names, ["sumTo", "other"]);
+        assert_eq!(module.imports[0].names, ["sum_to", "other"]);
     }
 
     #[test]

@@ -1,6 +1,6 @@
 //! contracts: whether every public contract says all that it should. The calls for users are the functions that the
-//! functions for C call (crates/rulmedei); each of both has no `requires`, just one `ensures`, and in it the `.exit` of
-//! every `&mut` parameter and the value that is returned.
+//! functions for C call (crates/rulmedei); each of both has no `requires`, an `ensures`, and in what it ensures the
+//! `.new` of every `&mut` parameter and the `result`.
 
 use crate::rattle::{calls, Function, Source};
 use crate::text::tokens;
@@ -58,39 +58,41 @@ fn faults(function: &Function) -> Vec<String> {
         wrong.push(format!("asks something of its caller: requires {{ {asked} }}"));
     }
     let said = all("ensures");
-    if said.len() != 1 {
-        wrong.push(format!("has {} times `ensures`, not once", said.len()));
+    if said.is_empty() {
+        wrong.push("has no `ensures`".to_string());
+        return wrong;
     }
     if let Some(clause) = function.clauses.iter().find(|clause| !["requires", "ensures"].contains(&&*clause.word)) {
         wrong.push(format!("has an unknown part, `{}`", clause.word));
     }
-    let [said] = said[..] else { return wrong };
+    let facts: Vec<&str> = said.iter().map(|clause| clause.text.as_str()).collect();
     for parameter in function.parameters.iter().filter(|parameter| parameter.kind.starts_with("&mut")) {
-        if !says_exit(&said.text, &parameter.name) {
-            wrong.push(format!("says nothing of what it leaves in `{}`: no `{0} .exit`", parameter.name));
+        if !facts.iter().any(|fact| says_left(fact, &parameter.name)) {
+            wrong.push(format!("says nothing of what it leaves in `{}`: no `{0}.new`", parameter.name));
         }
     }
-    if function.returns.is_some() && !says_returned(&said.text) {
-        wrong.push("says nothing of what it returns".to_string());
+    if function.returns.is_some() && !facts.iter().any(|fact| says_returned(fact)) {
+        wrong.push("says nothing of what it returns: no `result`".to_string());
     }
     wrong
 }
 
-/// Whether a fact speaks of a buffer after the call.
-fn says_exit(fact: &str, name: &str) -> bool {
-    let quoted = fact.replace(['«', '»'], " ");
-    let words = tokens(&quoted);
-    words.windows(2).any(|pair| pair[0] == name && pair[1] == ".exit")
+/// Whether a word is `front`, or a part of it, as `front.field`.
+fn is_part(word: &str, front: &str) -> bool {
+    word.strip_prefix(front).is_some_and(|rest| rest.is_empty() || rest.starts_with('.'))
 }
 
-/// Whether a fact `λ n. ⌜ .. ⌝` speaks of n, otherwise than as the name of a field.
+/// Whether a fact speaks of a buffer after the call.
+fn says_left(fact: &str, name: &str) -> bool {
+    let plain = fact.replace(['«', '»'], "");
+    tokens(&plain).iter().any(|word| is_part(word, &format!("{name}.new")))
+}
+
+/// Whether a fact speaks of the result, otherwise than as the name of a field.
 fn says_returned(fact: &str) -> bool {
-    let Some((head, body)) = fact.trim().split_once('⌜') else { return false };
-    let variables = tokens(head);
-    let [_, variable] = variables[..] else { return false };
-    let words = tokens(body);
+    let words = tokens(fact);
     let is_field = |i: usize| words.get(i + 1) == Some(&"=");
-    words.iter().enumerate().any(|(i, word)| *word == variable && !is_field(i))
+    words.iter().enumerate().any(|(i, word)| is_part(word, "result") && !is_field(i))
 }
 
 /// The whole check; the lines to print, or those of what is wrong.
@@ -158,13 +160,16 @@ mod tests {
 
     #[test]
     fn what_a_contract_must_say() {
-        let whole = "    ensures { λ n. ⌜ record { code = n; list = now (list .exit) } ≡ f a ⌝ }\n";
+        let whole = "    ensures { record { code = result; list = list.new } ≡ f a }\n";
         assert_eq!(faults_of(whole), 0);
-        assert_eq!(faults_of(&whole.replace("(list", "(«list»")), 0);
-        assert_eq!(faults_of(&format!("    requires {{ ⌜ a ≤ 128 ⌝ }}\n{whole}")), 1);
-        assert_eq!(faults_of("    ensures { λ n. ⌜ n ≡ f a ⌝ }\n"), 1);
-        assert_eq!(faults_of("    ensures { λ n. ⌜ record { n = now (list .exit) } ≡ f a ⌝ }\n"), 1);
+        assert_eq!(faults_of(&whole.replace("list.new", "«list».new")), 0);
+        assert_eq!(faults_of(&whole.replace("list.new", "list.new.items")), 0);
+        assert_eq!(faults_of(&format!("    requires {{ a ≤ 128 }}\n{whole}")), 1);
+        assert_eq!(faults_of("    ensures { result ≡ f a }\n"), 1);
+        assert_eq!(faults_of("    ensures { record { result = list.new } ≡ f a }\n"), 1);
+        assert_eq!(faults_of("    ensures { record { code = result; list = list.old } ≡ f a }\n"), 1);
         assert_eq!(faults_of(""), 1);
-        assert_eq!(faults_of(&format!("{whole}{whole}")), 1);
+        assert_eq!(faults_of("    ensures code { result ≡ f a }\n    ensures list { list.new ≡ g a }\n"), 0);
+        assert_eq!(faults_of("    ensures code { result ≡ f a }\n    ensures list { list.newer ≡ g a }\n"), 1);
     }
 }

@@ -2,7 +2,7 @@
 
 use std::collections::HashSet;
 
-use crate::antt::{Declaration, Import, Kind, Module};
+use crate::antt::{module_path, Declaration, Import, Kind, Module};
 use crate::rattle::{Function, Source};
 use crate::text::tokens;
 use crate::tree::Tree;
@@ -62,7 +62,7 @@ pub fn of_declaration(tree: &Tree, place: Place) -> Vec<Place> {
     let text = headers.map(|line| format!("{line}\n")).collect::<String>() + &declaration.meaning();
     let mut hidden = bound(&text);
     hidden.extend(arguments(declaration));
-    let find = |word: &str| {
+    let find_whole = |word: &str| {
         if let Some(found) = in_blocks(module, place.1, &blocks, word) {
             return Some((place.0, found));
         }
@@ -71,20 +71,27 @@ pub fn of_declaration(tree: &Tree, place: Place) -> Vec<Place> {
         }
         in_file(module, place.1, word).map(|found| (place.0, found)).or_else(|| imported(tree, &module.imports, word))
     };
+    let find = |word: &str| find_whole(word).or_else(|| find_whole(front(word)?));
     tokens(&text).into_iter().filter_map(find).filter(|found| *found != place).collect()
+}
+
+/// What a projection `front.field` is taken of.
+fn front(word: &str) -> Option<&str> {
+    word.split_once('.').map(|(front, _)| front).filter(|front| !front.is_empty())
 }
 
 /// What the contract of a function mentions.
 pub fn of_function(tree: &Tree, source: &Source, function: &Function) -> Vec<Place> {
     let text: String = function.clauses.iter().map(|clause| format!("{}\n", clause.text)).collect();
-    tokens(&text).into_iter().filter_map(|word| imported(tree, &source.imports, word)).collect()
+    let find = |word: &str| imported(tree, &source.imports, word);
+    tokens(&text).into_iter().filter_map(|word| find(word).or_else(|| find(front(word)?))).collect()
 }
 
 /// Whether a declaration of a module has this name, as its own or as that of a constructor.
 fn is_named(module: &Module, at: usize, word: &str) -> bool {
     let declaration = &module.declarations[at];
     let own =
-        declaration.name == word || (declaration.name.contains('_') && declaration.name.trim_matches('_') == word);
+        declaration.name == word || (declaration.name.contains('◌') && declaration.name.trim_matches('◌') == word);
     declaration.kind != Kind::Ruleset && (own || declaration.constructors().contains(&word))
 }
 
@@ -101,18 +108,22 @@ fn in_file(module: &Module, before: usize, word: &str) -> Option<usize> {
 
 fn imported(tree: &Tree, imports: &[Import], word: &str) -> Option<Place> {
     let named =
-        |import: &&Import, word: &str| import.names.iter().any(|name| name == word || name.trim_matches('_') == word);
+        |import: &&Import, word: &str| import.names.iter().any(|name| name == word || name.trim_matches('◌') == word);
     if let Some(import) = imports.iter().find(|import| named(import, word)) {
-        return public(tree, tree.module(&import.crate_name, &import.module)?, word);
+        return public(tree, module_of(tree, import)?, word);
     }
     // behind the name of a module, or by the whole path
     let (front, name) = word.rsplit_once('.')?;
-    if let Some(path) = front.strip_prefix("Rattle·") {
-        let (crate_name, module) = path.split_once(".specs.")?;
-        return public(tree, tree.module(crate_name.trim_end_matches("·specs"), module)?, name);
+    if let Some(path) = front.strip_prefix("Rattle.") {
+        let (crate_name, folder, module) = module_path(path)?;
+        return public(tree, tree.module(crate_name, folder, module)?, name);
     }
     let import = imports.iter().find(|import| import.alias.as_deref().unwrap_or(&import.module) == front)?;
-    public(tree, tree.module(&import.crate_name, &import.module)?, name)
+    public(tree, module_of(tree, import)?, name)
+}
+
+fn module_of(tree: &Tree, import: &Import) -> Option<usize> {
+    tree.module(&import.crate_name, import.folder, &import.module)
 }
 
 fn public(tree: &Tree, module: usize, word: &str) -> Option<Place> {

@@ -6,7 +6,7 @@
 use std::collections::{BTreeMap, BTreeSet, HashMap};
 use std::path::Path;
 
-use crate::antt::{Declaration, Kind, Module};
+use crate::antt::{Declaration, Folder, Kind, Module};
 use crate::contracts;
 use crate::mentions::{self, Place};
 use crate::pages;
@@ -123,7 +123,7 @@ fn named(tree: &Tree, root: &Path) -> Result<Vec<Item>, String> {
         names.extend(pages::quoted(&read(&root.join(page))?).into_iter().map(|one| one.text));
     }
     // a name such as `Quarters` is that of a module of definitions
-    names.retain(|name| tree.module(COMPUTED, name).is_none());
+    names.retain(|name| tree.module(COMPUTED, Folder::Specs, name).is_none());
     let mut items = BTreeSet::new();
     for (m, module) in tree.modules.iter().enumerate().filter(|(_, one)| is_read(tree, one)) {
         let whole = is_module_named(module, &names) && !computed(module);

@@ -5,7 +5,7 @@ use crate::text::citations;
 
 #[derive(Debug)]
 pub struct Clause {
-    /// `requires` or `ensures`, or another word
+    /// `requires` or `ensures`, or another word; the name that may follow is left out
     pub word: String,
     /// what stands between the braces
     pub text: String,
@@ -122,7 +122,8 @@ fn behind(text: &str, mut rest: usize) -> Result<Behind, String> {
         if words.is_empty() {
             return Ok(Behind { returns, clauses, body: (brace, end) });
         }
-        clauses.push(Clause { word: words.to_string(), text: text[brace + 1..end].to_string() });
+        let word = words.split_whitespace().next().unwrap_or("").to_string();
+        clauses.push(Clause { word, text: text[brace + 1..end].to_string() });
         rest = end + 1;
     }
 }
@@ -183,16 +184,16 @@ mod tests {
     use super::*;
 
     const TEXT: &str = "// The crate (S 1.1).
-ghost use Rattle·definition.specs.Load.{loadOf};
+ghost use Rattle.definition.specs.Load.{load_of};
 
 // A call (S 1.2).
-#[no_mangle]
+#[unsafe(no_mangle)]
 pub extern \"C\" fn call(
     side: u32,
     out: &mut [u8; 8],
 ) -> u32
-    requires { ⌜ side ≤ 8 ⌝ }
-    ensures { λ n. ⌜ record { code = n } ≡ loadOf side ⌝ }
+    requires { side ≤ 8 }
+    ensures said { record { code = result } ≡ load_of side }
 {
     match other::part(side) {
         Kind::Found(n) => n,
@@ -209,6 +210,7 @@ fn small(x: u32) { drop::it(x) }
         let call = &source.functions[0];
         assert!(call.public && call.for_c && call.line == 6);
         assert_eq!(call.clauses.len(), 2);
+        assert_eq!((call.clauses[0].word.as_str(), call.clauses[1].word.as_str()), ("requires", "ensures"));
         assert_eq!(call.returns.as_deref(), Some("u32"));
         assert_eq!(call.parameters[1].kind, "&mut [u8; 8]");
         assert_eq!(call.cites, ["1.2"]);

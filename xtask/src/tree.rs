@@ -2,7 +2,7 @@
 
 use std::path::Path;
 
-use crate::antt::{self, Module};
+use crate::antt::{self, Folder, Module};
 use crate::rattle::{self, Source};
 use crate::text::read;
 
@@ -14,7 +14,7 @@ pub struct Crate {
 pub struct Tree {
     /// in the order of crates.txt
     pub crates: Vec<Crate>,
-    /// by crate, then as specs/Lib.antt has them
+    /// by crate, then as specs/Lib.antt and proofs/Lib.antt have them
     pub modules: Vec<Module>,
     pub sources: Vec<Source>,
 }
@@ -24,7 +24,9 @@ impl Tree {
     pub fn load(root: &Path) -> Result<Tree, String> {
         let mut tree = Tree { crates: crates(&read(&root.join("crates.txt"))?)?, modules: vec![], sources: vec![] };
         for one in &tree.crates {
-            tree.modules.extend(modules(root, &one.name)?);
+            for folder in Folder::ALL {
+                tree.modules.extend(modules(root, &one.name, folder)?);
+            }
             tree.sources.extend(sources(root, &one.name)?);
         }
         if tree.modules.is_empty() || tree.sources.is_empty() {
@@ -37,9 +39,10 @@ impl Tree {
         self.crates.iter().find(|one| one.name == crate_name).map_or("", |one| one.floor.as_str())
     }
 
-    /// The number of a module, by its crate and name.
-    pub fn module(&self, crate_name: &str, name: &str) -> Option<usize> {
-        self.modules.iter().position(|module| module.crate_name == crate_name && module.name == name)
+    /// The number of a module, by its crate, folder and name.
+    pub fn module(&self, crate_name: &str, folder: Folder, name: &str) -> Option<usize> {
+        let is_it = |one: &Module| one.crate_name == crate_name && one.folder == folder && one.name == name;
+        self.modules.iter().position(is_it)
     }
 
     /// A function, with the source that it stands in, by its crate and name.
@@ -58,7 +61,8 @@ fn crates(text: &str) -> Result<Vec<Crate>, String> {
         if let Some(head) = line.strip_prefix("## ") {
             floor = head.split(':').next().unwrap_or("").to_string();
         } else if !line.starts_with('#') && !line.trim().is_empty() {
-            let name = line.split(':').next().unwrap_or("").to_string();
+            // `NAME staticlib: ..` is a static library
+            let name = line.split([':', ' ']).next().unwrap_or("").to_string();
             all.push(Crate { name, floor: floor.clone() });
         }
     }
@@ -68,8 +72,8 @@ fn crates(text: &str) -> Result<Vec<Crate>, String> {
     Ok(all)
 }
 
-fn modules(root: &Path, crate_name: &str) -> Result<Vec<Module>, String> {
-    let folder = format!("crates/{crate_name}/specs");
+fn modules(root: &Path, crate_name: &str, folder: Folder) -> Result<Vec<Module>, String> {
+    let folder = format!("crates/{crate_name}/{}", folder.name());
     let library = root.join(&folder).join("Lib.antt");
     if !library.exists() {
         return Ok(Vec::new());
