@@ -1,8 +1,10 @@
 /*
  * Reads a map text on standard input and prints its drill list, on plain cloth. From the repository's top:
  *
- *     rt staticlib rulmedei
- *     gcc -std=c99 -Wall -Wextra -Werror -Iinclude include/example.c target/staticlib/librulmedei.a -o target/example
+ *     (cd crates/rulmedei && rt lib)
+ *     mkdir -p target
+ *     gcc -std=c99 -Wall -Wextra -Werror -Iinclude -o target/example \
+ *         include/example.c crates/rulmedei/out/librulmedei.a
  *     printf '2\n128,128\n128,128\n' | target/example
  *
  * The exit status is 0 if the whole list was written, 1 if the text was refused, and 3 if reading or writing failed.

@@ -2,8 +2,8 @@
  * Rulmedei: grey maps to ordered lists of holes. The sixteen calls for C, the renewal of sums by itself, and the
  * lowering of greys.
  *
- * `rt staticlib rulmedei` writes target/staticlib/librulmedei.a, for x86-64 Linux. It needs the C library and nothing
- * else.
+ * `rt lib` in crates/rulmedei writes crates/rulmedei/out/librulmedei.a, for x86-64 Linux. It needs the C library and
+ * nothing else.
  *
  * What a caller must ensure. The proofs assume it, and nothing tests it at run time:
  *

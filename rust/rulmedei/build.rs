@@ -1,11 +1,15 @@
-//! Has the proved library written by `rt staticlib rulmedei`, where it isn't up to date, and links it.
+//! Has the proved library written by `rt lib` in `crates/rulmedei`, where it isn't up to date, and links it.
 
 use std::path::{Path, PathBuf};
 use std::process::{Command, ExitCode};
 use std::time::SystemTime;
 use std::{env, fs, io};
 
-const ARCHIVE: &str = "target/staticlib/librulmedei.a";
+/// The crate of the library, and where its archive is written.
+const LIBRARY: &str = "crates/rulmedei";
+const OUT: &str = "crates/rulmedei/out";
+/// The folders of a crate that it is made from: `rt` writes beside them.
+const PARTS: [&str; 3] = ["src", "specs", "proofs"];
 
 fn main() -> ExitCode {
     match build() {
@@ -19,14 +23,15 @@ fn main() -> ExitCode {
 
 fn build() -> io::Result<()> {
     let top = top()?;
-    let archive = top.join(ARCHIVE);
-    if !is_current(&archive, &sources(&top))? {
+    let archive = top.join(OUT).join("librulmedei.a");
+    let sources = sources(&top)?;
+    if !is_current(&archive, &sources)? {
         write_archive(&top)?;
     }
-    for path in sources(&top).iter().chain([&archive]) {
+    for path in sources.iter().chain([&archive]) {
         println!("cargo:rerun-if-changed={}", path.display());
     }
-    println!("cargo:rustc-link-search=native={}", top.join("target/staticlib").display());
+    println!("cargo:rustc-link-search=native={}", top.join(OUT).display());
     println!("cargo:rustc-link-lib=static=rulmedei");
     Ok(())
 }
@@ -37,9 +42,15 @@ fn top() -> io::Result<PathBuf> {
     Path::new(&package).join("../..").canonicalize()
 }
 
-/// What the archive is made from.
-fn sources(top: &Path) -> [PathBuf; 2] {
-    [top.join("crates"), top.join("crates.txt")]
+/// What the archive is made from: the list of crates, and what each of them has.
+fn sources(top: &Path) -> io::Result<Vec<PathBuf>> {
+    let mut all = vec![top.join("crates.txt")];
+    for entry in fs::read_dir(top.join("crates"))? {
+        let folder = entry?.path();
+        all.extend(PARTS.iter().map(|part| folder.join(part)).filter(|part| part.is_dir()));
+    }
+    all.sort();
+    Ok(all)
 }
 
 /// Whether the archive is there and nothing that it is made from is newer.
@@ -69,12 +80,12 @@ fn newest(path: &Path) -> io::Result<SystemTime> {
 
 /// Proves the library and writes the archive.
 fn write_archive(top: &Path) -> io::Result<()> {
-    let ran = Command::new("rt").args(["staticlib", "rulmedei"]).current_dir(top).status();
+    let ran = Command::new("rt").arg("lib").current_dir(top.join(LIBRARY)).status();
     let status = ran.map_err(|error| io::Error::other(not_run(&error)))?;
     if status.success() {
         Ok(())
     } else {
-        Err(io::Error::other(format!("rt staticlib rulmedei: {status}")))
+        Err(io::Error::other(format!("rt lib in {LIBRARY}: {status}")))
     }
 }
 

@@ -18,7 +18,7 @@ const NOT_OURS: [(&str, &[&str]); 6] = [
     ("programs that tests use", &["rsvg-convert"]),
     ("names of earlier times, which docs/CHANGING.md explains", &["demand-3", "request-7", "dot", "Asked", "Calls"]),
     ("parts of names, which say what a law is about", &["ext", "mono"]),
-    ("files that are made and go again", &["target/bin/plate", "FILE.NUMBER-0.part"]),
+    ("files that are made and go again", &["crates/plate/out/plate", "FILE.NUMBER-0.part"]),
 ];
 /// The page that is made of the logs of `rt ci`, and compared with them afterwards (`tools/impostors --check`).
 const FROM_LOGS: &str = "docs/IMPOSTORS.md";
