@@ -23,7 +23,7 @@ const NOT_OURS: [(&str, &[&str]); 6] = [
 /// The page that is made of the logs of `rt ci`, and compared with them afterwards (`tools/impostors --check`).
 const FROM_LOGS: &str = "docs/IMPOSTORS.md";
 /// Folders that are not searched.
-const LEFT_OUT: [&str; 2] = [".git", "target"];
+const LEFT_OUT: [&str; 3] = [".git", "target", "out"];
 /// What names things only to test that they are missed.
 const TESTS: [&str; 2] = ["xtask/src/", "tools/test-pages"];
 
@@ -121,7 +121,8 @@ impl Known {
     /// `crate/Module`.
     fn is_in_crate(&self, word: &str) -> bool {
         let Some((folder, name)) = word.split_once('/') else { return false };
-        self.files.contains(&format!("crates/{folder}/specs/{name}.antt"))
+        let is_there = |inside| self.files.contains(&format!("crates/{folder}/{inside}/{name}.antt"));
+        is_there("specs") || is_there("proofs")
     }
 
     /// `Record.field` or `Module.name`.

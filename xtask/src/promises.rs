@@ -20,8 +20,8 @@ const NAMING: [&str; 3] = ["README.md", "docs/TRUST.md", "docs/SPECIFICATION.md"
 const PROMISES: usize = 15;
 /// The crate whose definitions are pinned by computed plates, so that they need not stand on the page.
 const COMPUTED: &str = "definition";
-/// Its module with P1 to P12, the plates to work by hand: their rows do stand on the page.
-const HAND: &str = "HandPlates";
+/// Its table with P1 to P12, the plates to work by hand: its rows do stand on the page.
+const HAND: &str = "plates";
 /// The short name of the last section.
 const LAST: &str = "the end";
 /// The floors whose laws the pages name.
@@ -107,7 +107,7 @@ fn cited(tree: &Tree, number: &str) -> (Vec<Item>, String) {
 
 /// Whether the definitions of a module are pinned by rows that are computed, or are such rows.
 fn computed(module: &Module) -> bool {
-    (module.crate_name == COMPUTED || module.name.ends_with("Plates")) && module.name != HAND
+    module.folder == Folder::Specs && (module.crate_name == COMPUTED || module.name.ends_with("Plates"))
 }
 
 /// Whether a declaration is one of those that a module shows to others.
@@ -129,7 +129,8 @@ fn named(tree: &Tree, root: &Path) -> Result<Vec<Item>, String> {
         let whole = is_module_named(module, &names) && !computed(module);
         for (d, declaration) in module.declarations.iter().enumerate().filter(|(_, one)| counts(one)) {
             let law = names.contains(&declaration.name) && (declaration.kind == Kind::Plain || !computed(module));
-            if whole || law {
+            let hand = module.crate_name == COMPUTED && declaration.name == HAND;
+            if whole || law || hand {
                 items.insert(Item::Declaration((m, d)));
             }
         }
@@ -144,7 +145,8 @@ fn is_read(tree: &Tree, module: &Module) -> bool {
 
 fn is_module_named(module: &Module, names: &BTreeSet<String>) -> bool {
     let file = format!("{}.antt", module.name);
-    let ways = [format!("specs/{file}"), format!("{}/{}", module.crate_name, module.name), file];
+    let folder = module.folder.name();
+    let ways = [format!("{folder}/{file}"), format!("{}/{}", module.crate_name, module.name), file];
     ways.iter().any(|way| names.contains(way))
 }
 

@@ -1,5 +1,6 @@
-//! refusals: after `rt ci`, whether each wrong program and each wrong statement was refused for its own sake.
-//! A must-fail edit changes code (`file: src/..`) or a statement (`file: specs/..`), never a proof.
+//! refusals: after `tools/tried`, whether each wrong program and each wrong statement was refused for its own sake.
+//! A must-fail edit changes code (`file: src/..`) or a statement (`file: specs/..` or `file: proofs/MODULE.antt`), never
+//! a proof.
 //! - An edit of code names every function that it makes wrong, by a line 'wrong: NAME in FUNCTION'. rt refuses the edit
 //!   if one function fails. Here just the named ones must fail by themselves, not because a function that they call
 //!   fails, and none because its proof file no longer fits the code.
@@ -33,7 +34,9 @@ const FACT_FAILS: [&str; 9] = [
 /// The same, in the middle of a message: the two sides differ, and a definition would have to be unfolded.
 const FACT_FAILS_WITHIN: &str = " do not unfold here: if the body needs them";
 /// What only follows from another error.
-const FOLLOWS: &str = "was not admitted";
+const FOLLOWS: [&str; 2] = ["was not admitted", "was not checked"];
+/// How a check ends that refuses a crate.
+const REFUSES: &str = "logic=not-proved";
 
 /// What an edit file says.
 struct Edit {
@@ -109,15 +112,15 @@ fn entries(folder: &Path) -> Result<Vec<String>, String> {
 fn one(root: &Path, path: &str, counts: &mut Counts) -> Result<Vec<String>, String> {
     let edit = parse(path, &read(&root.join(path))?)?;
     let on_code = edit.file.starts_with("src/");
-    if !on_code && !edit.file.starts_with("specs/") {
-        return Ok(vec![format!(
-            "{path}: changes {}; only code (src/) and statements (specs/) may be wrong",
-            edit.file
-        )]);
+    if !on_code && !has_statements(&edit.file) {
+        return Ok(vec![format!("{path}: changes {}; only code (src/) and statements may be wrong", edit.file)]);
     }
     let log = format!("target/must-fail/{}/{}/.log", edit.crate_name, edit.name);
     let Ok(log) = read(&root.join(&log)) else { return Ok(vec![format!("{path}: was not tried: {log} is not there")]) };
     let mut faults = Vec::new();
+    if !log.lines().any(|line| line.starts_with(REFUSES)) {
+        faults.push(format!("the log does not end in {REFUSES}"));
+    }
     if log.contains("that can be named from here") {
         faults.push("a proof file no longer fits the code".to_string());
     }
@@ -132,6 +135,12 @@ fn one(root: &Path, path: &str, counts: &mut Counts) -> Result<Vec<String>, Stri
         faults.extend(statement_faults(root, &edit, &log)?);
     }
     Ok(faults.into_iter().map(|fault| format!("{path}: {fault}")).collect())
+}
+
+/// Whether a file of a crate has definitions and laws: those of `specs`, and right in `proofs`, where the proofs of
+/// functions have folders of their own.
+fn has_statements(file: &str) -> bool {
+    file.starts_with("specs/") || file.strip_prefix("proofs/").is_some_and(|rest| !rest.contains('/'))
 }
 
 fn parse(path: &str, text: &str) -> Result<Edit, String> {
@@ -162,14 +171,14 @@ fn parse(path: &str, text: &str) -> Result<Edit, String> {
 }
 
 /// The functions of a crate that its check refused by themselves: `not proved` says so of those with a proof file,
-/// `does not close` of those whose proof the prover makes.
+/// `did not prove` of those whose proof the prover makes.
 fn refused<'a>(crate_name: &str, log: &'a str) -> Vec<&'a str> {
     let head = format!("fn {crate_name}::");
     let lines = log.lines().filter(|line| !line.contains("; it calls ")).filter_map(|line| line.strip_prefix(&head));
     let mut all: Vec<&str> = lines
         .filter_map(|line| line.split_once(": "))
         .filter(|(_, said)| {
-            *said == "not proved" || (said.starts_with("no proof: ") && said.contains("does not close"))
+            *said == "not proved" || (said.starts_with("no proof: ") && said.contains("did not prove"))
         })
         .map(|(name, _)| name)
         .collect();
@@ -190,10 +199,15 @@ fn code_faults(edit: &Edit, log: &str) -> Vec<String> {
     vec![format!("wrong are {} but refused are {}", wrong.join(" "), failed.join(" "))]
 }
 
-/// The errors of a log, but for those that only follow from another; a line goes on in the lines that are indented.
+/// Whether a line only follows from another error.
+fn follows(line: &str) -> bool {
+    FOLLOWS.iter().any(|words| line.contains(words))
+}
+
+/// The errors of a log, but for those that only follow from another.
 fn reports(log: &str) -> Vec<Report> {
     let mut all = Vec::new();
-    for line in log.lines().filter(|line| line.contains(": error: ") && !line.contains(FOLLOWS)) {
+    for line in log.lines().filter(|line| line.contains(": error: ") && !follows(line)) {
         let (place, message) = line.split_once(": error: ").unwrap_or(("", line));
         let mut parts = place.rsplitn(3, ':').skip(1);
         let number = parts.next().and_then(|number| number.parse().ok()).unwrap_or(0);
@@ -227,7 +241,7 @@ fn statement_faults(root: &Path, edit: &Edit, log: &str) -> Result<Vec<String>, 
     }
     let mut proofs = 0;
     for Report { file, line, message } in reports(log) {
-        let part = if file.starts_with("specs/") {
+        let part = if has_statements(&file) {
             let module = edited(root, edit, &file)?;
             let (part, name) = module.part(line);
             let is_edited = file == edit.file && changed.iter().any(|(_, other, _)| other == name);
@@ -287,9 +301,15 @@ mod tests {
     use super::*;
 
     #[test]
+    fn files_of_statements() {
+        assert!(has_statements("specs/A.antt") && has_statements("proofs/A.antt"));
+        assert!(!has_statements("proofs/a/Answers.antt") && !has_statements("src/lib.rt"));
+    }
+
+    #[test]
     fn functions_refused_by_themselves() {
         let log =
-            "fn one::a: not proved\nfn one::b: no proof: it does not close `x`\nfn one::c: not proved; it calls a\n";
+            "fn one::a: not proved\nfn one::b: no proof: it did not prove `x`\nfn one::c: not proved; it calls a\n";
         assert_eq!(refused("one", log), ["a", "b"]);
     }
 
@@ -297,7 +317,7 @@ mod tests {
     fn places_in_a_log() {
         let log = "/t/one/specs/A.antt:9:8: error: `law`: expected type `X`, but this has type `Y`\n\
                    /t/one/specs/A.antt:19:8: error: `next`: `law` was not admitted (it has holes)\n";
-        let reports = reports(log);
+        let reports = reports(&format!("{log}./specs/A.antt:29:8: error: 1 declaration was not checked: `more`\n"));
         assert_eq!(reports.len(), 1);
         assert_eq!((reports[0].file.as_str(), reports[0].line), ("specs/A.antt", 9));
         assert!(says_fact_fails(&reports[0].message));
