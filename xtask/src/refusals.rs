@@ -3,7 +3,8 @@
 //! a proof.
 //! - An edit of code names every function that it makes wrong, by a line 'wrong: NAME in FUNCTION'. rt refuses the edit
 //!   if one function fails. Here just the named ones must fail by themselves, not because a function that they call
-//!   fails, and none because its proof file no longer fits the code.
+//!   fails, and each at a fact, not only because its proof file no longer fits the code: a changed constant gives a fact
+//!   another name.
 //! - An edit of definitions or laws makes one wrong statement, and its file has the name. It must be refused because
 //!   a fact fails: every error that does not only follow from another one is of a kind that says so (`FACT_FAILS`), and
 //!   stands in a proof, or where a definition that was not edited hands on a fact. One in a statement, or in what was
@@ -35,6 +36,8 @@ const FACT_FAILS: [&str; 9] = [
 const FACT_FAILS_WITHIN: &str = " do not unfold here: if the body needs them";
 /// What only follows from another error.
 const FOLLOWS: [&str; 2] = ["was not admitted", "was not checked"];
+/// What says of a proof file that it names something which is no longer there.
+const NO_LONGER_NAMED: [&str; 2] = ["that can be named from here", " has no field `"];
 /// How a check ends that refuses a crate.
 const REFUSES: &str = "logic=not-proved";
 
@@ -121,9 +124,6 @@ fn one(root: &Path, path: &str, counts: &mut Counts) -> Result<Vec<String>, Stri
     if !log.lines().any(|line| line.starts_with(REFUSES)) {
         faults.push(format!("the log does not end in {REFUSES}"));
     }
-    if log.contains("that can be named from here") {
-        faults.push("a proof file no longer fits the code".to_string());
-    }
     if log.lines().any(|line| line.contains(": error: ") && line.contains(" is not in scope")) {
         faults.push("a name is not in scope".to_string());
     }
@@ -193,10 +193,34 @@ fn code_faults(edit: &Edit, log: &str) -> Vec<String> {
     let mut wrong: Vec<&str> = edit.wrong.iter().map(|(_, function)| function.as_str()).collect();
     wrong.sort();
     let failed = refused(&edit.crate_name, log);
-    if wrong == failed {
-        return Vec::new();
+    if wrong != failed {
+        return vec![format!("wrong are {} but refused are {}", wrong.join(" "), failed.join(" "))];
     }
-    vec![format!("wrong are {} but refused are {}", wrong.join(" "), failed.join(" "))]
+    let unfit = wrong.iter().filter(|function| !fails_at_fact(&edit.crate_name, function, log));
+    unfit.map(|function| format!("of `{function}` no fact fails: a proof file no longer fits the code")).collect()
+}
+
+/// Whether the check found a fact of a function that is not proved: an answer of its proof files that does not hold, or
+/// a fact without an answer, of which a note speaks before the line on the function.
+fn fails_at_fact(crate_name: &str, function: &str, log: &str) -> bool {
+    let files = [format!("/proofs/{function}/"), format!("/proofs/+{function}/")];
+    let mut noted = false;
+    for line in log.lines() {
+        let is_named = !NO_LONGER_NAMED.iter().any(|words| line.contains(words));
+        let is_here = files.iter().any(|files| line.split(':').next().unwrap_or("").contains(files.as_str()));
+        if line.contains(": error: ") && is_here && is_named && !follows(line) {
+            return true;
+        }
+        if let Some(rest) = line.strip_prefix("fn ") {
+            let is_it = rest.starts_with(&format!("{crate_name}::{function}: "));
+            if is_it && (noted || rest.contains("did not prove")) {
+                return true;
+            }
+            noted = false;
+        }
+        noted |= line.starts_with("note: ") && line.contains(": it is not proved that ");
+    }
+    false
 }
 
 /// Whether a line only follows from another error.
@@ -311,6 +335,19 @@ mod tests {
         let log =
             "fn one::a: not proved\nfn one::b: no proof: it did not prove `x`\nfn one::c: not proved; it calls a\n";
         assert_eq!(refused("one", log), ["a", "b"]);
+    }
+
+    #[test]
+    fn facts_of_a_function() {
+        let unnamed = "./proofs/a/Answers.antt:1:2: error: `x-1`: no `x-1` that can be named from here\n";
+        let last = "fn one::b: proved\nfn one::a: not proved\n";
+        assert!(!fails_at_fact("one", "a", &format!("{unnamed}{last}")));
+        let noted = "note: src/lib.rt:1:2: it is not proved that it holds (`x-2`)\n";
+        assert!(fails_at_fact("one", "a", &format!("{unnamed}fn one::b: proved\n{noted}fn one::a: not proved\n")));
+        assert!(!fails_at_fact("one", "a", &format!("{unnamed}{noted}{last}")));
+        let fails = "./proofs/+a/Answers.antt:1:2: error: `y`: `search`: no proof of `z`\n";
+        assert!(fails_at_fact("one", "a", &format!("{unnamed}{fails}{last}")));
+        assert!(!fails_at_fact("one", "aa", &format!("{fails}fn one::aa: not proved\n")));
     }
 
     #[test]
