@@ -173,9 +173,7 @@ fn expected_values() -> Result<String, Refusal> {
         "-- Written by the reference (`cargo run --release -- write` in reference/) and not to be edited:\n\
          -- three maps run to their end on plain cloth, side 4, side 8 and a flat one of side 4; then three on ribbed\n\
          -- cloth, side 2, side 4 and side 8.\n\
-         use mathlib.Core.List.{{List, [], _∷_}}\n\
-         use Prim.Native.Nat.{{ℕ}}\n\
-         use lib.IntN.{{ℤ, pos, negsuc}}\n\
+         use Rattle.std.specs.Prelude.{{List, [], ◌∷◌, ℕ, ℤ, pos, negsuc}}\n\
          \n\
          -- the map of side 4, and what Load and Advance leave: the order list, the serial sheet, the pyramid\n\
          -- row after row and by quarters; then the sums of Levels\n\
@@ -191,10 +189,10 @@ fn expected_values() -> Result<String, Refusal> {
          {}",
         five_values("4", 4, &greys)?,
         five_values("8", 8, &halved)?,
-        five_values("Flat4", 4, &flat)?,
-        left_values("Ribbed2", &run(2, RIBBED, &[128; 4])?),
-        left_values("Ribbed4", &run(4, RIBBED, &greys)?),
-        left_values("Ribbed8", &run(8, RIBBED, &halved)?),
+        five_values("_flat4", 4, &flat)?,
+        left_values("_ribbed2", &run(2, RIBBED, &[128; 4])?),
+        left_values("_ribbed4", &run(4, RIBBED, &greys)?),
+        left_values("_ribbed8", &run(8, RIBBED, &halved)?),
     ))
 }
 
