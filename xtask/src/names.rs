@@ -103,7 +103,8 @@ impl Known {
         if word.contains("::") {
             return word.split("::").all(|part| self.words.contains(part));
         }
-        self.words.contains(word) || self.is_file(word) || self.is_in_crate(word) || self.is_member(word)
+        let is_file = self.is_file(word) || self.is_file(&format!("{word}.antt"));
+        self.words.contains(word) || is_file || self.is_in_crate(word) || self.is_member(word)
     }
 
     /// A path, whole or from some folder on; a part in capital letters and a star stand for anything.
