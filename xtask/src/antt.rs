@@ -1,5 +1,6 @@
-//! Reads a file of definitions and laws (`specs/*.antt` or `proofs/*.antt`, as `rt fmt` lays it out): its imports, its blocks
-//! `module _ (..) where`, and its declarations with their whole text. A line that it does not understand is an error.
+//! Reads a file of definitions and laws (`specs/*.antt` or `proofs/*.antt`, as `rt fmt` lays it out): its imports, its
+//! blocks `module _ (..) where`, and its declarations with their whole text. A line that it does not understand is an
+//! error.
 
 use crate::text::{citations, indent, tokens};
 

@@ -1,10 +1,10 @@
 //! refusals: after `tools/tried`, whether each wrong program and each wrong statement was refused for its own sake.
-//! A must-fail edit changes code (`file: src/..`) or a statement (`file: specs/..` or `file: proofs/MODULE.antt`), never
-//! a proof.
+//! A must-fail edit changes code (`file: src/..`) or a statement (`file: specs/..` or `file: proofs/MODULE.antt`),
+//! never a proof.
 //! - An edit of code names every function that it makes wrong, by a line 'wrong: NAME in FUNCTION'. rt refuses the edit
 //!   if one function fails. Here just the named ones must fail by themselves, not because a function that they call
-//!   fails, and each at a fact, not only because its proof file no longer fits the code: a changed constant gives a fact
-//!   another name.
+//!   fails, and each at a fact, not only because its proof file no longer fits the code: a changed constant gives a
+//!   fact another name.
 //! - An edit of definitions or laws makes one wrong statement, and its file has the name. It must be refused because
 //!   a fact fails: every error that does not only follow from another one is of a kind that says so (`FACT_FAILS`), and
 //!   stands in a proof, or where a definition that was not edited hands on a fact. One in a statement, or in what was
