@@ -35,7 +35,7 @@ const FACT_FAILS: [&str; 9] = [
 /// The same, in the middle of a message: the two sides differ, and a definition would have to be unfolded.
 const FACT_FAILS_WITHIN: &str = " do not unfold here: if the body needs them";
 /// What only follows from another error.
-const FOLLOWS: [&str; 2] = ["was not admitted", "was not checked"];
+const FOLLOWS: [&str; 3] = ["was not admitted", " declaration that depends on `", " declarations that depend on `"];
 /// What says of a proof file that it names something which is no longer there.
 const NO_LONGER_NAMED: [&str; 2] = ["that can be named from here", " has no field `"];
 /// How a check ends that refuses a crate.
@@ -354,7 +354,7 @@ mod tests {
     fn places_in_a_log() {
         let log = "/t/one/specs/A.antt:9:8: error: `law`: expected type `X`, but this has type `Y`\n\
                    /t/one/specs/A.antt:19:8: error: `next`: `law` was not admitted (it has holes)\n";
-        let reports = reports(&format!("{log}./specs/A.antt:29:8: error: 1 declaration was not checked: `more`\n"));
+        let reports = reports(&format!("{log}./specs/A.antt:29:8: error: 1 declaration that depends on `law`, which was rejected\n"));
         assert_eq!(reports.len(), 1);
         assert_eq!((reports[0].file.as_str(), reports[0].line), ("specs/A.antt", 9));
         assert!(says_fact_fails(&reports[0].message));
