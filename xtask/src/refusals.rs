@@ -177,9 +177,7 @@ fn refused<'a>(crate_name: &str, log: &'a str) -> Vec<&'a str> {
     let lines = log.lines().filter(|line| !line.contains("; it calls ")).filter_map(|line| line.strip_prefix(&head));
     let mut all: Vec<&str> = lines
         .filter_map(|line| line.split_once(": "))
-        .filter(|(_, said)| {
-            *said == "not proved" || (said.starts_with("no proof: ") && said.contains("did not prove"))
-        })
+        .filter(|(_, said)| *said == "not proved" || (said.starts_with("no proof: ") && said.contains("did not prove")))
         .map(|(name, _)| name)
         .collect();
     all.sort();
@@ -354,7 +352,8 @@ mod tests {
     fn places_in_a_log() {
         let log = "/t/one/specs/A.antt:9:8: error: `law`: expected type `X`, but this has type `Y`\n\
                    /t/one/specs/A.antt:19:8: error: `next`: `law` was not admitted (it has holes)\n";
-        let reports = reports(&format!("{log}./specs/A.antt:29:8: error: 1 declaration that depends on `law`, which was rejected\n"));
+        let more = "./specs/A.antt:29:8: error: 2 declarations that depend on `law`, which was rejected\n";
+        let reports = reports(&format!("{log}{more}"));
         assert_eq!(reports.len(), 1);
         assert_eq!((reports[0].file.as_str(), reports[0].line), ("specs/A.antt", 9));
         assert!(says_fact_fails(&reports[0].message));
