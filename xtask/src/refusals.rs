@@ -121,6 +121,9 @@ fn one(root: &Path, path: &str, counts: &mut Counts) -> Result<Vec<String>, Stri
     let log = format!("target/must-fail/{}/{}/.log", edit.crate_name, edit.name);
     let Ok(log) = read(&root.join(&log)) else { return Ok(vec![format!("{path}: was not tried: {log} is not there")]) };
     let mut faults = Vec::new();
+    if !edit.name.chars().all(|c| c.is_ascii_alphanumeric() || "_-.".contains(c)) {
+        faults.push("rt takes no edit of such a name: only letters, digits, _, - and . may stand in it".to_string());
+    }
     if !log.lines().any(|line| line.starts_with(REFUSES)) {
         faults.push(format!("the log does not end in {REFUSES}"));
     }
