@@ -36,7 +36,12 @@ fn refused(progress: Progress, why: Refusal) -> AdvanceAnswer
 }
 
 fn answer(side: u32, dots: u32, knit: u32, made: u32, status: AdvanceStatus) -> AdvanceAnswer
-    ensures { result ≡ record { progress = record { side = side; dots = dots; knit = knit }; made = made; status = status } }
+    ensures { result ≡ record {
+      progress = record { side = side; dots = dots; knit = knit };
+      made = made;
+      status =
+          status;
+    } }
 {
     AdvanceAnswer {
         progress: Progress { side, dots, knit },

@@ -2,7 +2,8 @@
 -- call more (`call_made`), and the price list of the state after all (`price_list_of_code`).
 use Rattle.std.specs.Prelude.{◌≡◌, List, [], ◌∷◌, ◌++◌, ℕ, zero, suc, ◌+◌, ◌≤◌, ◌<◌, min, length, get_or, take, drop, ℤ}
 use Rattle.std.proofs.Math.Path.{refl}
-use Rattle.std.proofs.Common.{sym, ap, ◌∙◌, arith, add-one, add-zero, zero-add, drop_of_length-le, take_all, length-take-le}
+use Rattle.std.proofs.Common.{sym, ap, ◌∙◌, arith, add-one, add-zero, zero-add, drop_of_length-le, take_all}
+use Rattle.std.proofs.Common.{length-take-le}
 use Rattle.std.proofs.Math.Decide.{dec_lt}
 use Rattle.definition.specs.Lists.{tabulate_from, tabulate}
 use Rattle.definition.specs.Answers.{Said}
@@ -162,7 +163,8 @@ module _ (progress₀ : Progress) (p₀ : List ℤ) (s₀ o₀ : List ℕ) (budg
 
   module _ (progress : Progress) (p : List ℤ) (s o : List ℕ) (i : ℕ)
       (h : Called progress₀ p₀ s₀ o₀ budgets pyramids sheets orders progress p s o i) where
-    pub goes_on : {a b c : ℕ} → i < length budgets → a ≡ get_or pyramids i 0 → b ≡ get_or sheets i 0 → c ≡ get_or orders i 0
+    pub goes_on : {a b c : ℕ} → i < length budgets → a ≡ get_or pyramids i 0 → b ≡ get_or sheets i 0 → c
+        ≡ get_or orders i 0
         → (progress' : Progress) (p' : List ℤ) (s' o' : List ℕ) → length p' ≡ length p → length s' ≡ length s
         → length o' ≡ length o
         → record { progress = progress'; pyramid = p'; serials = s'; order = o' }

@@ -76,7 +76,8 @@ module _ {r : ℕ} (small : r ≤ 8) (dots knit : ℕ) (checkpoints : Checkpoint
     (first : Check) (e : checked first ≡ load_refusal r knit (length g) (length p) (length s) (length o) true) where
   abbrev refusal : ℕ
   refusal =
-      restore_refusal r knit (length g) (length p) (length s) (length o) (is_sound r (sheet_in r dots (as_rows r p) s o))
+      restore_refusal r knit (length g) (length p) (length s) (length o)
+      (is_sound r (sheet_in r dots (as_rows r p) s o))
       (low_map r g) (can_restore checkpoints name (total_of (grey_total r g)))
 
   pub first_failed : {why : Refusal} → first ≡ Failed why → checked (Failed why) ≡ refusal

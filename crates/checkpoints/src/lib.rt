@@ -31,7 +31,8 @@ fn done(progress: Progress, checkpoints: Checkpoints) -> CheckpointAnswer
 
 // Record and value are given back.
 fn refused(progress: Progress, checkpoints: Checkpoints, why: Refusal) -> CheckpointAnswer
-    ensures { result ≡ record { progress = progress; checkpoints = checkpoints; status = CheckpointStatus.Refused why } }
+    ensures { result
+        ≡ record { progress = progress; checkpoints = checkpoints; status = CheckpointStatus.Refused why } }
 {
     CheckpointAnswer {
         progress,
@@ -55,7 +56,12 @@ fn check_keep(r: usize, name: u32) -> Check
 
 // Keep (S 10.1): the dots of the record are written down under a name.
 pub fn keep(progress: Progress, checkpoints: Checkpoints, name: u32) -> CheckpointAnswer
-    ensures { record { progress = result.progress; checkpoints = result.checkpoints; said = checkpoint_says result.status }
+    ensures { record {
+      progress = result.progress;
+      checkpoints = result.checkpoints;
+      said =
+          checkpoint_says result.status;
+    }
         ≡ keep_of progress checkpoints name }
 {
     let r = sizes::power_of(progress.side);

@@ -89,8 +89,10 @@ module _ (text : List ℕ) (at most end : ℕ) where
   module _ (h : at < length text) {t : Bool} (e : t ≡ is_digit (get_or text at 0)) where
     pub field_other : t ≡ false → field_in text Malformed ≡ field_of most end (drop at text)
     unfolding field_in
-    field_other f = sym (rw (here text at h) (field_of_other most end (get_or text at 0) (drop (at + 1) text) (sym e ∙ f)))
+    field_other f =
+        sym (rw (here text at h) (field_of_other most end (get_or text at 0) (drop (at + 1) text) (sym e ∙ f)))
 
     pub field_digit : t ≡ true
         → digits_then most end (get_or text at 0 - 48) (drop (at + 1) text) ≡ field_of most end (drop at text)
-    field_digit f = sym (rw (here text at h) (field_of_digit most end (get_or text at 0) (drop (at + 1) text) (sym e ∙ f)))
+    field_digit f =
+        sym (rw (here text at h) (field_of_digit most end (get_or text at 0) (drop (at + 1) text) (sym e ∙ f)))

@@ -1,7 +1,8 @@
 -- What a writer leaves (`Wrote`): bytes stored from a place on, as far as there are places, and the place behind them;
 -- one writer after another (`wrote_append`), and how long a number is (`length_decimal`).
 use Rattle.std.specs.Prelude.{◌≡◌, refl, ℕ, zero, suc, ◌+◌, ◌-◌, ◌/◌, ◌%◌, ◌^◌, ◌<◌, ◌≤◌, drop, set, replicate}
-use Rattle.std.proofs.Common.{sym, ap, ◌∙◌, add_assoc, add-suc, suc-add, add-zero, zero-add, pow-suc, div-lt_iff_lt-mul, add-one, arith}
+use Rattle.std.proofs.Common.{sym, ap, ◌∙◌, add_assoc, add-suc, suc-add, add-zero, zero-add, pow-suc, div-lt_iff_lt-mul}
+use Rattle.std.proofs.Common.{add-one, arith}
 use mathlib.Core.List.{List, [], ◌∷◌, ◌++◌, append_assoc}
 use Rattle.std.proofs.Math.Decide.{dec_lt}
 use Rattle.std.proofs.Math.Nat.{one-le-pow}
@@ -101,7 +102,8 @@ no_width : (n : ℕ) → right_aligned 0 n ≡ decimal n
 unfolding right_aligned
 no_width n = let e : 0 - length (decimal n) ≡ 0 = omega arith in rw e
 
-pub number_wrote : {l l₁ : List ℕ} {at a : ℕ} (n : ℕ) → Wrote l at (right_aligned 0 n) a l₁ → Wrote l at (decimal n) a l₁
+pub number_wrote : {l l₁ : List ℕ} {at a : ℕ} (n : ℕ) → Wrote l at (right_aligned 0 n) a l₁
+    → Wrote l at (decimal n) a l₁
 number_wrote n w = rw (no_width n) at w
 
 pub field_wrote : {l l₁ : List ℕ} {at a : ℕ} (n end : ℕ) → Wrote l at (column_text 0 n end) a l₁

@@ -1,6 +1,8 @@
 -- The call Advance row after row: what it answers and leaves in every buffer, for every record, every budget and all
--- lists lent. `advance_of` is the whole of it, `advanced` one that is not refused; `dots_due` says how many dots are due.
-use Rattle.std.specs.Prelude.{Bool, cond, List, [], ◌∷◌, ◌++◌, ℕ, zero, suc, ◌+◌, ◌/◌, min, length, take, drop, ℤ, pos, nat_abs}
+-- lists lent. `advance_of` is the whole of it, `advanced` one that is not refused; `dots_due` says how many dots are
+-- due.
+use Rattle.std.specs.Prelude.{Bool, cond, List, [], ◌∷◌, ◌++◌, ℕ, zero, suc, ◌+◌, ◌/◌, min, length, take, drop, ℤ, pos}
+use Rattle.std.specs.Prelude.{nat_abs}
 use Rattle.std.specs.Int.Signed.{lt_z}
 use Rattle.definition.specs.Answers.{Said, finished, more, refused}
 use Rattle.definition.specs.Pyramid.{one_dot, half_dot, needed, cell_count}

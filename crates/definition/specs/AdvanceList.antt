@@ -1,6 +1,6 @@
--- Lists of Advance calls after an accepted Load (`call_of`, `held_after_calls`, `replies_of`), and the model fed with them
--- (`model_call`, `model_after_calls`, `model_replies`). All calls are on the same buffers, which nothing else writes, and
--- each has the record of the call before it: so no record of another side comes in between.
+-- Lists of Advance calls after an accepted Load (`call_of`, `held_after_calls`, `replies_of`), and the model fed with
+-- them (`model_call`, `model_after_calls`, `model_replies`). All calls are on the same buffers, which nothing else
+-- writes, and each has the record of the call before it: so no record of another side comes in between.
 use Rattle.std.specs.Prelude.{Bool, true, false, List, [], ◌∷◌, ◌++◌, map, ℕ, zero, suc, ◌+◌, ◌-◌, ◌^◌, take, drop, ℤ}
 use Rattle.definition.specs.Answers.{Said, returned, finished, more, comparison, refused}
 use Rattle.definition.specs.Diffusion.{kernel_of}

@@ -1,5 +1,5 @@
--- What each value of the public enums says: a `Said`, and for a refusal its number, `number_of`. All other modules speak
--- in these terms.
+-- What each value of the public enums says: a `Said`, and for a refusal its number, `number_of`. All other modules
+-- speak in these terms.
 use Rattle.std.specs.Prelude.{List, [], ◌∷◌, ℕ}
 use Rattle.definition.specs.declared.Refusal.{Refusal}
 use Rattle.definition.specs.declared.Refusal.TheVariants.{

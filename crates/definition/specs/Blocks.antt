@@ -1,5 +1,5 @@
--- The aligned squares of a map (blocks in the code): sums over the cells of one, `block_sum` and `block_sum_z`, its greys
--- and its dots, `grey_sum` and `dots_in`. `total_of` says how many dots a map comes to.
+-- The aligned squares of a map (blocks in the code): sums over the cells of one, `block_sum` and `block_sum_z`, its
+-- greys and its dots, `grey_sum` and `dots_in`. `total_of` says how many dots a map comes to.
 use Rattle.std.specs.Prelude.{cond, List, ℕ, ◌+◌, ◌*◌, ◌/◌, ◌^◌, eqb, get_or, ℤ}
 use Rattle.definition.specs.Lists.{sum_to, sum_z_to}
 use Rattle.definition.specs.Pyramid.{cell_number}

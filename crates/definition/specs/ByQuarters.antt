@@ -1,6 +1,6 @@
--- The calls on a pyramid by quarters: `load_by_quarters`, `advance_by_quarters`, `drill_list_by_quarters`, `restore_by_quarters`
--- and `renewal_by_quarters` write the pyramid lent row after row, make the call on that, and write what it leaves by
--- quarters. And Relay, `relay_of`, which writes the pyramid of an older sheet by quarters.
+-- The calls on a pyramid by quarters: `load_by_quarters`, `advance_by_quarters`, `drill_list_by_quarters`,
+-- `restore_by_quarters` and `renewal_by_quarters` write the pyramid lent row after row, make the call on that, and
+-- write what it leaves by quarters. And Relay, `relay_of`, which writes the pyramid of an older sheet by quarters.
 use Rattle.std.specs.Prelude.{Bool, List, [], ◌∷◌, ◌++◌, ℕ, zero, suc, length, drop, ℤ}
 use Rattle.definition.specs.Answers.{Said, returned, refused}
 use Rattle.definition.specs.Pyramid.{needed}

@@ -1,7 +1,8 @@
 -- Names for stages of a map: what `keep_of` and `restore_of` answer and leave, for every record, value and name and all
 -- lists lent. The value beside the sheet, `Checkpoints`, has the dots kept under each of eight names. Keep writes the
 -- record's dots down under a name, Restore goes back to them.
-use Rattle.std.specs.Prelude.{Bool, false, not, ◌&&◌, List, [], ◌∷◌, ◌++◌, ℕ, zero, suc, ◌-◌, leb, length, get_or, set, drop, ℤ}
+use Rattle.std.specs.Prelude.{Bool, false, not, ◌&&◌, List, [], ◌∷◌, ◌++◌, ℕ, zero, suc, ◌-◌, leb, length, get_or, set}
+use Rattle.std.specs.Prelude.{drop, ℤ}
 use Rattle.definition.specs.Answers.{Said, returned, refused}
 use Rattle.definition.specs.Pyramid.{needed, cell_count}
 use Rattle.definition.specs.Blocks.{grey_total, total_of}

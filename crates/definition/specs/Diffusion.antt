@@ -1,7 +1,8 @@
 -- The spread around a hole, diffusion in the code: the neighbours of a cell (`on_map`), their weights by the knit
--- (`weights_of`), the order in which they come (`places_in_turn`), their shares (`share`) and level r with these taken off
--- (`diffuse`).
-use Rattle.std.specs.Prelude.{Bool, true, false, cond, ◌&&◌, List, [], ◌∷◌, ℕ, zero, suc, ◌+◌, ◌*◌, ◌-◌, ◌/◌, ◌%◌, ◌^◌, leb, eqb, get_or, set, ℤ, pos, ◌-ℤ◌}
+-- (`weights_of`), the order in which they come (`places_in_turn`), their shares (`share`) and level r with these taken
+-- off (`diffuse`).
+use Rattle.std.specs.Prelude.{Bool, true, false, cond, ◌&&◌, List, [], ◌∷◌, ℕ, zero, suc, ◌+◌, ◌*◌, ◌-◌, ◌/◌, ◌%◌, ◌^◌}
+use Rattle.std.specs.Prelude.{leb, eqb, get_or, set, ℤ, pos, ◌-ℤ◌}
 use Rattle.definition.specs.Lists.{sum_to}
 use Rattle.definition.specs.Pyramid.{place_in, in_level}
 

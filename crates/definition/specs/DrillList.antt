@@ -1,5 +1,5 @@
--- The call Drill List row after row: `drill_list_of`, for every record and all lists lent, and `drill_text`, the text of a
--- sheet.
+-- The call Drill List row after row: `drill_list_of`, for every record and all lists lent, and `drill_text`, the text
+-- of a sheet.
 use Rattle.std.specs.Prelude.{Bool, List, [], ◌∷◌, ◌++◌, ℕ, suc, ◌/◌, ◌%◌, ◌^◌, length, take, ℤ}
 use Rattle.definition.specs.Model.{Halftone}
 use Rattle.definition.specs.Sound.{is_sound}

@@ -1,5 +1,5 @@
--- The rows for the pyramid by quarters, `layout_plates`: places worked by hand, whole pyramids of side 4 and side 8 that
--- the reference renamed, each call on them, and Relay. Side 2 looks alike in either layout.
+-- The rows for the pyramid by quarters, `layout_plates`: places worked by hand, whole pyramids of side 4 and side 8
+-- that the reference renamed, each call on them, and Relay. Side 2 looks alike in either layout.
 use Rattle.std.specs.Prelude.{Bool, not, ◌&&◌, List, [], ◌∷◌, ◌++◌, map, ℕ, ◌/◌, ◌%◌, eqb, take, replicate, ℤ, pos}
 use Rattle.definition.specs.Lists.{tabulate, tabulate_from}
 use Rattle.definition.specs.Answers.{Said}
@@ -17,7 +17,8 @@ use Rattle.definition.specs.ByQuarters.{
   relay_of,
 }
 use Rattle.definition.specs.PlateTools.{same, same_z, says, refuses, after_on, after, on_plain}
-use Rattle.definition.specs.Expected.{greys4, order4, serials4, pyramid4, quarters4, greys8, pyramid8, quarters8, quarters_ribbed8}
+use Rattle.definition.specs.Expected.{greys4, order4, serials4, pyramid4, quarters4, greys8, pyramid8, quarters8}
+use Rattle.definition.specs.Expected.{quarters_ribbed8}
 use Rattle.definition.specs.declared.Progress.{Progress}
 
 -- the finished sheet of side 4 with this pyramid: Advance, Drill List into 64 bytes
@@ -91,7 +92,8 @@ layout_plates =
       107,
       same_z (as_quarters 2 (pyramid4 ++ pos 5 ∷ [])) (quarters4 ++ pos 5 ∷ [])
           && same_z (as_rows 2 (quarters4 ++ pos 5 ∷ [])) (pyramid4 ++ pos 5 ∷ [])
-          && same_z (as_quarters 2 (take 20 apart)) (take 20 apart) && same_z (as_rows 2 (take 20 apart)) (take 20 apart),
+          && same_z (as_quarters 2 (take 20 apart)) (take 20 apart)
+          && same_z (as_rows 2 (take 20 apart)) (take 20 apart),
     )
     -- Load and Advance leave the pyramid by quarters, on either cloth (S 2.6, S 7.1, S 7.3, S 15.14)
     ∷ (108, same_z (after 2 greys4 (99 ∷ [])).pyramid (quarters4 ++ pos 9 ∷ []))

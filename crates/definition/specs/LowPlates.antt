@@ -1,5 +1,5 @@
--- The rows for low maps, `low_plates`: no grey above 240 in Load, Map Text, Restore and the programs, and the texts that
--- Lower Text and `convert` make of older ones.
+-- The rows for low maps, `low_plates`: no grey above 240 in Load, Map Text, Restore and the programs, and the texts
+-- that Lower Text and `convert` make of older ones.
 use Rattle.std.specs.Prelude.{Bool, not, ◌&&◌, List, [], ◌∷◌, ◌++◌, ℕ, take, drop, replicate, pos}
 use Rattle.definition.specs.Answers.{Said}
 use Rattle.definition.specs.Refusals.{Row}
@@ -107,7 +107,11 @@ low_plates =
     ∷ (125, reads_nothing (48 ∷ high_text) 4 7 && reads_nothing (map_text 3 (replicate 9 241)) 9 1)
     ∷ (125, reads_nothing high_text 3 2 && reads_nothing (high_text ++ 10 ∷ []) 4 7)
     -- Lower Text: a text with high greys, and one without, which is copied; just enough room (S 9.2, S 15.10)
-    ∷ (126, lowers high_text (10 ∷ 240 ∷ 240 ∷ 240 ∷ []) low_text && lowers low_text (10 ∷ 240 ∷ 240 ∷ 240 ∷ []) low_text)
+    ∷ (
+      126,
+      lowers high_text (10 ∷ 240 ∷ 240 ∷ 240 ∷ []) low_text
+          && lowers low_text (10 ∷ 240 ∷ 240 ∷ 240 ∷ []) low_text,
+    )
     ∷ (126, says (lower_text_of high_text (replicate 4 6) (replicate 17 46)).said (17 ∷ []))
     -- its refusals in turn: a first line that is none, side 3, three places for greys, a text that goes on or has a
     -- grey of 256, 16 places for bytes (S 5.2)

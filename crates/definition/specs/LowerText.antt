@@ -1,5 +1,5 @@
--- The call Lower Text, which makes of a stored map text one that passes: `lower_text_of` is what it answers and leaves in
--- both buffers, for every text and all lists lent.
+-- The call Lower Text, which makes of a stored map text one that passes: `lower_text_of` is what it answers and leaves
+-- in both buffers, for every text and all lists lent.
 use Rattle.std.specs.Prelude.{List, [], ◌∷◌, ◌++◌, ℕ, zero, suc, length, drop}
 use Rattle.definition.specs.Answers.{Said, returned, refused}
 use Rattle.definition.specs.Lowering.{lowered}

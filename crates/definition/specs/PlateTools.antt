@@ -1,5 +1,6 @@
 -- What the plates are told in: equal lists, what was said, and a map loaded and run.
-use Rattle.std.specs.Prelude.{Bool, true, false, cond, ◌&&◌, List, [], ◌∷◌, ◌++◌, map, ℕ, zero, suc, ◌^◌, eqb, take, replicate, ℤ, pos, neg_ℤ}
+use Rattle.std.specs.Prelude.{Bool, true, false, cond, ◌&&◌, List, [], ◌∷◌, ◌++◌, map, ℕ, zero, suc, ◌^◌, eqb, take}
+use Rattle.std.specs.Prelude.{replicate, ℤ, pos, neg_ℤ}
 use Rattle.definition.specs.Lists.{eq_z}
 use Rattle.definition.specs.Answers.{Said, returned, finished, more, comparison, refused, Compared}
 use Rattle.definition.specs.Answers as Answers

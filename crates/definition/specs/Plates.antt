@@ -1,8 +1,9 @@
 -- The plates, computed on the definitions: P1 to P12 as one table, `plates`; further plates, whose figures the
--- reference wrote, as another, `further_plates`; as a third a row for each point that these leave open, `single_plates`;
--- and those of the other plate modules. `plates_hold` proves them all. Rows that make holes ask the calls and the
--- model.
-use Rattle.std.specs.Prelude.{◌≡◌, refl, Bool, true, false, cond, not, ◌&&◌, List, [], ◌∷◌, ◌++◌, map, ℕ, ◌+◌, ◌*◌, ◌/◌, ◌^◌, eqb, length, set, take, replicate, ℤ, pos, ◌+ℤ◌}
+-- reference wrote, as another, `further_plates`; as a third a row for each point that these leave open,
+-- `single_plates`; and those of the other plate modules. `plates_hold` proves them all. Rows that make holes ask the
+-- calls and the model.
+use Rattle.std.specs.Prelude.{◌≡◌, refl, Bool, true, false, cond, not, ◌&&◌, List, [], ◌∷◌, ◌++◌, map, ℕ, ◌+◌, ◌*◌, ◌/◌}
+use Rattle.std.specs.Prelude.{◌^◌, eqb, length, set, take, replicate, ℤ, pos, ◌+ℤ◌}
 use Rattle.definition.specs.Lists.{sum_to, sum_z_to, all_to, tabulate_from, joined, repeated, eq_z}
 use Rattle.definition.specs.Answers.{Said, finished, more, comparison, refused, number_of, Compared}
 use Rattle.definition.specs.Answers as Answers
@@ -828,7 +829,8 @@ all_plates =
 
 -- no row is lost
 pub plates_there : length all_plates ≡ 244
-unfolding plates further_plates single_plates stage_plates knit_plates spread_plates layout_plates low_plates sketch_plates
+unfolding plates further_plates single_plates stage_plates knit_plates spread_plates layout_plates low_plates
+    sketch_plates
 plates_there = refl
 
 -- the plates to work by hand are in `plates` (S 17.1, S 17.2, S 17.3, S 17.4, S 17.5, S 17.6)
@@ -836,39 +838,39 @@ pub plates_hold : first_failing all_plates ≡ 0
 unfolding sum_to sum_z_to all_to tabulate_from joined repeated eq_z number_of start place_in row_at column_at
     level_of in_level entry four coarser pyramid_over block_sum block_sum_z grey_at burnt burnt_at grey_sum grey_total
     dots_in all_dots candidate first_of_equals last_of_equals of_equals choice_of better largest descend weights_of
-    places_in_turn kernel_of within on_map weight_at share diffuse top_of model_start missing place_dot step steps burnt_near
-    every_entry few_dots numbered counted unused summed bounded owing is_sound power_up_to power_of lowest greys_refusal
-    none_high lowered low_map load_refusal loaded load_of dots_due said_at sheet_in advance_refusal advanced advance_of
-    tally_refusal tally_of error_at
+    places_in_turn kernel_of within on_map weight_at share diffuse top_of model_start missing place_dot step steps
+    burnt_near every_entry few_dots numbered counted unused summed bounded owing is_sound power_up_to power_of lowest
+    greys_refusal none_high lowered low_map load_refusal loaded load_of dots_due said_at sheet_in advance_refusal
+    advanced advance_of tally_refusal tally_of error_at
     squared level_sum levels_refusal levels_of digits_up_to decimal right_aligned line line_ends is_digit digits_then
     field_of text_into rows_text map_text values_of read_numbers read_text read_low map_text_of text_kept
     text_lowered lower_text_of dot_lines drill_text drill_list_refusal
     drill_list_of quote_cap figures aligned_line quote_text quote_page_refusal quote_page_of is_near over_these renewed
     is_small entries_small renewable renewal_of next_state grey_of sample_greys state_after sample_of sample_text
-    refused_text finished_of plate_of quote_of_map quote_of_text behind_level convert_of pattern first_difference compared
-    compare_refusal compare_of plate_at is_before insert in_order shelf_refusal shelf_of held_after_load call_of
-    held_after outcomes_of held_after_calls replies_of model_refusal model_call model_reply model_after_calls
+    refused_text finished_of plate_of quote_of_map quote_of_text behind_level convert_of pattern first_difference
+    compared compare_refusal compare_of plate_at is_before insert in_order shelf_refusal shelf_of held_after_load
+    call_of held_after outcomes_of held_after_calls replies_of model_refusal model_call model_reply model_after_calls
     model_replies greys4 order4
     serials4 pyramid4 levels4 greys8 order8 serials8 pyramid8 levels8 greys_flat4 order_flat4 serials_flat4
-    pyramid_flat4 levels_flat4 order_ribbed2 serials_ribbed2 pyramid_ribbed2 order_ribbed4 serials_ribbed4 pyramid_ribbed4
-    order_ribbed8 serials_ribbed8 pyramid_ribbed8 same same_z compared_as said_as refuses loaded_on calls_of after_on
-    model_after_on
+    pyramid_flat4 levels_flat4 order_ribbed2 serials_ribbed2 pyramid_ribbed2 order_ribbed4 serials_ribbed4
+    pyramid_ribbed4 order_ribbed8 serials_ribbed8 pyramid_ribbed8 same same_z compared_as said_as refuses loaded_on
+    calls_of after_on model_after_on
     replied answers_on leaves_on shares_from shares_on total p1 p2 p3 p6 text_p3 list_p3 listed line_p3 quoted owed_with
     altered renews4
     renews8 left_alone samples sample_begins numbers says loads advances lists reads text_of_grey accepts_low
     low_beside gives_back dark_at order_of refused_line plate_refuses quote_refuses text64 text_x level0 text_right
     list_right ten_digits page_p3 turns turns_pyramid compares five_plates shelves shelf_refuses is_name kept_at
     keep_refusal keep_of can_restore restore_refusal restored restore_of keeps keep_refuses restores_p3 is_after
-    goes_back_on stays_there_on restores two_kept caller_at_first return_of caller_after act caller_after_all memory_at_first
-    sheet_at is_kept model_return_refusal or_else model_return model_act memory_after_all count_of counts_of leaves_stage_on
-    kept_three stage_plates keeps_knit other_cell knit_plates spreads spread_plates interleaved row_of column_of quarter_entry
-    quarter_level rows_from quarters_from relaid as_rows as_quarters load_by_quarters advance_by_quarters drill_list_by_quarters
-    restore_by_quarters renewal_by_quarters relay_refusal relay_of quarters4 quarters8 quarters_ribbed8 advances4 lists4
-    restores4
+    goes_back_on stays_there_on restores two_kept caller_at_first return_of caller_after act caller_after_all
+    memory_at_first sheet_at is_kept model_return_refusal or_else model_return model_act memory_after_all count_of
+    counts_of leaves_stage_on kept_three stage_plates keeps_knit other_cell knit_plates spreads spread_plates
+    interleaved row_of column_of quarter_entry quarter_level rows_from quarters_from relaid as_rows as_quarters
+    load_by_quarters advance_by_quarters drill_list_by_quarters restore_by_quarters renewal_by_quarters relay_refusal
+    relay_of quarters4 quarters8 quarters_ribbed8 advances4 lists4 restores4
     apart
     renews_quarters8 relays4 relay_refused layout_plates loads_high loads_nothing restores_high reads_nothing
     lowers_nothing lowers high_text low_text over_text refused_high refused_text7 low_plates paired sketch_text lows_of
-    highs_of pairs_rise caps_of sketch_kept sketch_quoted sketch_refusal sketch_quote_of cap_line sketch_page sketch_of_text
-    sketches_nothing sketches text_two first_pair last_pair page_two page_four refused_fall sketch_refuses sketch_plates
-    plates further_plates single_plates first_failing
+    highs_of pairs_rise caps_of sketch_kept sketch_quoted sketch_refusal sketch_quote_of cap_line sketch_page
+    sketch_of_text sketches_nothing sketches text_two first_pair last_pair page_two page_four refused_fall
+    sketch_refuses sketch_plates plates further_plates single_plates first_failing
 plates_hold = refl

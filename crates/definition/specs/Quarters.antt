@@ -1,7 +1,8 @@
 -- The pyramid by quarters, Morton order: where each entry lies (`interleaved`, `quarter_entry`), and a pyramid written
--- row after row and back (`as_rows`, `as_quarters`). The other definitions read a pyramid row after row; `ByQuarters` has
--- the calls.
-use Rattle.std.specs.Prelude.{true, false, List, ◌++◌, ℕ, zero, suc, ◌+◌, ◌*◌, ◌/◌, ◌%◌, ◌^◌, ltb, length, get_or, drop, ℤ, pos}
+-- row after row and back (`as_rows`, `as_quarters`). The other definitions read a pyramid row after row; `ByQuarters`
+-- has the calls.
+use Rattle.std.specs.Prelude.{true, false, List, ◌++◌, ℕ, zero, suc, ◌+◌, ◌*◌, ◌/◌, ◌%◌, ◌^◌, ltb, length, get_or, drop}
+use Rattle.std.specs.Prelude.{ℤ, pos}
 use Rattle.definition.specs.Lists.{tabulate, joined}
 use Rattle.definition.specs.Pyramid.{start, needed, level_of, entry}
 

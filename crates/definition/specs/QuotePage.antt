@@ -1,5 +1,5 @@
--- The call Quote Page: `quote_page_of`, for every side and level and all lists lent; `quote_text` is the page, `quote_cap`
--- the cap of a square, and `aligned_line` a line of figures in columns.
+-- The call Quote Page: `quote_page_of`, for every side and level and all lists lent; `quote_text` is the page,
+-- `quote_cap` the cap of a square, and `aligned_line` a line of figures in columns.
 use Rattle.std.specs.Prelude.{List, [], ◌∷◌, ◌++◌, ℕ, ◌+◌, ◌*◌, ◌/◌, ◌^◌, min, length}
 use Rattle.definition.specs.Lists.{joined}
 use Rattle.definition.specs.Blocks.{block_side, grey_sum, dots_in}
@@ -48,7 +48,8 @@ quote_text r greys serials k = joined (2 ^ k) (λ a. joined (2 ^ k) (quote_line 
 -- its checks, 1, 2, 4, 6, 8, from the side's power, the lengths lent, the level and the page's length (S 5.2)
 unfoldable pub quote_page_refusal : ℕ → ℕ → ℕ → ℕ → ℕ → ℕ → ℕ
 quote_page_refusal r greys serials k page output =
-    lowest (side_unknown r ∷ greys_short r greys ∷ sheet_short r serials ∷ level_unknown r k ∷ output_short page output ∷ [])
+    lowest (side_unknown r ∷ greys_short r greys ∷ sheet_short r serials ∷ level_unknown r k ∷ output_short page output
+    ∷ [])
 
 -- the whole call: the page in the output, and its length for an answer (S 8.4, S 6.6)
 unfoldable pub quote_page_of : ℕ → List ℕ → List ℕ → ℕ → List ℕ → TextOutcome

@@ -1,6 +1,7 @@
 -- The renewal of the sums above a hole by itself: `renewed` is a pyramid with just these entries summed anew, and
 -- `renewal_of` the call, for any numbers and any pyramid.
-use Rattle.std.specs.Prelude.{Bool, true, false, cond, not, ◌&&◌, ◌||◌, List, ◌++◌, ℕ, zero, suc, ◌+◌, ◌*◌, ◌^◌, leb, ltb, eqb, length, get_or, take, drop, ℤ, pos, neg_ℤ}
+use Rattle.std.specs.Prelude.{Bool, true, false, cond, not, ◌&&◌, ◌||◌, List, ◌++◌, ℕ, zero, suc, ◌+◌, ◌*◌, ◌^◌, leb}
+use Rattle.std.specs.Prelude.{ltb, eqb, length, get_or, take, drop, ℤ, pos, neg_ℤ}
 use Rattle.std.specs.Int.Signed.{le_z}
 use Rattle.definition.specs.Lists.{all_to}
 use Rattle.definition.specs.Pyramid.{start, needed, level_of, in_level, entry, four}

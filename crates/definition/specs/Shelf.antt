@@ -1,6 +1,7 @@
 -- The calls Compare, `compare_of`, on two plates of one side, and Shelf, `shelf_of`, which puts plates in order.
 -- `compared` says how two plates stand by their burnt cells, and `in_order` lists a shelf.
-use Rattle.std.specs.Prelude.{Bool, true, false, List, [], ◌∷◌, ◌++◌, ℕ, zero, suc, ◌*◌, ltb, length, get_or, take, drop}
+use Rattle.std.specs.Prelude.{Bool, true, false, List, [], ◌∷◌, ◌++◌, ℕ, zero, suc, ◌*◌, ltb, length, get_or, take}
+use Rattle.std.specs.Prelude.{drop}
 use Rattle.definition.specs.Answers.{
   Said,
   returned,

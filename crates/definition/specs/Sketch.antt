@@ -1,5 +1,5 @@
--- The program `sketch`: `sketch_of` is what it prints for an input, a line with a level and then a sketch; `sketch_page`
--- is the page.
+-- The program `sketch`: `sketch_of` is what it prints for an input, a line with a level and then a sketch;
+-- `sketch_page` is the page.
 use Rattle.std.specs.Prelude.{List, [], ◌∷◌, ◌++◌, ℕ, zero, suc, ◌*◌, ◌/◌, ◌%◌, ◌^◌, get_or}
 use Rattle.definition.specs.Lists.{joined}
 use Rattle.definition.specs.Blocks.{grey_total, total_of}

@@ -96,13 +96,21 @@ sketch_plates =
     ∷ (134, sketches_nothing (text_two ++ 10 ∷ []) 2 4 4 0 7 && sketches_nothing (map_text 2 low_two) 0 4 4 1 7)
     ∷ (134, sketches_nothing (map_text 2 (1 ∷ 2 ∷ 3 ∷ 4 ∷ 5 ∷ 6 ∷ 7 ∷ 8 ∷ [])) 0 4 4 1 7)
     ∷ (134, sketches_nothing (50 ∷ 10 ∷ 48 ∷ 44 ∷ 49 ∷ 44 ∷ 48 ∷ 44 ∷ 49 ∷ 10 ∷ 48 ∷ 44 ∷ 49 ∷ 10 ∷ []) 0 4 4 1 7)
-    ∷ (134, sketches_nothing (text_two ++ 48 ∷ 44 ∷ 49 ∷ 10 ∷ []) 0 4 4 1 7 && sketches_nothing (last_pair 0 256) 2 4 4 0 7)
+    ∷ (
+      134,
+      sketches_nothing (text_two ++ 48 ∷ 44 ∷ 49 ∷ 10 ∷ []) 0 4 4 1 7
+          && sketches_nothing (last_pair 0 256) 2 4 4 0 7,
+    )
     -- a high grey among highs or lows, before a pair that falls; a pair that falls, before the level; the level before
     -- the caps; too few places for caps (S 5.2, S 9.4)
     ∷ (135, sketches_nothing (first_pair 0 241) 2 4 4 0 12 && sketches_nothing (last_pair 241 9) 2 4 4 0 12)
     ∷ (135, sketches_nothing (sketch_text 2 (9 ∷ 0 ∷ 0 ∷ 0 ∷ []) (8 ∷ 241 ∷ 0 ∷ 0 ∷ [])) 0 4 4 1 12)
     ∷ (135, sketches_nothing (first_pair 10 9) 2 4 4 0 13 && sketches_nothing (last_pair 240 239) 0 4 4 1 13)
-    ∷ (135, sketches_nothing text_two 2 4 4 0 6 && sketches_nothing text_two 1 4 4 3 8 && sketches_nothing text_two 0 5 5 0 8)
+    ∷ (
+      135,
+      sketches_nothing text_two 2 4 4 0 6 && sketches_nothing text_two 1 4 4 3 8
+          && sketches_nothing text_two 0 5 5 0 8,
+    )
     -- the program: totals and caps (S 14.5, S 6.5)
     ∷ (136, same (sketch_of (48 ∷ 10 ∷ text_two)) page_two)
     ∷ (136, same (sketch_of (49 ∷ 10 ∷ sketch_text 4 low_four high_four)) page_four)

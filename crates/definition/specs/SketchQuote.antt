@@ -1,7 +1,8 @@
 -- The call Sketch Quote: what a rough sketch of a map comes to. `sketch_text` is the text of one, which has a pair of
--- numbers for each cell, a low and a high grey; `sketch_quote_of` is what the call answers and leaves in its buffers, for
--- every text and all lists lent.
-use Rattle.std.specs.Prelude.{Bool, true, ◌&&◌, List, [], ◌∷◌, ◌++◌, ℕ, zero, suc, ◌*◌, ◌/◌, ◌%◌, ◌^◌, min, leb, length, drop}
+-- numbers for each cell, a low and a high grey; `sketch_quote_of` is what the call answers and leaves in its buffers,
+-- for every text and all lists lent.
+use Rattle.std.specs.Prelude.{Bool, true, ◌&&◌, List, [], ◌∷◌, ◌++◌, ℕ, zero, suc, ◌*◌, ◌/◌, ◌%◌, ◌^◌, min, leb, length}
+use Rattle.std.specs.Prelude.{drop}
 use Rattle.definition.specs.Lists.{tabulate, repeated}
 use Rattle.definition.specs.Answers.{Said, returned, refused}
 use Rattle.definition.specs.Blocks.{block_side, grey_sum, grey_total, total_of}
@@ -81,7 +82,8 @@ sketch_quoted side pairs k lows highs caps =
 unfoldable pub sketch_refusal : ℕ → List ℕ → ℕ → ℕ → ℕ
 sketch_refusal r pairs k room =
     lowest
-    (grey_high (none_high pairs) ∷ pair_falls (pairs_rise pairs) ∷ level_unknown r k ∷ output_short (2 ^ k * 2 ^ k) room ∷ [])
+    (grey_high (none_high pairs) ∷ pair_falls (pairs_rise pairs) ∷ level_unknown r k ∷ output_short (2 ^ k * 2 ^ k) room
+    ∷ [])
 
 -- The text is read as a map's is, 7, 1, 2, 7, where 2 is for either greys buffer, so for the shorter one (S 6.4,
 -- S 9.4).

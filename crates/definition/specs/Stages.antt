@@ -1,7 +1,8 @@
 -- Lists of Advance, Keep and Restore calls after one Load, each with the record and value that the calls before it left
--- (`caller_after_all`, `answers_of`); and the model fed with them (`memory_after_all`, `model_answers`), in which a name
--- holds the whole sheet, and a return puts that sheet back.
-use Rattle.std.specs.Prelude.{Bool, true, false, ◌&&◌, List, [], ◌∷◌, ◌++◌, map, ℕ, zero, suc, ◌-◌, ◌^◌, get_or, set, take, drop, replicate, ℤ}
+-- (`caller_after_all`, `answers_of`); and the model fed with them (`memory_after_all`, `model_answers`), in which a
+-- name holds the whole sheet, and a return puts that sheet back.
+use Rattle.std.specs.Prelude.{Bool, true, false, ◌&&◌, List, [], ◌∷◌, ◌++◌, map, ℕ, zero, suc, ◌-◌, ◌^◌, get_or, set}
+use Rattle.std.specs.Prelude.{take, drop, replicate, ℤ}
 use Rattle.std.proofs.Math.Option.{Option, some, none}
 use Rattle.definition.specs.Answers.{Said, returned, refused}
 use Rattle.definition.specs.Model.{Halftone, model_start}

@@ -1,6 +1,7 @@
 -- The calls Tally and Levels, which count and measure any serials: `tally_of` and `levels_of`, for every side and all
 -- lists lent.
-use Rattle.std.specs.Prelude.{cond, List, [], ◌∷◌, ℕ, zero, suc, ◌*◌, ◌^◌, leb, length, replicate, ℤ, pos, ◌-ℤ◌, nat_abs}
+use Rattle.std.specs.Prelude.{cond, List, [], ◌∷◌, ℕ, zero, suc, ◌*◌, ◌^◌, leb, length, replicate, ℤ, pos, ◌-ℤ◌}
+use Rattle.std.specs.Prelude.{nat_abs}
 use Rattle.definition.specs.Lists.{sum_to, tabulate}
 use Rattle.definition.specs.Answers.{Said, returned, refused}
 use Rattle.definition.specs.Blocks.{block_sum_z, grey_at, burnt_at, dots_in}

@@ -1,6 +1,7 @@
--- Texts, which are lists of bytes: numbers and lines written (`decimal`, `line`, `right_aligned`) and read (`field_of`),
--- and a text in a lent output (`text_into`).
-use Rattle.std.specs.Prelude.{Bool, true, false, not, ◌&&◌, List, [], ◌∷◌, ◌++◌, ℕ, zero, suc, ◌+◌, ◌*◌, ◌-◌, ◌/◌, ◌%◌, leb, ltb, eqb, length, replicate, drop}
+-- Texts, which are lists of bytes: numbers and lines written (`decimal`, `line`, `right_aligned`) and read
+-- (`field_of`), and a text in a lent output (`text_into`).
+use Rattle.std.specs.Prelude.{Bool, true, false, not, ◌&&◌, List, [], ◌∷◌, ◌++◌, ℕ, zero, suc, ◌+◌, ◌*◌, ◌-◌, ◌/◌, ◌%◌}
+use Rattle.std.specs.Prelude.{leb, ltb, eqb, length, replicate, drop}
 use Rattle.definition.specs.Answers.{Said, returned, refused}
 
 abbrev pub comma : ℕ

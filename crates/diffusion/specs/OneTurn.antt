@@ -1,6 +1,7 @@
 -- What the functions of this crate are asked, and what one turn of the diffusion and the smaller functions give
 -- (`ShareAsked`, `DiffuseAsked`, `PlaceAsked`). The cells lie by quarters; their size is asked of them row after row.
-use Rattle.std.specs.Prelude.{◌≡◌, ◌≢◌, Bool, true, false, ◌&&◌, List, ℕ, zero, suc, ◌+◌, ◌-◌, ◌^◌, ◌≤◌, ◌<◌, ltb, eqb, length, get_or, set, ℤ, pos, ◌-ℤ◌, ◌≤ℤ◌}
+use Rattle.std.specs.Prelude.{◌≡◌, ◌≢◌, Bool, true, false, ◌&&◌, List, ℕ, zero, suc, ◌+◌, ◌-◌, ◌^◌, ◌≤◌, ◌<◌, ltb, eqb}
+use Rattle.std.specs.Prelude.{length, get_or, set, ℤ, pos, ◌-ℤ◌, ◌≤ℤ◌}
 use Rattle.definition.specs.Pyramid.{one_dot, cell_count, place_in, in_level}
 use Rattle.definition.specs.Quarters.{interleaved}
 use Rattle.definition.specs.Diffusion.{row_near, column_near}

@@ -1,5 +1,5 @@
--- Places of a map: where a cell lies among the cells by quarters (`place_in_lem`, `read_there`, `stored_there`), and that
--- the numbers on the way to it are small.
+-- Places of a map: where a cell lies among the cells by quarters (`place_in_lem`, `read_there`, `stored_there`), and
+-- that the numbers on the way to it are small.
 use Rattle.std.specs.Prelude.{◌≡◌, List, ℕ, ◌+◌, ◌*◌, ◌/◌, ◌%◌, ◌^◌, ◌≤◌, ◌<◌, length, get_or, set, ℤ, pos}
 use Rattle.std.proofs.Common.{sym, ap, ◌∙◌, arith, pow_mono, Fits}
 use Rattle.std.specs.Int.{w64}

@@ -45,7 +45,8 @@ module _ {cells : List ℤ} {r at row column : ℕ} (h : PlaceAsked cells r at r
   pub lack_fits : (n : ℕ) → n ≤ one_dot → SFits w64 (pos n -ℤ w)
   lack_fits n k = let b = bounds in rw read (simp words (omega machine))
 
-  cast : T (non_neg (to_z w64 (of_z w64 (pos one_dot -ℤ w)))) × Fits w64 (nat_abs (to_z w64 (of_z w64 (pos one_dot -ℤ w))))
+  cast : T (non_neg (to_z w64 (of_z w64 (pos one_dot -ℤ w))))
+      × Fits w64 (nat_abs (to_z w64 (of_z w64 (pos one_dot -ℤ w))))
   cast = let o = owed in cast_asks64 (lack_fits one_dot (omega arith)) (rw read (simp zz (omega ints)))
 
   pub lack_sign : T (non_neg (to_z w64 (of_z w64 (pos one_dot -ℤ w))))

@@ -1,5 +1,5 @@
--- A dot at a cell of a sound sheet that owes something: the cell is (unburnt kernel fit r big s sized sound row column i j due) (`unburnt`) and owes at most one dot
--- (`owed_most`), and the sheet is sound afterwards (`after_sound`).
+-- A dot at a cell of a sound sheet that owes something: the cell is (unburnt kernel fit r big s sized sound row column
+-- i j due) (`unburnt`) and owes at most one dot (`owed_most`), and the sheet is sound afterwards (`after_sound`).
 use Rattle.std.specs.Prelude.{◌≡◌, ◌⊎◌, false, ℕ, suc, ◌+◌, ◌*◌, ◌-◌, ◌^◌, ◌≤◌, ◌<◌, pos, neg_ℤ, ◌-ℤ◌, ◌≤ℤ◌, ◌<ℤ◌}
 use Rattle.std.proofs.Math.Path.{refl}
 use Rattle.std.proofs.Common.{sym, ap, ap₂, ◌∙◌, inl, inr, arith}
@@ -81,12 +81,14 @@ module _ (kernel : Kernel) (fit : Fit kernel) (r : ℕ) (big : 2 ≤ 2 ^ r) (s :
   pub after_burnt : (x y : ℕ) → x < 2 ^ r → y < 2 ^ r
       → burnt_at r after.serials x y ≡ burnt_at r s.serials x y + δ row x * δ column y
   unfolding place_dot
-  after_burnt = burnt_at_lem r s.serials s.order s.dots sized.serials sized.order row column i j (unburnt kernel fit r big s sized sound row column i j due)
+  after_burnt = burnt_at_lem r s.serials s.order s.dots sized.serials sized.order row column i j
+      (unburnt kernel fit r big s sized sound row column i j due)
 
   ordered_after : Ordered r after.serials after.order after.dots
   unfolding place_dot
   ordered_after =
-      ordered' r s.serials s.order s.dots sized.serials sized.order row column i j (unburnt kernel fit r big s sized sound row column i j due)
+      ordered' r s.serials s.order s.dots sized.serials sized.order row column i j
+      (unburnt kernel fit r big s sized sound row column i j due)
       (sound_ordered sound)
 
   pub after_dots : after.dots ≡ suc s.dots

@@ -70,7 +70,8 @@ pub due_is : (t : ℤ) → dots_due t ≡ (up t + half_dot) / one_dot
 unfolding dots_due
 due_is t = go (lt_z t (pos half_dot)) refl
   where
-    go : (b : Bool) → lt_z t (pos half_dot) ≡ b → cond b 0 ((nat_abs t + half_dot) / one_dot) ≡ (up t + half_dot) / one_dot
+    go : (b : Bool) → lt_z t (pos half_dot) ≡ b → cond b 0 ((nat_abs t + half_dot) / one_dot)
+        ≡ (up t + half_dot) / one_dot
     go true e = omega (ints, up_or_dn t)
     go false e = let z : nat_abs t ≡ up t = omega (ints, nat_abs_is t, up_or_dn t) in rw z
 

@@ -35,4 +35,5 @@ module _ (kernel : Kernel) (fit : Fit kernel) (r : ℕ) (big : 2 ≤ 2 ^ r) wher
       go (yes d) ih = let z : min (suc n) (dots_due (top_of s.pyramid)) ≡ suc n = omega arith in rw z
       go (no d) ih =
           let z : min (suc n) (dots_due (top_of s.pyramid)) ≡ min n (dots_due (top_of s.pyramid)) = omega arith in
-          rw z ih ∙ sym (idle (steps kernel r n s) (omega (arith, steps_due kernel fit r big n s sheet, steps_made kernel fit r big n s sheet)))
+          rw z ih ∙ sym (idle (steps kernel r n s)
+          (omega (arith, steps_due kernel fit r big n s sheet, steps_made kernel fit r big n s sheet)))

@@ -1,7 +1,8 @@
 -- The neighbours of a cell that are burnt: a dot adds one to the count at each cell around it (`near_add`), and takes
 -- from no other cell but its own. So what it takes from a cell is at most one dot's worth for each burnt neighbour more
 -- (`spread_near`).
-use Rattle.std.specs.Prelude.{◌≡◌, refl, ◌≢◌, ◌⊎◌, Bool, true, false, not, ◌&&◌, List, ℕ, ◌+◌, ◌*◌, ◌-◌, ◌/◌, ◌%◌, ◌^◌, ◌≤◌, ◌<◌}
+use Rattle.std.specs.Prelude.{◌≡◌, refl, ◌≢◌, ◌⊎◌, Bool, true, false, not, ◌&&◌, List, ℕ, ◌+◌, ◌*◌, ◌-◌, ◌/◌, ◌%◌, ◌^◌}
+use Rattle.std.specs.Prelude.{◌≤◌, ◌<◌}
 use Rattle.std.proofs.Common.{◌∙◌, inl, inr}
 use Rattle.std.proofs.Math.Bool.{cond}
 use native.Mathlib.Omega.{arith}
@@ -67,13 +68,15 @@ pub near_add : (r : ℕ) (f g h : ℕ → ℕ → ℕ) (x y : ℕ) → ((u v : �
     → near r f x y ≡ near r g x y + near r h x y
 unfolding near
 near_add r f g h x y e =
-    sum_to_ext< 9 _ _ (λ p k. at p (not (eqb p 4) && on_map r x y p) (λ t. (T_and (not (eqb p 4)) (on_map r x y p) t).1))
+    sum_to_ext< 9 _ _
+    (λ p k. at p (not (eqb p 4) && on_map r x y p) (λ t. (T_and (not (eqb p 4)) (on_map r x y p) t).1))
     ∙ sum_to_add 9 _ _
   where
     at : (p : ℕ) (b : Bool) → (T b → T (on_map r x y p))
         → cond b (f (row_near x p - 1) (column_near y p - 1)) 0 ≡ cond b (g (row_near x p - 1) (column_near y p - 1)) 0
         + cond b (h (row_near x p - 1) (column_near y p - 1)) 0
-    at p true t = let o = on_map_lem r x y p (t tt) in e (row_near x p - 1) (column_near y p - 1) (omega arith) (omega arith)
+    at p true t = let o = on_map_lem r x y p (t tt) in
+        e (row_near x p - 1) (column_near y p - 1) (omega arith) (omega arith)
     at p false t = refl
 
 -- ---- the spread of one dot
@@ -128,7 +131,8 @@ module _ (kernel : Kernel) (fit : Fit kernel) (r row column d : ℕ) (i : row < 
       (weight_is kernel r row column n ∙ rw (q, fit.hollow) (omega arith))) (omega arith)
     where
       go : (m : ℕ) → row_near x m ≡ row + 1 → column_near y m ≡ column + 1 → m ≢ 4 → m < 9
-          → 0 < sum_to 9 (λ q. cond (not (eqb q 4) && on_map r x y q) (point (row_near x q - 1) (column_near y q - 1)) 0)
+          → 0 < sum_to 9 (λ q. cond (not (eqb q 4) && on_map r x y q) (point (row_near x q - 1) (column_near y q - 1))
+          0)
       go m u v ne lt =
           let on = and_T (not (eqb m 4)) (on_map r x y m) (ne→neqb m 4 ne)
           (map_on r x y m (omega arith) (omega arith) (omega arith) (omega arith)) in

@@ -3,7 +3,8 @@
 -- stay (`placed_sized`), and the pyramid is summed anew (`placed_summed`).
 use Rattle.std.specs.Prelude.{◌≡◌, ◌⊎◌, List, set, drop, ℤ, ◌-ℤ◌}
 use Rattle.std.proofs.Math.Path.{sym, ap}
-use Rattle.std.proofs.Common.{◌∙◌, inl, inr, arith, add-zero, one-mul, zero-mul, length-drop, get_or-set_same, eq-eqb, ne_eqb}
+use Rattle.std.proofs.Common.{◌∙◌, inl, inr, arith, add-zero, one-mul, zero-mul, length-drop, get_or-set_same, eq-eqb}
+use Rattle.std.proofs.Common.{ne_eqb}
 use Prim.Native.Nat.{ℕ, zero, suc, ◌+◌, ◌*◌, ◌-◌, ◌^◌, ◌≤◌, ◌<◌}
 use Rattle.std.proofs.Math.Nat.{mul-zero}
 use Rattle.std.proofs.Math.Decide.{ℕ_discrete}
@@ -11,7 +12,8 @@ use Rattle.std.proofs.Math.ListN.{length, get_or, length-set}
 use Rattle.std.proofs.Math.Seq.{get_or-set_other}
 use Rattle.std.proofs.Math.IntN.{pos, nat_abs}
 use Rattle.definition.specs.Lists.{sum_to}
-use Rattle.definition.specs.Pyramid.{one_dot, cell_count, cell_number, start, needed, place_in, in_level, entry, pyramid_over}
+use Rattle.definition.specs.Pyramid.{one_dot, cell_count, cell_number, start, needed, place_in, in_level, entry}
+use Rattle.definition.specs.Pyramid.{pyramid_over}
 use Rattle.definition.specs.Diffusion.{Kernel, row_near, column_near, weight_at, share, diffuse}
 use Rattle.definition.specs.Model.{Halftone, missing, place_dot}
 use Rattle.integers.specs.Linear.{zz, ints}
@@ -47,7 +49,8 @@ module _ (r : ℕ) (cells : List ℤ) (long : length cells ≡ cell_count r) (ro
   level_fall x y p q = go (hit row column x y)
     where
       go : ((row ≡ x) × (column ≡ y)) ⊎ (δ row x * δ column y ≡ 0)
-          → get_or (set cells (place_in r row column) (get_or cells (place_in r row column) (pos 0) -ℤ pos v)) (place_in r x y)
+          → get_or (set cells (place_in r row column) (get_or cells (place_in r row column) (pos 0) -ℤ pos v))
+          (place_in r x y)
           (pos 0) ≡ get_or cells (place_in r x y) (pos 0) -ℤ pos (δ row x * δ column y * v)
       go (inl e) =
           rw (← e.0, ← e.1, δδ_same row column, one-mul)

@@ -1,7 +1,8 @@
 -- The list written line by line (`head_wrote`, `dot_wrote`, `list_wrote`), and into a buffer that has room for it
 -- (`list_written`) or not (`list_short`).
 use Rattle.std.specs.Prelude.{◌≡◌, refl, List, [], ◌∷◌, ◌++◌, ℕ, suc, ◌+◌, ◌-◌, ◌/◌, ◌%◌, ◌^◌, ◌<◌, ◌≤◌, get_or, take}
-use Rattle.std.proofs.Common.{sym, ap, ◌∙◌, append_assoc, append-nil, add-zero, div-le_self, add-one, pow_pos, pow_mono, length-append, take-suc, length-take-le}
+use Rattle.std.proofs.Common.{sym, ap, ◌∙◌, append_assoc, append-nil, add-zero, div-le_self, add-one, pow_pos, pow_mono}
+use Rattle.std.proofs.Common.{length-append, take-suc, length-take-le}
 use Rattle.std.proofs.Math.Nat.{zero-add, mod-le}
 use native.Mathlib.Omega.{arith}
 use borrow.Author.Tests.{lt-ltb, le-ltb}

@@ -42,7 +42,8 @@ record Found (n : ℕ → ℕ) (text : List ℕ) (room side : ℕ) (values : Lis
 -- on each line there is a number, where there is a line
 module _ (n : ℕ → ℕ) (some_a_line : (side : ℕ) → 0 < side → 0 < n side) where
   pub text_fields : (side : ℕ) (values : List ℕ) → 0 < side → length values ≡ side * n side
-      → line (side ∷ []) ++ rows_text (n side) side values ≡ decimal side ++ newline ∷ fields_text values (ends_by n side)
+      → line (side ∷ []) ++ rows_text (n side) side values ≡ decimal side ++ newline
+      ∷ fields_text values (ends_by n side)
   unfolding line
   text_fields side values p h = rw (append_snoc, rows_text_fields (n side) side values (some_a_line side p) h)
 

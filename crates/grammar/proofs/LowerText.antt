@@ -73,7 +73,8 @@ module _ {text : List ℕ} {room side : ℕ} {values : List ℕ} (m : MapOf text
       ∙ sym (ap length (m.bytes ∙ map_text_fields side values p m.count))
 
   -- their text is one that Map Text takes, wherever they fit
-  lowered_map : (room' : ℕ) → side * side ≤ room' → LowMapOf (map_text side (lowered values)) room' side (lowered values)
+  lowered_map : (room' : ℕ) → side * side ≤ room'
+      → LowMapOf (map_text side (lowered values)) room' side (lowered values)
   lowered_map room' h =
       let low = low_at (lowered values) (lowered_low values) in
       record {
@@ -163,7 +164,8 @@ converted text greys output n e = go (read_map text (length greys)) refl
     refused_not : (k : ℕ) → refused k ≡ returned (n ∷ []) → ⊥
     refused_not k f = suc-ne-zero 0 (cc)
 
-    go : (o : Reading) → read_map text (length greys) ≡ o → Converted text greys output n (lower_text_of text greys output)
+    go : (o : Reading) → read_map text (length greys) ≡ o
+        → Converted text greys output n (lower_text_of text greys output)
     go (rejected k) q = absurd (refused_not k (rw (q, lower_text_of) at e))
     go (accepted side values) q =
         let m = (grammar text (length greys) side values).0 q in

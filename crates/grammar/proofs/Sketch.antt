@@ -1,7 +1,8 @@
 -- The grammar of sketches: pairs taken apart into lows and highs and put together again (`apart`); the text that the
 -- call takes, told by its lows and highs (`sketch_read_iff`); what the call answers and leaves on such a text
 -- (`sketch_outcome`), and that on no other it returns figures (`sketch_returned_iff`).
-use Rattle.std.specs.Prelude.{◌≡◌, true, not, List, [], ◌∷◌, ◌++◌, ◌↔◌, ℕ, zero, suc, ◌*◌, ◌^◌, ◌<◌, ◌≤◌, min, leb, ltb, drop}
+use Rattle.std.specs.Prelude.{◌≡◌, true, not, List, [], ◌∷◌, ◌++◌, ◌↔◌, ℕ, zero, suc, ◌*◌, ◌^◌, ◌<◌, ◌≤◌, min, leb, ltb}
+use Rattle.std.specs.Prelude.{drop}
 use Rattle.std.proofs.Math.Path.{refl}
 use Rattle.std.proofs.Common.{ap, ◌∙◌, suc-ne-zero, ltb-false, le-ltb, leb-true, le-leb}
 use native.Mathlib.Omega.{arith}
@@ -111,7 +112,8 @@ abbrev double : ℕ → ℕ
 double side = 2 * side
 
 -- the pairs of an accepted text are as many as the cells
-pub read_apart : (text : List ℕ) (room side : ℕ) (pairs : List ℕ) → read_text sketch_ends text room ≡ accepted side pairs
+pub read_apart : (text : List ℕ) (room side : ℕ) (pairs : List ℕ) → read_text sketch_ends text room
+    ≡ accepted side pairs
     → Apart (side * side) pairs
 read_apart text room side pairs e =
     let t = (text_read_iff double (λ side p. omega arith) text room side pairs).0 e in

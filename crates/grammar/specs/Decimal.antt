@@ -9,7 +9,8 @@ digits_up_to_below_ten : (most n : ℕ) → n < 10 → digits_up_to (suc most) n
 unfolding digits_up_to
 digits_up_to_below_ten most n h = rw (lt-ltb n 10 h, digits_up_to)
 
-digits_up_to_from_ten : (most n : ℕ) → 10 ≤ n → digits_up_to (suc most) n ≡ digits_up_to most (n / 10) ++ (48 + n % 10) ∷ []
+digits_up_to_from_ten : (most n : ℕ) → 10 ≤ n → digits_up_to (suc most) n ≡ digits_up_to most (n / 10) ++ (48 + n % 10)
+    ∷ []
 unfolding digits_up_to
 digits_up_to_from_ten most n h = rw (le-ltb n 10 h, digits_up_to)
 

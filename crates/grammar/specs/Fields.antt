@@ -134,7 +134,8 @@ module _ (most end : ℕ) where
     pub field_of_decimal : (n : ℕ) (text : List ℕ) → n ≤ most
         → field_of most end (decimal n ++ text) ≡ digits_then most end n text
     field_of_decimal =
-        by_digits (λ n. (text : List ℕ) → n ≤ most → field_of most end (decimal n ++ text) ≡ digits_then most end n text)
+        by_digits (λ n. (text : List ℕ) → n ≤ most → field_of most end (decimal n ++ text)
+        ≡ digits_then most end n text)
         field_of_below_ten
         (λ v d p h ih text k.
         rw (decimal_snoc v d p h, append_snoc, ih ((48 + d) ∷ text) (omega arith), digits_then_snoc v d text p h k))

@@ -2,7 +2,8 @@
 -- of at most `most` from their fields (`values_of_fields`), and from no other text (`fields_of_values`).
 use Rattle.std.specs.Prelude.{◌≡◌, false, ◌↔◌, length, get_or, take, drop, replicate}
 use Rattle.std.proofs.Math.Path.{refl, ap}
-use Rattle.std.proofs.Common.{sym, ◌∙◌, suc-mul, suc-ne-zero, arith, take-append-drop, length-append, length-drop, length-take-le}
+use Rattle.std.proofs.Common.{sym, ◌∙◌, suc-mul, suc-ne-zero, arith, take-append-drop, length-append, length-drop}
+use Rattle.std.proofs.Common.{length-take-le}
 use mathlib.Core.List.{List, [], ◌∷◌, ◌++◌, append_assoc}
 use Rattle.std.proofs.Math.Option.{some, none}
 use Prim.Native.Nat.{ℕ, zero, suc, ◌-◌, ◌*◌, ◌<◌, ◌≤◌}

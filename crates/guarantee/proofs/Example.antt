@@ -82,13 +82,13 @@ abbrev calls : List Call
 calls = call 0 6 ∷ call 1 4 ∷ call 1 6 ∷ call 1 5 ∷ []
 
 accepted : Accepted 2 plain greys pyramid sheet sheet
-unfolding load_by_quarters as_rows relaid rows_from joined level_of tabulate_from load_of load_refusal low_map none_high loaded
-    lowest power_of power_up_to start
+unfolding load_by_quarters as_rows relaid rows_from joined level_of tabulate_from load_of load_refusal low_map none_high
+    loaded lowest power_of power_up_to start
 accepted = record { bytes = (omega arith, (omega arith, (omega arith, (omega arith, tt)))); said = refl }
 
 accepted_ribbed : Accepted 2 ribbed greys pyramid sheet sheet
-unfolding load_by_quarters as_rows relaid rows_from joined level_of tabulate_from load_of load_refusal low_map none_high loaded
-    lowest power_of power_up_to start
+unfolding load_by_quarters as_rows relaid rows_from joined level_of tabulate_from load_of load_refusal low_map none_high
+    loaded lowest power_of power_up_to start
 accepted_ribbed = record { bytes = accepted.bytes; said = refl }
 
 pub holds_here : PriceList 2 plain greys pyramid sheet sheet calls
@@ -103,7 +103,8 @@ dark = 255 ∷ 255 ∷ 255 ∷ 255 ∷ []
 
 pub holds_before :
     HoldsFrom
-    (held_of plain 1 (model_start 1 dark) (drop (needed 1) pyramid) (drop (cell_count 1) sheet) (drop (cell_count 1) sheet))
+    (held_of plain 1 (model_start 1 dark) (drop (needed 1) pyramid) (drop (cell_count 1) sheet)
+    (drop (cell_count 1) sheet))
     plain 1 dark pyramid sheet sheet calls
 holds_before =
     loaded_before 1 plain (omega arith) (omega arith) (omega arith) dark
@@ -124,10 +125,10 @@ given knit = replies_of (held_after_load 2 knit greys pyramid sheet sheet) calls
 pub replies_here : (given plain ≡ replies plain) × (given ribbed ≡ replies ribbed)
 unfolding sum_to all_to tabulate_from eq_z start place_in row_at column_at level_of in_level entry four coarser
     pyramid_over grey_at burnt burnt_at candidate first_of_equals last_of_equals of_equals choice_of better largest
-    descend weights_of places_in_turn kernel_of within on_map weight_at share diffuse top_of model_start missing place_dot
-    step steps burnt_near every_entry few_dots numbered counted unused summed bounded owing is_sound power_up_to power_of
-    lowest load_refusal low_map none_high loaded load_of dots_due said_at sheet_in advance_refusal advanced advance_of
-    held_after_load call_of
-    held_after outcomes_of replies_of interleaved row_of column_of quarter_entry quarter_level rows_from quarters_from relaid
-    as_rows as_quarters joined load_by_quarters advance_by_quarters
+    descend weights_of places_in_turn kernel_of within on_map weight_at share diffuse top_of model_start missing
+    place_dot step steps burnt_near every_entry few_dots numbered counted unused summed bounded owing is_sound
+    power_up_to power_of lowest load_refusal low_map none_high loaded load_of dots_due said_at sheet_in advance_refusal
+    advanced advance_of held_after_load call_of
+    held_after outcomes_of replies_of interleaved row_of column_of quarter_entry quarter_level rows_from quarters_from
+    relaid as_rows as_quarters joined load_by_quarters advance_by_quarters
 replies_here = (refl, refl)

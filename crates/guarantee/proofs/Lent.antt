@@ -1,7 +1,8 @@
 -- Buffers that begin with a sheet. A part of one is lent, from its first place on (`lent_part`), and comes back in
 -- front of what was not lent (`lent_back`); of a pyramid by quarters likewise (`rows_part`, `rows_over`).
 use Rattle.std.specs.Prelude.{◌≡◌, List, ◌++◌, ℕ, ◌+◌, ◌-◌, ◌^◌, ◌≤◌, ◌<◌, ltb, ℤ, length, take, drop}
-use Rattle.std.proofs.Common.{sym, ap, ap₂, ◌∙◌, append_assoc, arith, length-take, length-append, take-append-drop, take-take, take_at, drop_at, take-add, drop-drop, lt-ltb, le-ltb}
+use Rattle.std.proofs.Common.{sym, ap, ap₂, ◌∙◌, append_assoc, arith, length-take, length-append, take-append-drop}
+use Rattle.std.proofs.Common.{take-take, take_at, drop_at, take-add, drop-drop, lt-ltb, le-ltb}
 use Rattle.std.proofs.Math.Decide.{dec_lt}
 use Rattle.definition.specs.Model.{Halftone}
 use Rattle.definition.specs.Quarters.{rows_from, quarters_from, as_rows, as_quarters}

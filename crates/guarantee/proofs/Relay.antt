@@ -13,7 +13,8 @@ use Rattle.definition.specs.Pyramid.{needed, cell_count}
 use Rattle.definition.specs.Diffusion.{kernel_of}
 use Rattle.definition.specs.Model.{Halftone, top_of, steps}
 use Rattle.definition.specs.Sound.{is_sound}
-use Rattle.definition.specs.Refusals.{power_of, side_unknown, knit_unknown, sheet_short, sheet_unsound, output_short, lowest}
+use Rattle.definition.specs.Refusals.{power_of, side_unknown, knit_unknown, sheet_short, sheet_unsound, output_short}
+use Rattle.definition.specs.Refusals.{lowest}
 use Rattle.definition.specs.Advance.{AdvanceOutcome, dots_due, said_at, sheet_in, advance_refusal, advanced, advance_of}
 use Rattle.definition.specs.Text.{text_into}
 use Rattle.definition.specs.DrillList.{drill_text, drill_list_refusal, drill_list_of}

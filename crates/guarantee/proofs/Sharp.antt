@@ -50,7 +50,8 @@ computed = tt
 
 pub cap : EachBlock 4 (UnderCap 4 greys serials)
 cap k a b h u v =
-    ltb→lt _ _ (every_entry_at k (under k) (all_to_at 5 (λ k. every_entry k (under k)) computed k (omega arith)) a b u v)
+    ltb→lt _ _ (every_entry_at k (under k) (all_to_at 5 (λ k. every_entry k (under k)) computed k (omega arith)) a b u
+    v)
 
 pub total : all_dots 4 serials ≡ total_of (grey_total 4 greys)
 unfolding all_dots grey_total grey_sum dots_in block_sum sum_to grey_at burnt_at burnt repeated

@@ -112,7 +112,8 @@ module _ (r : ℕ) (greys : List ℕ) (bytes : Each (λ grey. grey ≤ 255) grey
   fresh_residue : (p q n : ℕ) → p + n ≤ 2 ^ r → q + n ≤ 2 ^ r
       → area_z p q n (entry fresh.pyramid r) ≡ pos (256 * area p q n (grey_at r greys))
   fresh_residue p q n low wide =
-      area_z_ext p q n _ (λ x y. pos (256 * grey_at r greys x y)) (λ x y i j. fresh_entry x y (omega arith) (omega arith))
+      area_z_ext p q n _ (λ x y. pos (256 * grey_at r greys x y))
+      (λ x y i j. fresh_entry x y (omega arith) (omega arith))
       ∙ area_z_pos p q n (λ x y. 256 * grey_at r greys x y)
       ∙ ap pos (area_mul p q n 256 (grey_at r greys))
 

@@ -1,6 +1,7 @@
 -- The price list as one statement about a whole list of calls, with its own figures: `Holds`, where Load has accepted
 -- (`Accepted`). `Theorem` proves it, and `Clauses` says it again field by field.
-use Rattle.std.specs.Prelude.{◌≡◌, ◌≢◌, ◌↔◌, false, List, [], ◌∷◌, ℕ, ◌+◌, ◌*◌, ◌-◌, ◌^◌, ◌≤◌, ◌<◌, min, get_or, take, drop, ℤ, pos, ◌+ℤ◌, ◌<ℤ◌}
+use Rattle.std.specs.Prelude.{◌≡◌, ◌≢◌, ◌↔◌, false, List, [], ◌∷◌, ℕ, ◌+◌, ◌*◌, ◌-◌, ◌^◌, ◌≤◌, ◌<◌, min, get_or, take}
+use Rattle.std.specs.Prelude.{drop, ℤ, pos, ◌+ℤ◌, ◌<ℤ◌}
 use Rattle.definition.specs.Answers.{returned, finished}
 use Rattle.definition.specs.Pyramid.{one_dot, half_dot, needed, cell_count}
 use Rattle.definition.specs.Blocks.{block_side, grey_sum, grey_total, total_of, dots_in, all_dots}
@@ -40,7 +41,8 @@ pub record Accepted (side knit : ℕ) (greys : List ℕ) (pyramid : List ℤ) (s
 
 -- The holes of an aligned square of side s with grey sum g: the cap (S 15.4) ..
 abbrev pub UnderCap : ℕ → List ℕ → List ℕ → ℕ → ℕ → ℕ → Type 0
-UnderCap r greys serials k a b = 765 * dots_in r serials k a b < 3 * grey_sum r greys k a b + 765 + 1020 * block_side r k
+UnderCap r greys serials k a b = 765 * dots_in r serials k a b < 3 * grey_sum r greys k a b + 765
+    + 1020 * block_side r k
 
 -- .. and the floor, for a finished map (S 15.5): 510 × holes > 2 × g − 255 − 1,530 × k − 2,040 × (N − s), with what is
 -- taken away on the other side (s is at most N, so N − s is a natural number)

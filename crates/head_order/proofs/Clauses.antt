@@ -1,6 +1,7 @@
 -- Each clause of what is promised by itself, with its figures written out: no field can be taken out of `HeadsHold` or
 -- `OwnCells`, and no figure in them changed, unseen. The last law, `everyone`, says what is accepted.
-use Rattle.std.specs.Prelude.{◌≡◌, ◌≢◌, true, List, [], ◌∷◌, ℕ, suc, ◌+◌, ◌*◌, ◌-◌, ◌/◌, ◌^◌, ◌≤◌, ◌<◌, length, get_or, take, drop, ℤ, pos, ◌+ℤ◌}
+use Rattle.std.specs.Prelude.{◌≡◌, ◌≢◌, true, List, [], ◌∷◌, ℕ, suc, ◌+◌, ◌*◌, ◌-◌, ◌/◌, ◌^◌, ◌≤◌, ◌<◌, length, get_or}
+use Rattle.std.specs.Prelude.{take, drop, ℤ, pos, ◌+ℤ◌}
 use Rattle.std.proofs.Common.{sym, ap, ◌∙◌, arith, pow_mono}
 use Rattle.definition.specs.Answers.{returned}
 use Rattle.definition.specs.Pyramid.{needed, cell_count, entry}

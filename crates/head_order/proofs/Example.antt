@@ -1,7 +1,8 @@
 -- An instance, so that `HeadsHold` is seen to speak of something: side 16 on plain cloth, dark in the cells (1, 1) and
 -- (1, 9), which lie in two macroblocks of the first round. The buffers are one place longer than needed. Worked the
 -- other way round, the two holes swap their serials (`serials_differ`): only the cells are the same in every order.
-use Rattle.std.specs.Prelude.{◌≡◌, refl, ◌≢◌, true, List, [], ◌∷◌, ◌++◌, ℕ, zero, suc, ◌≤◌, length, get_or, replicate, ℤ, pos}
+use Rattle.std.specs.Prelude.{◌≡◌, refl, ◌≢◌, true, List, [], ◌∷◌, ◌++◌, ℕ, zero, suc, ◌≤◌, length, get_or, replicate}
+use Rattle.std.specs.Prelude.{ℤ, pos}
 use Rattle.std.proofs.Common.{ap, arith}
 use Rattle.definition.specs.Lists.{sum_to, tabulate_from}
 use Rattle.definition.specs.Pyramid.{
@@ -104,16 +105,16 @@ swapped_is (suc t) = reordered_refl (macroblocks 4 (suc t))
 -- cell (1, 1) has number 17
 serial_here : get_or (two_heads (kernel_of plain) 4 greys).serials 17 0 ≡ 1
 unfolding sum_to tabulate_from start place_in row_at column_at level_of in_level entry four coarser pyramid_over grey_at
-    candidate first_of_equals better largest descend weights_of places_in_turn kernel_of within on_map weight_at share diffuse
-    model_start missing place_dot block_sums macroblock_sum wanted clear burns work work_all macroblocks rounds most_rounds
-    two_heads_in two_heads
+    candidate first_of_equals better largest descend weights_of places_in_turn kernel_of within on_map weight_at share
+    diffuse model_start missing place_dot block_sums macroblock_sum wanted clear burns work work_all macroblocks rounds
+    most_rounds two_heads_in two_heads
 serial_here = refl
 
 serial_there : get_or (two_heads_in (kernel_of plain) 4 swapped greys).serials 17 0 ≡ 2
 unfolding sum_to tabulate_from start place_in row_at column_at level_of in_level entry four coarser pyramid_over grey_at
-    candidate first_of_equals better largest descend weights_of places_in_turn kernel_of within on_map weight_at share diffuse
-    model_start missing place_dot block_sums macroblock_sum wanted clear burns work work_all macroblocks rounds most_rounds
-    two_heads_in swapped
+    candidate first_of_equals better largest descend weights_of places_in_turn kernel_of within on_map weight_at share
+    diffuse model_start missing place_dot block_sums macroblock_sum wanted clear burns work work_all macroblocks rounds
+    most_rounds two_heads_in swapped
 serial_there = refl
 
 pub serials_differ :

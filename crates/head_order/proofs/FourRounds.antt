@@ -18,7 +18,8 @@ round_turn r u v e =
 
 module _ (kernel : Kernel) (fit : Fit kernel) (r : ℕ) (four≤ : 4 ≤ r) where
   -- four rounds are all rounds
-  pub still_all : (t : ℕ) (s : Halftone) → 4 ≤ t → Quiet kernel fit r four≤ t 4 s → (u : ℕ) → work_all kernel r s (macroblocks r u) ≡ s
+  pub still_all : (t : ℕ) (s : Halftone) → 4 ≤ t → Quiet kernel fit r four≤ t 4 s → (u : ℕ)
+      → work_all kernel r s (macroblocks r u) ≡ s
   still_all t s h q u =
       let v = t - 4 + (u + 4 * t - (t - 4)) % 4 in
       ap (work_all kernel r s) (round_turn r u v (omega arith)) ∙ q v (omega arith) (omega arith)

@@ -1,7 +1,8 @@
 -- What two heads need in order to work at the same time. A macroblock reads the residuals of its own 64 cells only, and
 -- changes no other cell (`OwnCells`, `own_cells`); and two macroblocks of one round have no cell in common
 -- (`round_places_apart`; `round_apart` of `Orders` says it of the list).
-use Rattle.std.specs.Prelude.{◌≡◌, refl, Bool, true, false, List, [], ◌∷◌, ℕ, zero, suc, ◌+◌, ◌*◌, ◌^◌, ◌≤◌, ◌<◌, length, get_or, ℤ, pos, ◌-ℤ◌}
+use Rattle.std.specs.Prelude.{◌≡◌, refl, Bool, true, false, List, [], ◌∷◌, ℕ, zero, suc, ◌+◌, ◌*◌, ◌^◌, ◌≤◌, ◌<◌}
+use Rattle.std.specs.Prelude.{length, get_or, ℤ, pos, ◌-ℤ◌}
 use Rattle.std.proofs.Common.{sym, ap, ap₂, ◌∙◌, arith}
 use Rattle.definition.specs.Pyramid.{entry}
 use Rattle.definition.specs.Blocks.{burnt_at}

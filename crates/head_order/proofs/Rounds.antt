@@ -1,5 +1,5 @@
--- Rounds, as a loop makes them: what a run keeps (`State` of `RoundState`, with `start_state` and `next_state_lem`), one round more
--- (`rounds_on`), the end (`rounds_over`), and that a run ends only where no round makes a hole (`runs`).
+-- Rounds, as a loop makes them: what a run keeps (`State` of `RoundState`, with `start_state` and `next_state_lem`),
+-- one round more (`rounds_on`), the end (`rounds_over`), and that a run ends only where no round makes a hole (`runs`).
 use Rattle.std.specs.Prelude.{◌≡◌, ◌⊎◌, Bool, cond, eqb, ℤ, pos, ◌-ℤ◌}
 use Rattle.std.proofs.Math.Path.{refl}
 use Rattle.std.proofs.Common.{sym, ap, ◌∙◌, inl, arith}
@@ -97,7 +97,8 @@ module _ (kernel : Kernel) (fit : Fit kernel) (r : ℕ) (four≤ : 4 ≤ r) wher
       go false e = inr (work_idle kernel r s m e)
 
   -- ---- a list of macroblocks
-  all_balance : (z : ℤ) (ms : List Macroblock) → Each (Fits r) ms → (s : Halftone) → Sheet r s → Balance kernel fit r four≤ z s
+  all_balance : (z : ℤ) (ms : List Macroblock) → Each (Fits r) ms → (s : Halftone) → Sheet r s
+      → Balance kernel fit r four≤ z s
       → Balance kernel fit r four≤ z (work_all kernel r s ms)
   unfolding work_all
   all_balance z [] f s sheet h = h
@@ -121,17 +122,20 @@ module _ (kernel : Kernel) (fit : Fit kernel) (r : ℕ) (four≤ : 4 ≤ r) wher
   abbrev idle_next : ℕ → ℕ → Halftone → ℕ
   idle_next t idle s = next_idle kernel r (macroblocks r) t idle s
 
-  pub state_fuel : (z : ℤ) (fuel t idle : ℕ) (s : Halftone) → State kernel fit r four≤ z fuel t idle s → idle < 4 → 0 < fuel
+  pub state_fuel : (z : ℤ) (fuel t idle : ℕ) (s : Halftone) → State kernel fit r four≤ z fuel t idle s → idle < 4
+      → 0 < fuel
   state_fuel z fuel t idle s h lt = omega (arith, h.enough)
 
-  pub next_state_lem : (z : ℤ) (fuel t idle : ℕ) (s : Halftone) → State kernel fit r four≤ z (suc fuel) t idle s → idle < 4
+  pub next_state_lem : (z : ℤ) (fuel t idle : ℕ) (s : Halftone) → State kernel fit r four≤ z (suc fuel) t idle s
+      → idle < 4
       → State kernel fit r four≤ z fuel (suc t) (idle_next t idle s) (after t s)
   next_state_lem z fuel t idle s h lt = go (all_grows (macroblocks r t) (round_fits r t) s h.sheet)
     where
       sheet' : Sheet r (after t s)
       sheet' = all_sheet kernel fit r four≤ (macroblocks r t) (round_fits r t) s h.sheet
 
-      go : (s.dots < (after t s).dots) ⊎ (after t s ≡ s) → State kernel fit r four≤ z fuel (suc t) (idle_next t idle s) (after t s)
+      go : (s.dots < (after t s).dots) ⊎ (after t s ≡ s) → State kernel fit r four≤ z fuel (suc t) (idle_next t idle s)
+          (after t s)
       go (inl g) =
           rw (ne_eqb (after t s).dots s.dots (λ e. omega arith))
           (record {
@@ -158,7 +162,8 @@ module _ (kernel : Kernel) (fit : Fit kernel) (r : ℕ) (four≤ : 4 ≤ r) wher
           last u lo hi (no z) = h.quiet u (omega arith) (omega arith)
 
   -- the same for a loop that counts its fuel down from a number that it knows not to be 0
-  some_left : (z : ℤ) (fuel t idle : ℕ) (s : Halftone) → State kernel fit r four≤ z fuel t idle s → idle < 4 → suc (fuel - 1) ≡ fuel
+  some_left : (z : ℤ) (fuel t idle : ℕ) (s : Halftone) → State kernel fit r four≤ z fuel t idle s → idle < 4
+      → suc (fuel - 1) ≡ fuel
   some_left z fuel t idle s h lt = omega (arith, h.enough)
 
   pub state_on : (z : ℤ) (fuel t idle : ℕ) (s : Halftone) → State kernel fit r four≤ z fuel t idle s → idle < 4
@@ -174,7 +179,8 @@ module _ (kernel : Kernel) (fit : Fit kernel) (r : ℕ) (four≤ : 4 ≤ r) wher
       ap (λ (n : ℕ). rounds kernel r (macroblocks r) n t idle s) (sym (some_left z fuel t idle s h lt))
       ∙ rounds_on kernel r (macroblocks r) (fuel - 1) t idle s (lt-leb 4 idle lt)
 
-  pub ended : (z : ℤ) (fuel t idle : ℕ) (s : Halftone) → State kernel fit r four≤ z fuel t idle s → idle ≡ 4 → Ended kernel fit r four≤ z s
+  pub ended : (z : ℤ) (fuel t idle : ℕ) (s : Halftone) → State kernel fit r four≤ z fuel t idle s → idle ≡ 4
+      → Ended kernel fit r four≤ z s
   ended z fuel t idle s h e =
       record {
         sheet = h.sheet;

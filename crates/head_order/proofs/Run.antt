@@ -1,5 +1,5 @@
--- A map run to the end with two heads (`TwoHeads`, `two_heads_lem`): the sheet is sound, no cell is burnt twice, holes and
--- debt add up to the greys, no further round makes a hole, and the order within a round does not matter.
+-- A map run to the end with two heads (`TwoHeads`, `two_heads_lem`): the sheet is sound, no cell is burnt twice, holes
+-- and debt add up to the greys, no further round makes a hole, and the order within a round does not matter.
 use Rattle.std.proofs.Common.{ap, arith, add-sub_cancel}
 use Rattle.std.specs.Prelude.{◌≢◌, List, ℕ, ◌+◌, ◌*◌, ◌≤◌, ◌<◌, get_or, pos}
 use Rattle.definition.specs.Blocks.{grey_total}

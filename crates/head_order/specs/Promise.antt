@@ -1,7 +1,8 @@
 -- What is promised of the laser with two heads: of one macroblock, what two heads need to work at the same time
 -- (`OwnCells`; `Apart` of two of one round); of a run, on any fit table of weights (`TwoHeads`); of the call
 -- (`HeadsHold`).
-use Rattle.std.specs.Prelude.{◌≡◌, ◌≢◌, List, [], ◌∷◌, ◌++◌, ℕ, ◌+◌, ◌*◌, ◌-◌, ◌^◌, ◌≤◌, ◌<◌, length, get_or, take, drop, ℤ, pos, ◌+ℤ◌}
+use Rattle.std.specs.Prelude.{◌≡◌, ◌≢◌, List, [], ◌∷◌, ◌++◌, ℕ, ◌+◌, ◌*◌, ◌-◌, ◌^◌, ◌≤◌, ◌<◌, length, get_or, take}
+use Rattle.std.specs.Prelude.{drop, ℤ, pos, ◌+ℤ◌}
 use Rattle.definition.specs.Answers.{returned}
 use Rattle.definition.specs.Pyramid.{one_dot, needed, cell_count, entry}
 use Rattle.definition.specs.Blocks.{burnt_at, grey_total, all_dots}

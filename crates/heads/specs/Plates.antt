@@ -1,6 +1,7 @@
 -- The plates of the laser with two heads, `head_plates`: a row for each sentence of its points, computed on the
 -- definitions; docs/TRUST.md says where the figures are from. The maps have side 16 and are 0 but for a few cells.
-use Rattle.std.specs.Prelude.{◌≡◌, refl, Bool, ◌&&◌, List, [], ◌∷◌, ◌++◌, map, ℕ, ◌+◌, ◌*◌, length, set, take, drop, replicate, ℤ, pos}
+use Rattle.std.specs.Prelude.{◌≡◌, refl, Bool, ◌&&◌, List, [], ◌∷◌, ◌++◌, map, ℕ, ◌+◌, ◌*◌, length, set, take, drop}
+use Rattle.std.specs.Prelude.{replicate, ℤ, pos}
 use Rattle.definition.specs.Lists.{sum_to, all_to, tabulate_from, joined, repeated, eq_z}
 use Rattle.definition.specs.Pyramid.{
   start,
@@ -221,13 +222,13 @@ unfolding head_plates
 head_plates_there = refl
 
 pub head_plates_hold : first_failing head_plates ≡ 0
-unfolding sum_to all_to tabulate_from joined repeated eq_z start place_in row_at column_at level_of in_level entry four coarser
-    pyramid_over grey_at candidate first_of_equals better largest descend weights_of places_in_turn kernel_of within on_map
-    weight_at share diffuse top_of model_start missing place_dot power_up_to power_of lowest greys_refusal none_high low_map
-    interleaved row_of column_of quarter_entry quarter_level rows_from quarters_from relaid as_rows as_quarters digits_up_to
-    decimal line line_ends is_digit digits_then field_of rows_text map_text values_of read_numbers read_text read_low dot_lines
-    drill_text refused_text same same_z said_as refuses says first_failing block_sums macroblock_sum wanted clear burns work
-    work_all macroblocks rounds most_rounds two_heads_in two_heads two_heads_refusal two_heads_of two_heads_by_quarters
-    two_heads_list two_heads_text map_of runs below leaves corners_of corners call_of call_refuses call_runs text_of text_refuses
-    list_one head_plates
+unfolding sum_to all_to tabulate_from joined repeated eq_z start place_in row_at column_at level_of in_level entry four
+    coarser pyramid_over grey_at candidate first_of_equals better largest descend weights_of places_in_turn kernel_of
+    within on_map weight_at share diffuse top_of model_start missing place_dot power_up_to power_of lowest greys_refusal
+    none_high low_map interleaved row_of column_of quarter_entry quarter_level rows_from quarters_from relaid as_rows
+    as_quarters digits_up_to decimal line line_ends is_digit digits_then field_of rows_text map_text values_of
+    read_numbers read_text read_low dot_lines drill_text refused_text same same_z said_as refuses says first_failing
+    block_sums macroblock_sum wanted clear burns work work_all macroblocks rounds most_rounds two_heads_in two_heads
+    two_heads_refusal two_heads_of two_heads_by_quarters two_heads_list two_heads_text map_of runs below leaves
+    corners_of corners call_of call_refuses call_runs text_of text_refuses list_one head_plates
 head_plates_hold = refl

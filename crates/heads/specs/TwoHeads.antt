@@ -1,7 +1,8 @@
 -- The laser with two heads: one macroblock worked (`work`), the macroblocks of a round (`macroblocks`), the rounds to
--- their end (`rounds`, `two_heads`), the call (`two_heads_by_quarters`) and the program (`two_heads_text`). Equal entries do
--- not take turns here: it is always the first.
-use Rattle.std.specs.Prelude.{Bool, true, false, cond, not, ◌&&◌, ◌||◌, List, [], ◌∷◌, ◌++◌, ℕ, zero, suc, ◌+◌, ◌*◌, ◌-◌, ◌/◌, ◌%◌, ◌^◌, leb, ltb, eqb, length, drop, ℤ, pos}
+-- their end (`rounds`, `two_heads`), the call (`two_heads_by_quarters`) and the program (`two_heads_text`). Equal
+-- entries do not take turns here: it is always the first.
+use Rattle.std.specs.Prelude.{Bool, true, false, cond, not, ◌&&◌, ◌||◌, List, [], ◌∷◌, ◌++◌, ℕ, zero, suc, ◌+◌, ◌*◌}
+use Rattle.std.specs.Prelude.{◌-◌, ◌/◌, ◌%◌, ◌^◌, leb, ltb, eqb, length, drop, ℤ, pos}
 use Rattle.std.specs.Int.Signed.{le_z}
 use Rattle.definition.specs.Lists.{tabulate}
 use Rattle.definition.specs.Answers.{Said, returned, refused}

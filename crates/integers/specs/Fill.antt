@@ -2,7 +2,8 @@
 -- (`filled_none`, `filled_store`, `filled_all`).
 use Rattle.std.specs.Prelude.{◌≡◌, drop}
 use Rattle.std.proofs.Math.Path.{refl, sym, ap}
-use Rattle.std.proofs.Common.{◌∙◌, zero-add, length-append, length-drop, drop_of_length-le, drop-cons, get_or-append-add}
+use Rattle.std.proofs.Common.{◌∙◌, zero-add, length-append, length-drop, drop_of_length-le, drop-cons}
+use Rattle.std.proofs.Common.{get_or-append-add}
 use mathlib.Core.List.{List, [], ◌∷◌, ◌++◌, append-nil, append_assoc}
 use Prim.Native.Nat.{ℕ, zero, suc, ◌+◌, ◌-◌, ◌≤◌, ◌<◌}
 use Rattle.std.proofs.Math.Numerals.{add-one}

@@ -3,7 +3,8 @@
 --
 -- `zz` turns a statement whose sides are sums, differences and multiples by naturals, `ints` reads such facts among the
 -- hypotheses, whose sums are unknowns unless `simp zz at h` has turned them. `◌≤ℤ◌` binds tighter than `◌+ℤ◌`.
-use Rattle.std.specs.Prelude.{◌≡◌, refl, ◌↔◌, ◌⊎◌, true, false, not, ℕ, zero, suc, ◌+◌, ◌*◌, ◌-◌, ◌≤◌, ◌<◌, min, ℤ, pos, negsuc, neg_ℤ, nat_abs, ◌+ℤ◌, ◌*ℤ◌, ◌≤ℤ◌, ◌<ℤ◌, T, ltb}
+use Rattle.std.specs.Prelude.{◌≡◌, refl, ◌↔◌, ◌⊎◌, true, false, not, ℕ, zero, suc, ◌+◌, ◌*◌, ◌-◌, ◌≤◌, ◌<◌, min, ℤ, pos}
+use Rattle.std.specs.Prelude.{negsuc, neg_ℤ, nat_abs, ◌+ℤ◌, ◌*ℤ◌, ◌≤ℤ◌, ◌<ℤ◌, T, ltb}
 use Rattle.std.proofs.Common.{ap, inl, inr, arith}
 use Rattle.std.proofs.Math.IntN.{sub_ℕ, *ℤ_comm}
 use Rattle.std.specs.Int.Signed.{lt_z, le_z, le_z_yes, lt_z_yes, lt_z_no, clash_ℤ}
@@ -90,8 +91,8 @@ eq_add_up r x y e = omega (arith, eq_up r (x +ℤ y) e, add_is x y)
 pub eq_sub_up : (r x y : ℤ) → r ≡ x +ℤ neg_ℤ y → up r + (dn x + up y) ≡ (up x + dn y) + dn r
 eq_sub_up r x y e = omega (arith, eq_add_up r x (neg_ℤ y) e, up_neg y, dn_neg y)
 
--- ════ tests: `-up` reads one, as `T` or as an equation with true or false; the kit has `le_z_yes`, `lt_z_yes`, `lt_z_no`,
--- and `h.le`, `h.lt` the other way
+-- ════ tests: `-up` reads one, as `T` or as an equation with true or false; the kit has `le_z_yes`, `lt_z_yes`,
+-- `lt_z_no`, and `h.le`, `h.lt` the other way
 
 pub le_z_no : {x y : ℤ} → T (not (le_z x y)) → y <ℤ x
 le_z_no {x = pos a} {y = pos b} t = record { lt = omega tests }

@@ -4,10 +4,10 @@
 -- A law that takes i and n is of `tabulate_from i n f`, so of `tabulate n f` at i = 0. The kit has, in lib.ListN:
 -- `length-append`, `length-take`, `length-drop`, `length-set`, `length-replicate`, `length-map`, `get_or-replicate`,
 -- `take-append-drop`, `drop_of_length-le`, `List·getD-append`, `List·getD-eq-default`, `List·getD-map`; and in lib.Seq:
--- by elements `ext_get_or`; after a store `get_or-set_same`, `get_or-set_other`, `take-set-le`, `take-set-lt`, `drop-set-lt`,
--- `drop-set-add`, `set-set`, `set_comm`, `set-get_or`, `set_out`, `set_split`, `set-append_left`; at a seam
--- `take-append_seam`, `take-append-le`, `take-append-add`, `take_at` and the same of `drop`, `get_or-append-add`; of
--- parts `get_or-take`, `get_or-drop`, `take-take`, `drop-drop`, `take-add`, `take_all`, `take-suc`, `drop-cons`,
+-- by elements `ext_get_or`; after a store `get_or-set_same`, `get_or-set_other`, `take-set-le`, `take-set-lt`,
+-- `drop-set-lt`, `drop-set-add`, `set-set`, `set_comm`, `set-get_or`, `set_out`, `set_split`, `set-append_left`; at a
+-- seam `take-append_seam`, `take-append-le`, `take-append-add`, `take_at` and the same of `drop`, `get_or-append-add`;
+-- of parts `get_or-take`, `get_or-drop`, `take-take`, `drop-drop`, `take-add`, `take_all`, `take-suc`, `drop-cons`,
 -- `length-take-le`.
 use Rattle.std.specs.Prelude.{◌≡◌, List, [], ◌∷◌, ◌++◌, map, length, get_or, set, replicate}
 use Rattle.std.proofs.Math.Path.{refl, ap}
@@ -21,7 +21,8 @@ module _ {A : Type 0} where
   length_tabulate i zero f = refl
   length_tabulate i (suc n) f = ap suc (length_tabulate (suc i) n f)
 
-  pub get_or_tabulate_from : (i n : ℕ) (f : ℕ → A) (k : ℕ) (d : A) → k < n → get_or (tabulate_from i n f) k d ≡ f (i + k)
+  pub get_or_tabulate_from : (i n : ℕ) (f : ℕ → A) (k : ℕ) (d : A) → k < n → get_or (tabulate_from i n f) k d
+      ≡ f (i + k)
   unfolding tabulate_from
   get_or_tabulate_from i zero f k d h = absurd (omega arith)
   get_or_tabulate_from i (suc n) f zero d h = ap f (omega arith)

@@ -3,8 +3,10 @@
 --
 -- That is as `simp zz (omega ints)` does of integers: `words` turns `SFits w z` too, and `machine` reads from each
 -- `SFits w z` that the word's number, `to_z w (of_z w z)`, is z.
-use Rattle.std.specs.Prelude.{◌≡◌, ◌↔◌, Bool, true, false, ℕ, suc, ◌+◌, ◌*◌, ◌/◌, ◌≤◌, ◌<◌, ◌^◌, ℤ, pos, negsuc, neg_ℤ, nat_abs, ◌+ℤ◌, ◌*ℤ◌, ◌≤ℤ◌, ◌<ℤ◌, T, ltb}
-use Rattle.std.proofs.Common.{sym, ap, ◌∙◌, mul-le-mul, le_trans, le_of_eq, div-le_self, div-mul-le_self, le-div_iff_mul-le, arith, ltb→lt, to_z-of_z}
+use Rattle.std.specs.Prelude.{◌≡◌, ◌↔◌, Bool, true, false, ℕ, suc, ◌+◌, ◌*◌, ◌/◌, ◌≤◌, ◌<◌, ◌^◌, ℤ, pos, negsuc, neg_ℤ}
+use Rattle.std.specs.Prelude.{nat_abs, ◌+ℤ◌, ◌*ℤ◌, ◌≤ℤ◌, ◌<ℤ◌, T, ltb}
+use Rattle.std.proofs.Common.{sym, ap, ◌∙◌, mul-le-mul, le_trans, le_of_eq, div-le_self, div-mul-le_self}
+use Rattle.std.proofs.Common.{le-div_iff_mul-le, arith, ltb→lt, to_z-of_z}
 use Rattle.std.specs.Int.Signed.{mag, lt_z, le_z, quot_z, non_neg}
 use Rattle.std.specs.Int.{Width, w64}
 use mir.Val.{Fits, SFits, hbits, bits, to_z, of_z}
@@ -67,11 +69,13 @@ pub back64 : (z : ℤ) → mag z < 2 ^ 63 → to_z w64 (of_z w64 z) ≡ z
 back64 z h = to_z-of_z (ok64 z h)
 
 -- a comparison's flag, said of the numbers themselves; `==` and `!=` compare bits
-pub lt_z_back : {w : Width} {a b : ℤ} {t : Bool} → SFits w a → SFits w b → lt_z (to_z w (of_z w a)) (to_z w (of_z w b)) ≡ t
+pub lt_z_back : {w : Width} {a b : ℤ} {t : Bool} → SFits w a → SFits w b → lt_z (to_z w (of_z w a)) (to_z w (of_z w b))
+    ≡ t
     → lt_z a b ≡ t
 lt_z_back f g e = sym (λ i. lt_z (to_z-of_z f i) (to_z-of_z g i)) ∙ e
 
-pub le_z_back : {w : Width} {a b : ℤ} {t : Bool} → SFits w a → SFits w b → le_z (to_z w (of_z w a)) (to_z w (of_z w b)) ≡ t
+pub le_z_back : {w : Width} {a b : ℤ} {t : Bool} → SFits w a → SFits w b → le_z (to_z w (of_z w a)) (to_z w (of_z w b))
+    ≡ t
     → le_z a b ≡ t
 le_z_back f g e = sym (λ i. le_z (to_z-of_z f i) (to_z-of_z g i)) ∙ e
 

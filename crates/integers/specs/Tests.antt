@@ -3,7 +3,8 @@
 --
 -- `omega tests` reads and proves `leb`, `ltb` and `eqb`, as `T b`, `T (not b)`, `b ≡ true` and `b ≡ false`. The kit has
 -- `T_not`, `not_T`, `leb→le` and the like in lib.Dec, `ltb-true`, `lt-ltb` and the like in borrow.Author.Tests.
-use Rattle.std.specs.Prelude.{◌≡◌, refl, ◌≢◌, ◌⊎◌, Bool, true, false, not, cond, ◌&&◌, ◌||◌, ℕ, zero, suc, ◌+◌, ◌*◌, ◌≤◌, ◌<◌, ◌^◌, T, eqb, ℤ, pos, negsuc}
+use Rattle.std.specs.Prelude.{◌≡◌, refl, ◌≢◌, ◌⊎◌, Bool, true, false, not, cond, ◌&&◌, ◌||◌, ℕ, zero, suc, ◌+◌, ◌*◌}
+use Rattle.std.specs.Prelude.{◌≤◌, ◌<◌, ◌^◌, T, eqb, ℤ, pos, negsuc}
 use Rattle.std.proofs.Common.{ap, inl, inr, true≢false, arith, T_not, leb→le, le→leb, ltb→lt, lt→ltb, nltb→le, eqb→eq}
 use Rattle.std.proofs.Math.Decide.{ℕ_discrete}
 use Rattle.std.proofs.Math.Dec.{not_T, nleb→lt, eqb_refl}
@@ -185,7 +186,8 @@ module _ (k : ℕ) (test : ℕ → ℕ → Bool) where
 
   pub every_entry_all : ((a b : ℕ) → a < 2 ^ k → b < 2 ^ k → T (test a b)) → T (every_entry k test)
   unfolding every_entry
-  every_entry_all h = all_to_all (2 ^ k) (λ a. all_to (2 ^ k) (test a)) (λ a p. all_to_all (2 ^ k) (test a) (λ b. h a b p))
+  every_entry_all h =
+      all_to_all (2 ^ k) (λ a. all_to (2 ^ k) (test a)) (λ a p. all_to_all (2 ^ k) (test a) (λ b. h a b p))
 
 -- ════ equality of integers
 

@@ -1,6 +1,7 @@
 -- The call's ways out: refused before Load (`refused_early`) or by Load (`refused_late`), with nothing changed, and run
 -- to the end (`ran_all`).
-use Rattle.std.specs.Prelude.{◌≡◌, Bool, List, [], ◌∷◌, ◌++◌, ℕ, zero, suc, ◌-◌, ◌≤◌, ◌<◌, ltb, eqb, length, get_or, take, drop, ℤ, pos}
+use Rattle.std.specs.Prelude.{◌≡◌, Bool, List, [], ◌∷◌, ◌++◌, ℕ, zero, suc, ◌-◌, ◌≤◌, ◌<◌, ltb, eqb, length, get_or}
+use Rattle.std.specs.Prelude.{take, drop, ℤ, pos}
 use Rattle.std.proofs.Math.Path.{refl, ap}
 use Rattle.std.proofs.Common.{sym, ◌∙◌, inr, arith, length-append, take_at, drop_at}
 use borrow.Author.Tests.{lt-ltb, le-ltb, ltb-false, eqb-false, eq-eqb, ne_eqb}
@@ -118,7 +119,8 @@ module _ (side knit : ℕ) {r : ℕ} (er : r ≡ power_of side) (g : List ℕ) (
       heads_is =
           let n = rw er at (failed_number check e why failed) in
           unfold two_heads_refusal in
-          lowest_before (side_unknown (power_of side) ∷ side_small side ∷ knit_unknown knit ∷ []) _ (number_of why - 1) n
+          lowest_before (side_unknown (power_of side) ∷ side_small side ∷ knit_unknown knit ∷ []) _ (number_of why - 1)
+          n
 
   module _ (passed : check ≡ Passed) where
     some_side : 0 < power_of side

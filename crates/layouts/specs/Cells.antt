@@ -1,7 +1,9 @@
 -- One level by quarters, written row after row; and the levels of a pyramid one by one: what is read and stored at an
 -- entry's place is read and stored at its place row after row (`rows_in`, `rows_set`, `rows_cells`).
-use Rattle.std.specs.Prelude.{◌≡◌, refl, List, ◌++◌, ℕ, suc, ◌+◌, ◌*◌, ◌^◌, ◌≤◌, ◌<◌, length, get_or, set, take, drop, ℤ, pos}
-use Rattle.std.proofs.Common.{sym, ap, ap₂, ◌∙◌, arith, length-set, get_or-append-add, get_or-set_same, get_or-set_other, get_or-drop, get_or-take, length-take-le, take_at, drop_at}
+use Rattle.std.specs.Prelude.{◌≡◌, refl, List, ◌++◌, ℕ, suc, ◌+◌, ◌*◌, ◌^◌, ◌≤◌, ◌<◌, length, get_or, set, take, drop}
+use Rattle.std.specs.Prelude.{ℤ, pos}
+use Rattle.std.proofs.Common.{sym, ap, ap₂, ◌∙◌, arith, length-set, get_or-append-add, get_or-set_same}
+use Rattle.std.proofs.Common.{get_or-set_other, get_or-drop, get_or-take, length-take-le, take_at, drop_at}
 use Rattle.std.proofs.Math.Decide.{ℕ_discrete}
 use Rattle.std.proofs.Math.ListN.{get_or-append}
 use Rattle.definition.specs.Lists.{tabulate, joined}

@@ -2,11 +2,13 @@
 -- (`rows_quarters`, `quarters_rows`); its length stays, and so does what lies past the needed length (`rows_length`,
 -- `rows_drop`).
 use Rattle.std.specs.Prelude.{◌≡◌, List, ◌++◌, ℕ, suc, ◌+◌, ◌*◌, ◌^◌, ◌≤◌, ◌<◌, length, get_or, take, drop, ℤ, pos}
-use Rattle.std.proofs.Common.{sym, ap, ap₂, ◌∙◌, arith, length-append, length-drop, take-append-drop, get_or-take, take_at, drop_at, length-take-le}
+use Rattle.std.proofs.Common.{sym, ap, ap₂, ◌∙◌, arith, length-append, length-drop, take-append-drop, get_or-take}
+use Rattle.std.proofs.Common.{take_at, drop_at, length-take-le}
 use Rattle.std.proofs.Math.Decide.{dec_lt}
 use borrow.Author.Tests.{lt-ltb, le-ltb}
 use Rattle.definition.specs.Pyramid.{start, needed, entry, place_in}
-use Rattle.definition.specs.Quarters.{interleaved, quarter_entry, rows_from, quarters_from, relaid, as_rows, as_quarters}
+use Rattle.definition.specs.Quarters.{interleaved, quarter_entry, rows_from, quarters_from, relaid, as_rows}
+use Rattle.definition.specs.Quarters.{as_quarters}
 use Rattle.quadtree.specs.Levels.{start_suc, start_mono, place_lt}
 use Rattle.layouts.specs.Interleaved.{interleaved_lt}
 use Rattle.layouts.specs.Relaid.{

@@ -1,6 +1,7 @@
 -- The renewal on a pyramid by quarters, said by place: the entry at place i is over the places 4i to 4i + 3 of the next
 -- finer level. Written row after row, it is the definition's renewal (`rows_renewed`).
-use Rattle.std.specs.Prelude.{◌≡◌, Bool, cond, ◌||◌, ℕ, zero, suc, ◌+◌, ◌*◌, ◌^◌, ◌<◌, length, get_or, take, drop, ℤ, pos}
+use Rattle.std.specs.Prelude.{◌≡◌, Bool, cond, ◌||◌, ℕ, zero, suc, ◌+◌, ◌*◌, ◌^◌, ◌<◌, length, get_or, take, drop, ℤ}
+use Rattle.std.specs.Prelude.{pos}
 use Rattle.std.proofs.Math.Path.{refl, sym, ap, ap₂}
 use Rattle.std.proofs.Common.{◌∙◌, length-take-le}
 use mathlib.Core.List.{List, ◌++◌}
@@ -111,7 +112,8 @@ module _ (k : ℕ) (chosen : ℕ → Bool) (pyramid : List ℤ) (long : length p
   module _ (these : ℕ → ℕ → Bool) (same : Chosen (suc k) chosen these) where
     -- level k, as the definition makes it
     abbrev defined : ℕ → ℕ → ℤ
-    defined a b = cond (over_these these a b) (four (in_level (suc k) (drop (start (suc k)) rows)) a b) (entry rows k a b)
+    defined a b = cond (over_these these a b) (four (in_level (suc k) (drop (start (suc k)) rows)) a b)
+        (entry rows k a b)
 
     level_is : level_of k defined ≡ level_of k (λ a b. made (interleaved k a b))
     unfolding quarter_entry

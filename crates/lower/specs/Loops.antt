@@ -1,8 +1,10 @@
 -- The two loops over greys: what is left to test (`all_low`), and what is lowered so far (`one_lowered`,
 -- `all_lowered`).
-use Rattle.std.specs.Prelude.{◌≡◌, refl, true, false, List, [], ◌∷◌, ◌++◌, ℕ, zero, suc, ◌+◌, ◌≤◌, ◌<◌, min, length, get_or, set, take, drop}
+use Rattle.std.specs.Prelude.{◌≡◌, refl, true, false, List, [], ◌∷◌, ◌++◌, ℕ, zero, suc, ◌+◌, ◌≤◌, ◌<◌, min, length}
+use Rattle.std.specs.Prelude.{get_or, set, take, drop}
 use Rattle.std.proofs.Math.Path.{sym}
-use Rattle.std.proofs.Common.{ap, ◌∙◌, append-nil, arith, length-append, length-take, length-drop, drop_of_length-le, drop-cons, take_all}
+use Rattle.std.proofs.Common.{ap, ◌∙◌, append-nil, arith, length-append, length-take, length-drop, drop_of_length-le}
+use Rattle.std.proofs.Common.{drop-cons, take_all}
 use Rattle.std.proofs.Math.Numerals.{add-one}
 use borrow.Author.Tests.{le-leb, lt-leb}
 use Rattle.definition.specs.Lowering.{none_high, lowered}

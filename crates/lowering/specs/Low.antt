@@ -1,6 +1,7 @@
 -- Greys of at most 240: a list has none above it just if each of its places has none (`low_at`, `at_low`), and lowered
 -- greys are such a list (`lowered_low`), as long as before, and the same where nothing was too high (`lowered_same`).
-use Rattle.std.specs.Prelude.{◌≡◌, refl, Bool, true, false, ◌&&◌, List, [], ◌∷◌, ℕ, zero, suc, ◌≤◌, ◌<◌, min, leb, length, get_or}
+use Rattle.std.specs.Prelude.{◌≡◌, refl, Bool, true, false, ◌&&◌, List, [], ◌∷◌, ℕ, zero, suc, ◌≤◌, ◌<◌, min, leb}
+use Rattle.std.specs.Prelude.{length, get_or}
 use Rattle.std.proofs.Common.{sym, ap₂, true≢false, arith, leb-true, le-leb}
 use Rattle.std.proofs.lemmas.List.{length-map}
 use Rattle.definition.specs.Lowering.{none_high, lowered}

@@ -10,7 +10,8 @@ use Rattle.std.proofs.Math.ListN.{take, drop}
 use Rattle.std.proofs.lemmas.List.Edits.{sets}
 use Rattle.std.proofs.lemmas.Bool.{not-true, not-false}
 use Rattle.definition.specs.Answers.{map_text_says, text_says, number_of}
-use Rattle.definition.specs.MapText.{map_ends, values_of, accepted, rejected, read_numbers, read_map, read_low, map_text_of}
+use Rattle.definition.specs.MapText.{map_ends, values_of, accepted, rejected, read_numbers, read_map, read_low}
+use Rattle.definition.specs.MapText.{map_text_of}
 use Rattle.definition.specs.LowerText.{text_kept, lower_text_of}
 use Rattle.definition.specs.declared.Refusal.{Refusal}
 use Rattle.definition.specs.declared.Refusal.TheVariants.{TextMalformed, OutputShort}

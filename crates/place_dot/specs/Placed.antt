@@ -1,6 +1,7 @@
 -- A dot placed by the code: the cells burnt, the sums over them, and the number noted (`placed`); and the walk to its
 -- cell (`reached_step`).
-use Rattle.std.specs.Prelude.{◌≡◌, Bool, false, List, ◌++◌, ℕ, suc, ◌+◌, ◌*◌, ◌-◌, ◌%◌, ◌^◌, ◌≤◌, ◌<◌, eqb, length, get_or, take, drop, set, ℤ, pos}
+use Rattle.std.specs.Prelude.{◌≡◌, Bool, false, List, ◌++◌, ℕ, suc, ◌+◌, ◌*◌, ◌-◌, ◌%◌, ◌^◌, ◌≤◌, ◌<◌, eqb, length}
+use Rattle.std.specs.Prelude.{get_or, take, drop, set, ℤ, pos}
 use Rattle.std.proofs.Math.Path.{refl}
 use Rattle.std.proofs.Common.{sym, ap, ◌∙◌, arith, pow_mono, length-drop, length-append, length-take-le, Fits}
 use Rattle.std.proofs.Math.Nat.{sub-zero}

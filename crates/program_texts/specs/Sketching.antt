@@ -155,7 +155,8 @@ module _ (level : ℕ) (text lows highs caps : List ℕ) (l : length lows ≡ 10
                 let r = power_of found in
                 let written = caps_of r (highs_of pairs) level in
                 let figures : returned (side ∷ least ∷ greatest ∷ [])
-                ≡ returned (found ∷ total_of (grey_total r (lows_of pairs)) ∷ total_of (grey_total r (highs_of pairs)) ∷ [])
+                ≡ returned (found ∷ total_of (grey_total r (lows_of pairs)) ∷ total_of (grey_total r (highs_of pairs))
+                ∷ [])
                 = said e q in
                 let least_is : least ≡ total_of (grey_total r (lows_of pairs)) = cc in
                 let greatest_is : greatest ≡ total_of (grey_total r (highs_of pairs)) = cc in

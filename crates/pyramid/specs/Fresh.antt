@@ -1,7 +1,8 @@
 -- A pyramid filled from greys: its cells first, then all levels over them (`fresh`).
 use Rattle.std.specs.Prelude.{◌≡◌, List, ◌++◌, ℕ, ◌+◌, ◌-◌, ◌≤◌, ◌<◌, length, get_or, take, drop, ℤ, pos}
 use Rattle.std.proofs.Math.Path.{sym, ap}
-use Rattle.std.proofs.Common.{◌∙◌, arith, add-one, length-drop, length-append, length-take-le, get_or-append-add, drop_at, Fits}
+use Rattle.std.proofs.Common.{◌∙◌, arith, add-one, length-drop, length-append, length-take-le, get_or-append-add}
+use Rattle.std.proofs.Common.{drop_at, Fits}
 use Rattle.std.proofs.Math.Decide.{dec_lt}
 use Rattle.std.proofs.Math.ListN.{get_or-eq_default}
 use Rattle.std.specs.Int.{w8}
@@ -52,7 +53,8 @@ module _ (r : ℕ) (greys : List ℕ) where
   unfolding fresh_pyramid
   over_cells =
       sym (quarters_back r (quarters_over r cells) (length_over r cells cells_long))
-      ∙ ap (quarters_from r) (rows_over r cells cells_long ∙ ap (pyramid_over r) (rows_level_lem r (residual_at r greys)))
+      ∙ ap (quarters_from r) (rows_over r cells cells_long
+      ∙ ap (pyramid_over r) (rows_level_lem r (residual_at r greys)))
 
 module _ (l : List ℤ) (greys : List ℕ) (r : ℕ) (h : FillAsked l (length greys) r) where
   long : length l ≡ start r + cell_count r

@@ -2,7 +2,8 @@
 -- at `up`, is lent with all after it and comes back filled; then what lies before level k, which begins at `off`, is
 -- summed up.
 use Rattle.std.specs.Prelude.{◌≡◌, length, get_or, take, drop, ℤ, pos}
-use Rattle.std.proofs.Common.{sym, ◌∙◌, le-mul_of_pos_right, mul-pos, mul-le-mul, pow_pos, pow_mono, length-drop, length-append, get_or-drop, length-take-le, drop-drop, take_at, drop_at}
+use Rattle.std.proofs.Common.{sym, ◌∙◌, le-mul_of_pos_right, mul-pos, mul-le-mul, pow_pos, pow_mono, length-drop}
+use Rattle.std.proofs.Common.{length-append, get_or-drop, length-take-le, drop-drop, take_at, drop_at}
 use Rattle.std.proofs.Math.Path.{ap, ap₂}
 use mathlib.Core.List.{List, ◌++◌, append_assoc}
 use Prim.Native.Nat.{ℕ, suc, ◌+◌, ◌*◌, ◌-◌, ◌^◌, ◌≤◌, ◌<◌}

@@ -1,7 +1,8 @@
 -- Where the levels of a pyramid begin (`start_suc`, `start_thrice`), and the places of the entries within a level: each
 -- entry has one place (`place_lt`, `place_same`), and each place one entry (`place_row_column`).
 use Rattle.std.specs.Prelude.{◌≡◌, refl, ℕ, zero, suc, ◌+◌, ◌*◌, ◌-◌, ◌/◌, ◌^◌, ◌≤◌, ◌<◌}
-use Rattle.std.proofs.Common.{ap, ◌∙◌, arith, mul-div_cancel, mul-le-mul, mul-le-mul_right, div-add-mod', div-lt_iff_lt-mul, mod-lt, lt_of_mul-lt-mul_right, pow_pos, pow_mono, pow-add}
+use Rattle.std.proofs.Common.{ap, ◌∙◌, arith, mul-div_cancel, mul-le-mul, mul-le-mul_right, div-add-mod'}
+use Rattle.std.proofs.Common.{div-lt_iff_lt-mul, mod-lt, lt_of_mul-lt-mul_right, pow_pos, pow_mono, pow-add}
 use Rattle.std.proofs.Math.Nat.{pow-succ'}
 use Rattle.std.proofs.Math.Pow.{high, low}
 use Rattle.definition.specs.Pyramid.{start, place_in, row_at, column_at}

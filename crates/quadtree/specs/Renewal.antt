@@ -119,7 +119,8 @@ module _ (k : ℕ) (these : ℕ → ℕ → Bool) (right cells : List ℤ) (h : 
   above_entry : (m a b : ℕ) → m ≤ k → a < 2 ^ m → b < 2 ^ m → entry above m a b ≡ entry right m a b
   unfolding entry
   above_entry m a b le p q =
-      get_or-take (start (suc k)) right (start m + place_in m a b) (pos 0) (before_level m (suc k) a b (omega arith) p q)
+      get_or-take (start (suc k)) right (start m + place_in m a b) (pos 0)
+      (before_level m (suc k) a b (omega arith) p q)
 
   lent_entry : (a b : ℕ) → a < 2 ^ k → b < 2 ^ k → entry lent k a b ≡ entry above k a b
   unfolding entry
@@ -202,7 +203,13 @@ module _ (k : ℕ) (these : ℕ → ℕ → Bool) (before : List ℤ) (long : le
 
   pub coarse_long : length coarse ≡ start (suc k)
   coarse_long =
-      omega (arith, length-append (take (start k) before) (level_of k made), kept_long, length_level k made, start_suc k)
+      omega (
+        arith,
+        length-append (take (start k) before) (level_of k made),
+        kept_long,
+        length_level k made,
+        start_suc k,
+      )
 
   module _ (up : List ℤ) (ih : Renewed k over coarse up) where
     abbrev pub after : List ℤ

@@ -33,7 +33,8 @@ unfolding span_z
 span_z_add p n f g = sum_z_to_add n (λ x. f (p + x)) (λ x. g (p + x))
 
 module _ (p q n : ℕ) where
-  pub area_z_ext : (f g : ℕ → ℕ → ℤ) → ((x y : ℕ) → In p n x → In q n y → f x y ≡ g x y) → area_z p q n f ≡ area_z p q n g
+  pub area_z_ext : (f g : ℕ → ℕ → ℤ) → ((x y : ℕ) → In p n x → In q n y → f x y ≡ g x y) → area_z p q n f
+      ≡ area_z p q n g
   unfolding area_z
   area_z_ext f g h = span_z_ext p n _ _ (λ x i. span_z_ext q n (f x) (g x) (λ y j. h x y i j))
 
@@ -51,7 +52,8 @@ module _ (p q n : ℕ) where
       ∙ sum_z_to_pos n (λ x. sum_to n (λ y. g (p + x) (q + y)))
 
   pub area_z_quarters : (f : ℕ → ℕ → ℤ)
-      → area_z p q (n + n) f ≡ area_z p q n f +ℤ area_z p (q + n) n f +ℤ area_z (p + n) q n f +ℤ area_z (p + n) (q + n) n f
+      → area_z p q (n + n) f ≡ area_z p q n f +ℤ area_z p (q + n) n f +ℤ area_z (p + n) q n f +ℤ area_z (p + n) (q + n)
+      n f
   unfolding area_z
   area_z_quarters f =
       span_z_halves p n (λ x. span_z q (n + n) (f x)) ∙ rw (halves p, halves (p + n)) (simp zz (omega ints))

@@ -61,7 +61,8 @@ pub record Capped (r k : ℕ) (greys before : List ℕ) (i : ℕ) (caps : List �
 pub in_level_lem : (k : ℕ) {count i : ℕ} → count ≡ cell_count k → i < count → i < 2 ^ k * 2 ^ k
 in_level_lem k en l = omega (arith, en)
 
-pub bytes_fit : {r k lent : ℕ} → LevelLent r k lent → {count i : ℕ} → count ≡ cell_count k → i < count → Fits w64 (i * 4)
+pub bytes_fit : {r k lent : ℕ} → LevelLent r k lent → {count i : ℕ} → count ≡ cell_count k → i < count
+    → Fits w64 (i * 4)
 bytes_fit {k = k} h en l = omega (arith, en, cells_few k (omega (arith, h.level, h.powers)))
 
 module _ (r k : ℕ) (greys before : List ℕ) where

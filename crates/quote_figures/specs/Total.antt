@@ -29,6 +29,7 @@ pub sum_few : (r : ℕ) (greys : List ℕ) → MapLent r (length greys) → ((i 
     → {sum : ℕ} → sum ≡ grey_sum r greys 0 0 0 → sum ≤ 255 * 65536
 unfolding grey_sum grey_at
 sum_few r greys h bytes e =
-    let few : block_side r 0 * block_side r 0 ≤ 65536 = rw (block_side_lem r r 0 (omega arith)) (cells_few r h.powers) in
+    let few : block_side r 0 * block_side r 0 ≤ 65536 = rw (block_side_lem r r 0 (omega arith)) (cells_few r h.powers)
+    in
     let most = block_most r (grey_at r greys) 255 0 0 0 (λ x y. omega (arith, bytes (cell_number r x y))) in
     omega (arith, e, most, few)

@@ -26,7 +26,8 @@ use Rattle.quote_page.specs.Page.{PageAsked, page_length, page_length_lem}
 same_refusal : (r g s k page length output : ℕ) → (k ≤ r → page ≡ length)
     → quote_page_refusal r g s k page output ≡ quote_page_refusal r g s k length output
 unfolding quote_page_refusal lowest
-same_refusal r g s k page length output e = elim (dec_lt r k) [ yes h ↦ rw (lt-ltb r k h) | no h ↦ rw (e (omega arith)) ]
+same_refusal r g s k page length output e =
+    elim (dec_lt r k) [ yes h ↦ rw (lt-ltb r k h) | no h ↦ rw (e (omega arith)) ]
 
 -- what is known where nothing is refused
 record Lent (r g s k page output : ℕ) : Type 0 where
@@ -52,7 +53,8 @@ none_refused r g s k page output e =
       room = ltb-false _ _ r₅.0;
     }
 
-module _ (side : ℕ) (g : List ℕ) (bytes : (i : ℕ) → Fits w8 (get_or g i 0)) (s : List ℕ) (k : ℕ) (output : List ℕ) {r : ℕ}
+module _ (side : ℕ) (g : List ℕ) (bytes : (i : ℕ) → Fits w8 (get_or g i 0)) (s : List ℕ) (k : ℕ) (output : List ℕ)
+    {r : ℕ}
     (er : r ≡ power_of side) (check : Check)
     (e : checked check ≡ quote_page_refusal r (length g) (length s) k (page_length k) (length output)) where
   abbrev page : List ℕ

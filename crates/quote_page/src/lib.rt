@@ -6,7 +6,8 @@
 ghost use Rattle.std.specs.Prelude.{◌≡◌, ◌^◌, ◌<◌, ◌≤◌};
 ghost use Rattle.definition.specs.Lists.{joined};
 ghost use Rattle.definition.specs.Answers.{text_says};
-ghost use Rattle.definition.specs.QuotePage.{columns, aligned_line, quote_line, quote_text, quote_page_refusal, quote_page_of};
+ghost use Rattle.definition.specs.QuotePage.{columns, aligned_line, quote_line, quote_text, quote_page_refusal};
+ghost use Rattle.definition.specs.QuotePage.{quote_page_of};
 ghost use Rattle.decimals.specs.Writing.{Wrote};
 ghost use Rattle.checks.specs.Checks.{checked};
 ghost use Rattle.quote_page.specs.Page.{PageAsked, page_length};

@@ -28,7 +28,12 @@ refused_is n = refl
 module _ (n : ℕ) (small : n < 2 ^ 64) (before : List ℕ) (room : 29 ≤ length before) where
   refused_short : length (refused_text n) ≤ length before
   refused_short =
-      omega (arith, ap length (refused_is n), length-append refused_word (field_text n 10), length_field_text n small 10)
+      omega (
+        arith,
+        ap length (refused_is n),
+        length-append refused_word (field_text n 10),
+        length_field_text n small 10,
+      )
 
   pub line_printed : {l₁ after : List ℕ} {at next : ℕ} → Wrote l₁ at (field_text n 10) next after
       → Wrote before 0 refused_word at l₁

@@ -1,7 +1,9 @@
 -- A pyramid written by quarters, level by level (`one_laid`, `level_laid`, `all_laid`).
-use Rattle.std.specs.Prelude.{◌≡◌, ℕ, zero, suc, ◌+◌, ◌-◌, ◌*◌, ◌/◌, ◌%◌, ◌^◌, ◌≤◌, ◌<◌, length, get_or, set, take, drop, ℤ, pos}
+use Rattle.std.specs.Prelude.{◌≡◌, ℕ, zero, suc, ◌+◌, ◌-◌, ◌*◌, ◌/◌, ◌%◌, ◌^◌, ◌≤◌, ◌<◌, length, get_or, set, take}
+use Rattle.std.specs.Prelude.{drop, ℤ, pos}
 use Rattle.std.proofs.Math.Path.{refl, ap}
-use Rattle.std.proofs.Common.{sym, ap₂, ◌∙◌, arith, add-one, length-append, length-take, length-drop, get_or-drop, take_all, take_at, drop_at, drop-drop, SFits, to_z, of_z, to_z-of_z}
+use Rattle.std.proofs.Common.{sym, ap₂, ◌∙◌, arith, add-one, length-append, length-take, length-drop, get_or-drop}
+use Rattle.std.proofs.Common.{take_all, take_at, drop_at, drop-drop, SFits, to_z, of_z, to_z-of_z}
 use mathlib.Core.List.{List, ◌++◌, append_assoc}
 use Rattle.std.specs.Int.{w64}
 use borrow.Rule.Slice.PartMut.{put_mid, post_of, same_len_mid, mid_len}

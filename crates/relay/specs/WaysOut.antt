@@ -20,7 +20,8 @@ use Rattle.refusals.specs.Numbers.{number_positive}
 use Rattle.checks.specs.Checks.{checked, passed_none, failed_number}
 use Rattle.checks.specs.declared.Check.{Check}
 use Rattle.checks.specs.declared.Check.TheVariants.{Passed, Failed}
-use Rattle.sheet.specs.Sheets.{SheetLent, sheet_lent, shown_rows, lengths_failed, lengths_passed, is_sound_lem, is_unsound}
+use Rattle.sheet.specs.Sheets.{SheetLent, sheet_lent, shown_rows, lengths_failed, lengths_passed, is_sound_lem}
+use Rattle.sheet.specs.Sheets.{is_unsound}
 use Rattle.relay.specs.Laying.{LevelsAsked}
 
 -- one of two lengths is too short just if the shorter one is

@@ -283,7 +283,8 @@ module _ {pyramid : List ℤ} {r : ℕ} {parts : Parts} {row column : ℕ} (h : 
 
       abbrev chosen : ℕ → Bool
       chosen =
-          chosen_of (interleaved r top left) (interleaved r top right) (interleaved r low left) (interleaved r low right)
+          chosen_of (interleaved r top left) (interleaved r top right) (interleaved r low left)
+          (interleaved r low right)
 
       -- a corner's place within the level of the cells, and a quarter of it
       within : (a b : ℕ) {x : ℕ} → x ≡ start r + interleaved r a b → over x - start (r - 1) ≡ interleaved r a b / 4

@@ -1,6 +1,7 @@
 -- The renewal by itself: which pyramids it is made on (`then_small`, `made`), and that it leaves the others
 -- (`left_alone`).
-use Rattle.std.specs.Prelude.{◌≡◌, refl, Bool, true, not, ◌&&◌, ℕ, zero, suc, ◌+◌, ◌-◌, ◌*◌, ◌^◌, ◌≤◌, ◌<◌, T, leb, ltb, eqb, length, take, ℤ, pos, negsuc, neg_ℤ}
+use Rattle.std.specs.Prelude.{◌≡◌, refl, Bool, true, not, ◌&&◌, ℕ, zero, suc, ◌+◌, ◌-◌, ◌*◌, ◌^◌, ◌≤◌, ◌<◌, T, leb, ltb}
+use Rattle.std.specs.Prelude.{eqb, length, take, ℤ, pos, negsuc, neg_ℤ}
 use Rattle.std.proofs.Math.Path.{sym, ap, ap₂}
 use Rattle.std.proofs.Common.{◌∙◌, arith, add-one, length-take-le, get_or-take, pow_mono, SFits, to_z, of_z, to_z-of_z}
 use Rattle.std.proofs.Math.Bool.{false}
@@ -50,7 +51,8 @@ module _ (z : ℤ) (fits : SFits w64 z) where
       (same_test most (least && most) (λ t. and_T least most (simp zz (omega ints)) t) (λ t. (T_and least most t).1))
 
 -- the whole test, entry by entry
-pub small_every : (n : ℕ) (pyramid : List ℤ) → Every (entries_small n pyramid) (λ i. is_small (get_or pyramid i (pos 0))) n
+pub small_every : (n : ℕ) (pyramid : List ℤ)
+    → Every (entries_small n pyramid) (λ i. is_small (get_or pyramid i (pos 0))) n
 unfolding entries_small
 small_every n pyramid = record { is = refl }
 
@@ -243,7 +245,8 @@ module _ (side row column : ℕ) (l : List ℤ) where
       → renewal_of side row column l
       ≡ (
         true,
-        renewed (power_of side) (is_near row column) (take (needed (power_of side)) l) ++ drop (needed (power_of side)) l,
+        renewed (power_of side) (is_near row column) (take (needed (power_of side)) l)
+            ++ drop (needed (power_of side)) l,
       )
   unfolding renewal_of
   is_made e = rw (renewal_of, e)

@@ -1,7 +1,8 @@
 -- A level renewed at some places, and all that is over them: as stores into the pyramid (`four_made`, `one_made`), and
 -- as the renewal by place (`layouts`) has it (`renewed_is`, `all_made`).
 use Rattle.std.specs.Prelude.{◌≡◌, refl, ◌⊎◌, Bool, true, false, not, ◌||◌, drop, set, ℤ, pos}
-use Rattle.std.proofs.Common.{sym, ◌∙◌, length-set, take-append-drop, get_or-set_same, set-set, length-take-le, get_or-drop, ext_get_or, take_at, drop_at}
+use Rattle.std.proofs.Common.{sym, ◌∙◌, length-set, take-append-drop, get_or-set_same, set-set, length-take-le}
+use Rattle.std.proofs.Common.{get_or-drop, ext_get_or, take_at, drop_at}
 use Rattle.std.proofs.Math.Path.{ap, ap₂}
 use Rattle.std.proofs.Math.Logic.{inl, inr}
 use Rattle.std.proofs.Math.Bool.{cond}

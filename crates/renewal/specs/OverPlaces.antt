@@ -1,7 +1,8 @@
 -- What the functions of this crate are asked and told, by places of the whole pyramid (`FourPlaces`, `Corners`,
 -- `RenewAsked`): below the entry at place i are those at the places 4i + 1 to 4i + 4, and over it is the one at
 -- (i − 1) / 4.
-use Rattle.std.specs.Prelude.{◌≡◌, Bool, cond, ◌&&◌, ◌||◌, List, ◌++◌, ℕ, zero, suc, ◌+◌, ◌*◌, ◌-◌, ◌/◌, ◌^◌, ◌≤◌, ◌<◌, eqb, length, get_or, take, drop, set, ℤ, pos}
+use Rattle.std.specs.Prelude.{◌≡◌, Bool, cond, ◌&&◌, ◌||◌, List, ◌++◌, ℕ, zero, suc, ◌+◌, ◌*◌, ◌-◌, ◌/◌, ◌^◌, ◌≤◌, ◌<◌}
+use Rattle.std.specs.Prelude.{eqb, length, get_or, take, drop, set, ℤ, pos}
 use Rattle.definition.specs.Lists.{tabulate}
 use Rattle.definition.specs.Pyramid.{start}
 use Rattle.definition.specs.Quarters.{interleaved}

@@ -137,7 +137,11 @@ module _ (knit r t : ℕ) (p₀ : List ℤ) (s₀ o₀ : List ℕ) (dots : ℕ)
 
         next_rest : (p' : List ℤ) (s' o' : List ℕ) (after' : ℕ)
             → record { pyramid = rows_from r p'; serials = s'; order = o'; dots = after' }
-            ≡ work (kernel_of knit) r sheet_there (row_offset t + 2 * (i / columns), column_offset t + 2 * (i % columns))
+            ≡ work (kernel_of knit) r sheet_there (
+              row_offset t + 2 * (i / columns),
+              column_offset t
+                  + 2 * (i % columns),
+            )
             → work_all (kernel_of knit) r (record { pyramid = rows_from r p'; serials = s'; order = o'; dots = after' })
             (tabulate_from (i + 1) (in_round r t - (i + 1)) (in_place r t))
             ≡ work_all (kernel_of knit) r
@@ -152,7 +156,11 @@ module _ (knit r t : ℕ) (p₀ : List ℤ) (s₀ o₀ : List ℕ) (dots : ℕ)
 
         pub goes_on : (p' : List ℤ) (s' o' : List ℕ) (after' : ℕ) → length p' ≡ length p
             → record { pyramid = rows_from r p'; serials = s'; order = o'; dots = after' }
-            ≡ work (kernel_of knit) r sheet_there (row_offset t + 2 * (i / columns), column_offset t + 2 * (i % columns))
+            ≡ work (kernel_of knit) r sheet_there (
+              row_offset t + 2 * (i / columns),
+              column_offset t
+                  + 2 * (i % columns),
+            )
             → Working knit r t p₀ s₀ o₀ dots p' s' o' after' (i + 1)
         goes_on p' s' o' after' kept e =
             record {

@@ -1,7 +1,8 @@
 -- Tables of weights that the laws hold for (`Fit`), by one test that is computed (`fit_of`, and `knit_fit` for the
 -- table of each knit): over every kind of cell, as seen from a square and from the map, the weights' sum D divides
 -- 65,280, and three times the weight outside the square is at most D for each side of the square that the cell lies on.
-use Rattle.std.specs.Prelude.{◌≡◌, ◌⊎◌, Bool, ◌&&◌, ◌||◌, ℕ, zero, suc, ◌+◌, ◌*◌, ◌-◌, ◌/◌, ◌%◌, ◌≤◌, ◌<◌, T, leb, ltb, eqb}
+use Rattle.std.specs.Prelude.{◌≡◌, ◌⊎◌, Bool, ◌&&◌, ◌||◌, ℕ, zero, suc, ◌+◌, ◌*◌, ◌-◌, ◌/◌, ◌%◌, ◌≤◌, ◌<◌, T, leb, ltb}
+use Rattle.std.specs.Prelude.{eqb}
 use Rattle.std.proofs.Common.{inl, inr, arith, leb→le, ltb→lt, eqb→eq}
 use Rattle.std.proofs.Math.Nat.{div-add-mod}
 use Rattle.definition.specs.Lists.{sum_to, all_to}
@@ -44,7 +45,8 @@ module _ (kernel : Kernel) (t b l r : Next) where
       kernel.weight p * (of_three (p / 3) (present t) (present b) * of_three (p % 3) (present l) (present r))
 
   unfoldable pub kind_stays : ℕ → ℕ
-  kind_stays n = let p = kernel.turn n in of_three (p / 3) (inside t) (inside b) * of_three (p % 3) (inside l) (inside r)
+  kind_stays n = let p = kernel.turn n in of_three (p / 3) (inside t) (inside b) * of_three (p % 3) (inside l)
+      (inside r)
 
   unfoldable pub kind_sides : ℕ
   kind_sides = touching t + touching b + (touching l + touching r)
@@ -86,7 +88,8 @@ every_at test t off = (T_and (test beyond) (test off) (T_and (test within) (test
 kind_fits_lem : (kernel : Kernel) (t b l r : Next) → T (kind_fits kernel t b l r) → 0 < present t + present b
     → 0 < present l + present r → KindFits kernel t b l r
 unfolding kind_fits
-kind_fits_lem kernel t b l r h v w = go (T_or (eqb (present t + present b) 0 || eqb (present l + present r) 0) divided h)
+kind_fits_lem kernel t b l r h v w =
+    go (T_or (eqb (present t + present b) 0 || eqb (present l + present r) 0) divided h)
   where
     D : ℕ
     D = sum_to 9 (kind_weight kernel t b l r)
@@ -129,7 +132,7 @@ fit_of kernel h =
 
 -- the weights of each knit (S 3.5): the test above, computed for one table and for the other
 pub knit_fit : (knit : ℕ) → Fit (kernel_of knit)
-unfolding is_fit all_kinds_fit kind_fits kind_weight kind_stays kind_sides present inside touching of_three all_to sum_to
-    weights_of places_in_turn kernel_of
+unfolding is_fit all_kinds_fit kind_fits kind_weight kind_stays kind_sides present inside touching of_three all_to
+    sum_to weights_of places_in_turn kernel_of
 knit_fit zero = fit_of (kernel_of 0) tt
 knit_fit (suc n) = fit_of (kernel_of (suc n)) tt

@@ -38,7 +38,8 @@ on_no r x h = go h (on_or r x)
     go z (inr k) = k
 
 -- a cell at most one row and one column away
-is_near_lem : (row column x y : ℕ) → row ≤ x + 1 → x ≤ row + 1 → column ≤ y + 1 → y ≤ column + 1 → T (is_near row column x y)
+is_near_lem : (row column x y : ℕ) → row ≤ x + 1 → x ≤ row + 1 → column ≤ y + 1 → y ≤ column + 1
+    → T (is_near row column x y)
 unfolding is_near
 is_near_lem row column x y p q s t =
     four_T (leb row (x + 1)) (leb x (row + 1)) (leb column (y + 1)) (leb y (column + 1)) (le→leb _ _ p) (le→leb _ _ q)
@@ -68,7 +69,8 @@ module _ (kernel : Kernel) (r row column : ℕ) where
 
       go : ((1 ≤ row_near row p) × (row_near row p ≤ 2 ^ r)) ⊎ (on r (row_near row p) ≡ 0)
           → ((1 ≤ column_near column p) × (column_near column p ≤ 2 ^ r)) ⊎ (on r (column_near column p) ≡ 0)
-          → (1 ≤ row_near row p) × (row_near row p ≤ 2 ^ r) × (1 ≤ column_near column p) × (column_near column p ≤ 2 ^ r)
+          → (1 ≤ row_near row p) × (row_near row p ≤ 2 ^ r) × (1 ≤ column_near column p)
+          × (column_near column p ≤ 2 ^ r)
       go (inl a) (inl b) = (a.0, a.1, b.0, b.1)
       go (inl a) (inr z) = absurd (h (weight_is n ∙ rw z (omega arith)))
       go (inr z) b = absurd (h (weight_is n ∙ rw z (omega arith)))

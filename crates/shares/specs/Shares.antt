@@ -3,7 +3,8 @@
 -- of its weight (`share_bound`).
 use Rattle.std.specs.Prelude.{◌≡◌}
 use Rattle.std.proofs.Math.Path.{sym, ap}
-use Rattle.std.proofs.Common.{◌∙◌, arith, div-mul-le_self, lt_of_mul-lt-mul_right, mul-le-mul_right, mul-div_cancel, mul-zero, le-mul_of_pos_right}
+use Rattle.std.proofs.Common.{◌∙◌, arith, div-mul-le_self, lt_of_mul-lt-mul_right, mul-le-mul_right, mul-div_cancel}
+use Rattle.std.proofs.Common.{mul-zero, le-mul_of_pos_right}
 use Prim.Native.Nat.{ℕ, zero, suc, ◌+◌, ◌*◌, ◌/◌, ◌≤◌, ◌<◌}
 use Rattle.std.proofs.Math.Nat.{lt-div-mul-add, zero-div}
 use Rattle.definition.specs.Lists.{sum_to}

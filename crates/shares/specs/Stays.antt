@@ -8,7 +8,8 @@ use Rattle.definition.specs.Pyramid.{one_dot}
 use Rattle.integers.specs.Sums.{sum_to_add, sum_to_mul, sum_to_mono, sum_to_ext}
 
 -- ---- the arithmetic: shares s of at most u for each unit of the weights w, of which those with q stay inside
-pub stay_arith : (w q s : ℕ → ℕ) (u t own : ℕ) → ((n : ℕ) → q n ≤ 1) → ((n : ℕ) → s n ≤ u * w n) → own + sum_to 9 s ≡ one_dot
+pub stay_arith : (w q s : ℕ → ℕ) (u t own : ℕ) → ((n : ℕ) → q n ≤ 1) → ((n : ℕ) → s n ≤ u * w n) → own + sum_to 9 s
+    ≡ one_dot
     → sum_to 9 w * u ≡ one_dot
     → 3 * sum_to 9 (λ n. w n * (1 - q n)) ≤ sum_to 9 w * t → one_dot ≤ own + sum_to 9 (λ n. s n * q n) + 21760 * t
 stay_arith w q s u t own bits bound total whole few =

@@ -1,7 +1,8 @@
 -- The list with a plate put at its place, and plate after plate (`Sorting`, `sort_next`, `sort_end`).
 use Rattle.std.specs.Prelude.{◌≡◌, refl, ℕ, suc, ◌+◌, ◌-◌, ◌≤◌, ◌<◌, length}
 use Rattle.std.proofs.Math.Path.{sym, ap, ap₂}
-use Rattle.std.proofs.Common.{◌∙◌, arith, mul-le-mul_right, suc-mul, add-one, length-append, length-drop, take-append-drop, take_at, take-add, drop-drop}
+use Rattle.std.proofs.Common.{◌∙◌, arith, mul-le-mul_right, suc-mul, add-one, length-append, length-drop}
+use Rattle.std.proofs.Common.{take-append-drop, take_at, take-add, drop-drop}
 use mathlib.Core.List.{List, ◌∷◌, ◌++◌, append_assoc}
 use Rattle.std.proofs.Math.ListN.{take, drop}
 use Rattle.std.proofs.Math.Seq.{length-take-le, drop_at, take-take}

@@ -47,7 +47,11 @@ module _ (r : ℕ) where
       → compared r a b ≡ first_difference r (cell_count r) 0 (pattern a) (pattern b)
   as_many a b h =
       unfold compared in
-      rw (le-ltb (all_dots r a) (all_dots r b) (omega arith), le-ltb (all_dots r b) (all_dots r a) (omega arith), compared)
+      rw (
+        le-ltb (all_dots r a) (all_dots r b) (omega arith),
+        le-ltb (all_dots r b) (all_dots r a) (omega arith),
+        compared,
+      )
 
   -- ---- by the cells
   -- burnt in the same cells

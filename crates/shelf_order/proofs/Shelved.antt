@@ -1,4 +1,5 @@
--- What the call Shelf leaves is the one list that is in order (`shelf_list`), and the places past it stay (`shelf_rest`).
+-- What the call Shelf leaves is the one list that is in order (`shelf_list`), and the places past it stay
+-- (`shelf_rest`).
 use Rattle.std.specs.Prelude.{◌≡◌, ◌↔◌, List, [], ◌++◌, ℕ, length, take, drop}
 use Rattle.std.proofs.Common.{sym, ap, ◌∙◌, take_at, drop_at}
 use Rattle.definition.specs.Answers.{returned}

@@ -9,7 +9,8 @@ use Rattle.integers.specs.Tests.{bit}
 use Rattle.shelf_order.specs.Differences.{not_before}
 use Rattle.shelf_order.proofs.Order.{OneWay, goes_before, is_same, goes_after, one_way, same_iff}
 use Rattle.shelf_order.specs.Insertion.{Each, Pairs, times}
-use Rattle.shelf_order.proofs.Insertion.{each_map, pairs_at, stands, Precedes, precedes_chain, not_itself, precedes, times_in_order, in_order_pairs}
+use Rattle.shelf_order.proofs.Insertion.{each_map, pairs_at, stands, Precedes, precedes_chain, not_itself, precedes}
+use Rattle.shelf_order.proofs.Insertion.{times_in_order, in_order_pairs}
 
 -- ---- two lists with the same numbers, both in a strict order
 module _ (R : ℕ → ℕ → Type 0) (through : (x y z : ℕ) → R x y → R y z → R x z) where

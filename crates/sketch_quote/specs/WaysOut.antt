@@ -218,7 +218,8 @@ module _ {text : List ℕ} (k : ℕ) (lows highs caps : List ℕ) {side from : �
             })
 
         pub sketch_quoted_lem : {answer : SketchAnswer} {caps_after : List ℕ}
-            → FiguresPut side r k (take (side * side) lows_after) (take (side * side) highs_after) caps answer caps_after
+            → FiguresPut side r k (take (side * side) lows_after) (take (side * side) highs_after) caps answer
+            caps_after
             → record { said = sketch_says answer; lows = lows_after; highs = highs_after; caps = caps_after }
             ≡ sketch_quote_of text k lows highs caps
         unfolding sketch_quoted sketch_says

@@ -105,7 +105,8 @@ caps_at r highs k a b u v =
 -- every map between low and high (S 15.11)
 pub ranged : (side k : ℕ) (lows highs : List ℕ) → k ≤ power_of side
     → ((i : ℕ) → i < cell_count (power_of side) → get_or lows i 0 ≤ get_or highs i 0)
-    → Ranged side k lows highs (total_of (grey_total (power_of side) lows)) (total_of (grey_total (power_of side) highs))
+    → Ranged side k lows highs (total_of (grey_total (power_of side) lows))
+    (total_of (grey_total (power_of side) highs))
     (caps_of (power_of side) highs k)
 ranged side k lows highs level rise =
     let r = power_of side in
@@ -150,7 +151,8 @@ module _ (side k : ℕ) (lows highs : List ℕ) (least greatest : ℕ) (caps : L
     (q : Ranged side k lows highs least greatest caps) (lows' highs' caps' : List ℕ)
     (same_lows : Same (power_of side) lows' lows) (same_highs : Same (power_of side) highs' highs)
     (same_caps : (i : ℕ) → i < 2 ^ k * 2 ^ k → get_or caps' i 0 ≡ get_or caps i 0) where
-  between_same : (greys : List ℕ) → Between (power_of side) lows' greys highs' → Between (power_of side) lows greys highs
+  between_same : (greys : List ℕ) → Between (power_of side) lows' greys highs'
+      → Between (power_of side) lows greys highs
   between_same greys between =
       record {
         above = λ i h. omega (arith, same_lows i h, between.above i h);

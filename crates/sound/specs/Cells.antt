@@ -1,7 +1,9 @@
 -- The tests of every cell as tests of one cell after another (`row_every`, `held_every`), and of one cell
 -- (`bounded_burnt`, `owing_is`).
-use Rattle.std.specs.Prelude.{◌≡◌, refl, Bool, true, false, not, ◌&&◌, List, ℕ, suc, ◌+◌, ◌*◌, ◌-◌, ◌^◌, ◌≤◌, ◌<◌, T, leb, eqb, length, get_or, set, ℤ, pos, neg_ℤ, ◌-ℤ◌, ◌*ℤ◌}
-use Rattle.std.proofs.Common.{sym, ◌∙◌, arith, mul-le-mul, length-set, get_or-set_same, get_or-set_other, pow_mono, SFits, to_z, of_z, to_z-of_z, le-leb}
+use Rattle.std.specs.Prelude.{◌≡◌, refl, Bool, true, false, not, ◌&&◌, List, ℕ, suc, ◌+◌, ◌*◌, ◌-◌, ◌^◌, ◌≤◌, ◌<◌, T}
+use Rattle.std.specs.Prelude.{leb, eqb, length, get_or, set, ℤ, pos, neg_ℤ, ◌-ℤ◌, ◌*ℤ◌}
+use Rattle.std.proofs.Common.{sym, ◌∙◌, arith, mul-le-mul, length-set, get_or-set_same, get_or-set_other, pow_mono}
+use Rattle.std.proofs.Common.{SFits, to_z, of_z, to_z-of_z, le-leb}
 use Rattle.std.proofs.Math.Decide.{ℕ_discrete}
 use Rattle.std.specs.Int.Signed.{le_z, mag}
 use Rattle.std.specs.Int.{w64}
@@ -20,7 +22,8 @@ use Rattle.integers.specs.Totals.{Total}
 use Rattle.blocks.specs.Squares.{dot_none, dot_one}
 use Rattle.sound.specs.OnePlace.{in_rows, row_place, column_place, LineAsked, ColumnPlaces, CellAsked, GridAsked}
 use Rattle.sound.specs.OnePlace.{NearAsked, NearPlace, OwingAsked, RowAsked, is_neighbour, burnt_there, bounded_cell}
-use Rattle.sound.specs.OnePlace.{bounded_at, on_side, near_at, owing_cell, owing_at, held_at, held_in, row_held, held_row}
+use Rattle.sound.specs.OnePlace.{bounded_at, on_side, near_at, owing_cell, owing_at, held_at, held_in, row_held}
+use Rattle.sound.specs.OnePlace.{held_row}
 use Rattle.sound.specs.Either.{all_to_ext, two_parts_lt, cell_entry}
 use Rattle.integers.specs.Loops.{Every, held, failed}
 
@@ -86,7 +89,8 @@ pub on_side_is : (side : ℕ) {x : ℕ} → (x ≡ 0 → ⊥) → leb x side ≡
 on_side_is side {x} n = rw (le-leb 1 x (omega arith))
 
 module _ {side serials x y : ℕ} where
-  pub near_place : {row column : ℕ} {a b : Bool} → NearAsked side serials row column → a ≡ on_side side x → not a ≡ false
+  pub near_place : {row column : ℕ} {a b : Bool} → NearAsked side serials row column → a ≡ on_side side x → not a
+      ≡ false
       → b ≡ on_side side y → not b ≡ false → NearPlace side serials x y
   near_place h e f g k =
       let s = T_and (leb 1 x) (leb x side) (T_true _ (held e f)) in
@@ -153,7 +157,8 @@ module _ (near : ℕ) (few : near ≤ 9) where
   least_fits = rw least (simp words (omega machine))
 
   pub owing_is : (residual : ℤ) → mag residual < 2 ^ 63
-      → le_z (to_z w64 (of_z w64 (pos 0 -ℤ to_z w64 (of_z w64 (pos 65280 *ℤ to_z w64 near))))) (to_z w64 (of_z w64 residual))
+      → le_z (to_z w64 (of_z w64 (pos 0 -ℤ to_z w64 (of_z w64 (pos 65280 *ℤ to_z w64 near)))))
+      (to_z w64 (of_z w64 residual))
       ≡ owing_cell residual near
   owing_is residual fits = rw (to_z-of_z least_fits, least, back64 residual fits)
 

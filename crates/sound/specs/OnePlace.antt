@@ -1,6 +1,7 @@
 -- What the tests of a sheet are asked, and the same tests of one place (`SoundAsked`, `NumberedAsked`, `CellAsked`,
 -- `SummedAsked`).
-use Rattle.std.specs.Prelude.{◌≡◌, Bool, true, false, cond, not, ◌&&◌, ◌||◌, List, ℕ, suc, ◌+◌, ◌*◌, ◌-◌, ◌/◌, ◌%◌, ◌^◌, ◌≤◌, ◌<◌, leb, ltb, eqb, length, get_or, ℤ, pos, neg_ℤ}
+use Rattle.std.specs.Prelude.{◌≡◌, Bool, true, false, cond, not, ◌&&◌, ◌||◌, List, ℕ, suc, ◌+◌, ◌*◌, ◌-◌, ◌/◌, ◌%◌, ◌^◌}
+use Rattle.std.specs.Prelude.{◌≤◌, ◌<◌, leb, ltb, eqb, length, get_or, ℤ, pos, neg_ℤ}
 use Rattle.std.specs.Int.Signed.{le_z}
 use Rattle.definition.specs.Lists.{sum_to, all_to, eq_z}
 use Rattle.definition.specs.Pyramid.{one_dot, cell_count, needed, start, entry, four}
@@ -104,7 +105,8 @@ abbrev pub is_neighbour : ℕ → ℕ → ℕ → ℕ → Bool
 is_neighbour side row column p = not (eqb p 4) && (on_side side (row_near row p) && on_side side (column_near column p))
 
 abbrev pub burnt_there : ℕ → List ℕ → ℕ → ℕ → ℕ → ℕ
-burnt_there side serials row column p = burnt (get_or serials ((row_near row p - 1) * side + (column_near column p - 1)) 0)
+burnt_there side serials row column p =
+    burnt (get_or serials ((row_near row p - 1) * side + (column_near column p - 1)) 0)
 
 abbrev pub near_at : ℕ → List ℕ → ℕ → ℕ → ℕ → ℕ
 near_at side serials row column p = cond (is_neighbour side row column p) (burnt_there side serials row column p) 0

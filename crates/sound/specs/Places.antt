@@ -36,7 +36,8 @@ module _ (cells : ℕ) (serials order : List ℕ) (i : ℕ) where
   pub next_off : cells ≤ get_or order i 0 → false ≡ next_at cells serials order i
   next_off h = rw (le-ltb (get_or order i 0) cells h)
 
-  pub next_on : get_or order i 0 < cells → eqb (get_or serials (get_or order i 0) 0) (i + 1) ≡ next_at cells serials order i
+  pub next_on : get_or order i 0 < cells → eqb (get_or serials (get_or order i 0) 0) (i + 1)
+      ≡ next_at cells serials order i
   next_on h = rw (lt-ltb (get_or order i 0) cells h, add-one i)
 
 module _ (dots : ℕ) (order : List ℕ) (i : ℕ) where

@@ -1,6 +1,7 @@
 -- The seven tests together: which of them are asked after which, and what one that fails (`few_no` and so on), or all
 -- but the sums (`all_but_sums`), say of the sheet.
-use Rattle.std.specs.Prelude.{◌≡◌, refl, Bool, true, false, not, ◌&&◌, ◌||◌, List, ℕ, ◌*◌, ◌^◌, ◌≤◌, ◌<◌, T, length, ℤ, pos, neg_ℤ}
+use Rattle.std.specs.Prelude.{◌≡◌, refl, Bool, true, false, not, ◌&&◌, ◌||◌, List, ℕ, ◌*◌, ◌^◌, ◌≤◌, ◌<◌, T, length, ℤ}
+use Rattle.std.specs.Prelude.{pos, neg_ℤ}
 use Rattle.std.proofs.Common.{◌∙◌, arith}
 use Rattle.std.proofs.Math.Dec.{eqb}
 use Rattle.std.specs.Int.Signed.{le_z, le_z_yes}

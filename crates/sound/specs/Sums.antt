@@ -2,7 +2,8 @@
 -- `sum_by_quarters`).
 use Rattle.std.specs.Prelude.{◌≡◌, refl, Bool, List, ℕ, suc, ◌+◌, ◌*◌, ◌/◌, ◌%◌, ◌^◌, ◌≤◌, ◌<◌, eqb, ℤ, pos}
 use Rattle.std.proofs.Math.Path.{sym, ap, ap₂}
-use Rattle.std.proofs.Common.{◌∙◌, arith, add-one, div-lt_iff_lt-mul, mod-lt, mul-le-mul, mul-le-mul_right, add-mul, add_assoc, pow_pos, pow_mono, eqb→eq, SFits, of_z}
+use Rattle.std.proofs.Common.{◌∙◌, arith, add-one, div-lt_iff_lt-mul, mod-lt, mul-le-mul, mul-le-mul_right, add-mul}
+use Rattle.std.proofs.Common.{add_assoc, pow_pos, pow_mono, eqb→eq, SFits, of_z}
 use Rattle.std.proofs.Math.Bool.{true, false}
 use Rattle.std.proofs.Math.Nat.{pow-succ'}
 use Rattle.std.proofs.Math.ListN.{get_or}

@@ -1,6 +1,7 @@
 -- What is promised of names, clause by clause, for every list of calls after an accepted Load. Each clause is written
 -- out with its own figures and taken from a field of `names_hold`, so none of them can go, or say less, unnoticed.
-use Rattle.std.specs.Prelude.{◌≡◌, ◌≢◌, List, [], ◌∷◌, ◌++◌, map, ℕ, suc, ◌+◌, ◌*◌, ◌-◌, ◌/◌, ◌^◌, ◌≤◌, ◌<◌, min, get_or, take, drop, ℤ, pos, ◌+ℤ◌, ◌<ℤ◌}
+use Rattle.std.specs.Prelude.{◌≡◌, ◌≢◌, List, [], ◌∷◌, ◌++◌, map, ℕ, suc, ◌+◌, ◌*◌, ◌-◌, ◌/◌, ◌^◌, ◌≤◌, ◌<◌, min}
+use Rattle.std.specs.Prelude.{get_or, take, drop, ℤ, pos, ◌+ℤ◌, ◌<ℤ◌}
 use Rattle.std.proofs.Math.Path.{ap}
 use Rattle.definition.specs.Answers.{returned}
 use Rattle.definition.specs.Pyramid.{start}

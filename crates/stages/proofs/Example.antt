@@ -118,8 +118,8 @@ actions =
     ∷ return 3 4 5 ∷ return 8 4 4 ∷ return 8 3 5 ∷ return 8 9 5 ∷ return 1 4 6 ∷ []
 
 accepted : Accepted 2 ribbed greys pyramid sheet sheet
-unfolding load_by_quarters as_rows relaid rows_from joined level_of tabulate_from load_of load_refusal low_map none_high loaded
-    lowest power_of power_up_to start
+unfolding load_by_quarters as_rows relaid rows_from joined level_of tabulate_from load_of load_refusal low_map none_high
+    loaded lowest power_of power_up_to start
 accepted =
     record { bytes = (omega arith, (omega arith, (omega arith, (omega arith, tt)))); said = refl }
 
@@ -142,8 +142,8 @@ unfolding sum_to all_to tabulate_from eq_z start place_in row_at column_at level
     pyramid_over block_sum grey_at burnt burnt_at grey_sum grey_total candidate first_of_equals last_of_equals of_equals
     choice_of better largest descend weights_of places_in_turn kernel_of within on_map weight_at share diffuse top_of
     model_start missing place_dot step steps burnt_near every_entry few_dots numbered counted unused summed
-    bounded owing is_sound power_up_to power_of lowest load_refusal low_map none_high loaded load_of dots_due said_at sheet_in
-    advance_refusal
+    bounded owing is_sound power_up_to power_of lowest load_refusal low_map none_high loaded load_of dots_due said_at
+    sheet_in advance_refusal
     advanced advance_of held_after_load call_of held_after is_name kept_at keep_refusal keep_of can_restore
     restore_refusal restored restore_of caller_at_first return_of caller_after act answer_of caller_after_all answers_of
     interleaved row_of column_of quarter_entry quarter_level rows_from quarters_from relaid as_rows as_quarters joined

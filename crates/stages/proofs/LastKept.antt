@@ -7,7 +7,8 @@ use Rattle.std.proofs.Math.Bool.{true, false}
 use mathlib.Core.List.{List, [], ◌∷◌, ◌++◌}
 use Rattle.std.proofs.Math.Option.{some, none}
 use Rattle.definition.specs.Checkpoints.{is_name}
-use Rattle.definition.specs.Stages.{Action, advancing, keeping, returning, Memory, sheet_at, model_act, memory_after_all}
+use Rattle.definition.specs.Stages.{Action, advancing, keeping, returning, Memory, sheet_at, model_act}
+use Rattle.definition.specs.Stages.{memory_after_all}
 use Rattle.refusals.specs.Names.{at_least_one, at_most_eight}
 use Rattle.guarantee.specs.PriceList.{Each}
 

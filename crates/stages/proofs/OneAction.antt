@@ -459,7 +459,8 @@ module _ (knit : ℕ) (known : knit ≤ 1) (r : ℕ) (big : 2 ≤ 2 ^ r) (power 
                 eight = rw length-set g.eight;
               },
             )
-        go false e = rw (e, keep_refused m name e, act, answer_of, model_act, model_answer, said_of, lowest) (refl, refl, g)
+        go false e = rw (e, keep_refused m name e, act, answer_of, model_act, model_answer, said_of, lowest)
+            (refl, refl, g)
     act_same m g (returning b) = (
       ap caller_after (return_same m g b),
       ap (λ (out : RestoreOutcome). back out.progress out.said) (return_same m g b),

@@ -11,7 +11,8 @@ use Rattle.definition.specs.Pyramid.{needed, cell_count}
 use Rattle.definition.specs.Blocks.{grey_total}
 use Rattle.definition.specs.Model.{Halftone, model_start}
 use Rattle.definition.specs.Refusals.{power_of, lowest}
-use Rattle.definition.specs.AdvanceList.{Call, Held, held_after_load, held_after_calls, model_refusal, model_after_calls}
+use Rattle.definition.specs.AdvanceList.{Call, Held, held_after_load, held_after_calls, model_refusal}
+use Rattle.definition.specs.AdvanceList.{model_after_calls}
 use Rattle.definition.specs.Checkpoints.{is_name, RestoreOutcome}
 use Rattle.definition.specs.Quarters.{quarters_from}
 use Rattle.definition.specs.Stages.{

@@ -1,6 +1,7 @@
 -- What is promised of names, as one statement about a whole list of Advance, Keep and Restore calls after an accepted
 -- Load (`StagesHold`). `Theorem` proves it, and `Clauses` says it again field by field.
-use Rattle.std.specs.Prelude.{◌≡◌, ◌≢◌, List, [], ◌∷◌, ◌++◌, ℕ, ◌*◌, ◌^◌, ◌≤◌, ◌<◌, get_or, take, drop, ℤ, pos, ◌+ℤ◌, ◌<ℤ◌}
+use Rattle.std.specs.Prelude.{◌≡◌, ◌≢◌, List, [], ◌∷◌, ◌++◌, ℕ, ◌*◌, ◌^◌, ◌≤◌, ◌<◌, get_or, take, drop, ℤ, pos, ◌+ℤ◌}
+use Rattle.std.specs.Prelude.{◌<ℤ◌}
 use Rattle.definition.specs.Answers.{returned}
 use Rattle.definition.specs.Pyramid.{one_dot, half_dot, needed, cell_count}
 use Rattle.definition.specs.Blocks.{grey_total, total_of, all_dots}

@@ -1,6 +1,8 @@
 -- The walk over the blocks: a cell alone (`cell_walked`), and a block from its four quarters (`block_walked`).
-use Rattle.std.specs.Prelude.{◌≡◌, refl, Bool, true, false, cond, List, ℕ, suc, ◌+◌, ◌*◌, ◌-◌, ◌^◌, ◌≤◌, ◌<◌, eqb, length, get_or, set, ℤ, ◌+ℤ◌, nat_abs}
-use Rattle.std.proofs.Common.{sym, ap, ◌∙◌, arith, add-one, mul-le-mul, mul-le-mul_right, eq-eqb, ne_eqb, length-set, get_or-set_same, get_or-set_other, pow_mono}
+use Rattle.std.specs.Prelude.{◌≡◌, refl, Bool, true, false, cond, List, ℕ, suc, ◌+◌, ◌*◌, ◌-◌, ◌^◌, ◌≤◌, ◌<◌, eqb}
+use Rattle.std.specs.Prelude.{length, get_or, set, ℤ, ◌+ℤ◌, nat_abs}
+use Rattle.std.proofs.Common.{sym, ap, ◌∙◌, arith, add-one, mul-le-mul, mul-le-mul_right, eq-eqb, ne_eqb, length-set}
+use Rattle.std.proofs.Common.{get_or-set_same, get_or-set_other, pow_mono}
 use Rattle.std.proofs.Math.Nat.{pow-succ'}
 use Rattle.std.proofs.Math.Decide.{ℕ_discrete}
 use Rattle.definition.specs.Blocks.{block_sum_z, grey_at, burnt_at}
@@ -18,7 +20,8 @@ length_added : (l : List ℕ) (k v : ℕ) → length (added l k v) ≡ length l
 unfolding added
 length_added l k v = length-set l k (get_or l k 0 + v)
 
-added_at : (l : List ℕ) (k v : ℕ) → k < length l → (i : ℕ) → get_or (added l k v) i 0 ≡ get_or l i 0 + cond (eqb i k) v 0
+added_at : (l : List ℕ) (k v : ℕ) → k < length l → (i : ℕ) → get_or (added l k v) i 0 ≡ get_or l i 0
+    + cond (eqb i k) v 0
 unfolding added
 added_at l k v h i = go (ℕ_discrete i k)
   where

@@ -4,7 +4,8 @@
 ghost use Rattle.std.specs.Prelude.{◌≡◌, ◌+◌, ◌≤◌, min, length, leb, cond};
 ghost use Rattle.definition.specs.Lists.{tabulate};
 ghost use Rattle.definition.specs.Answers.{tally_says, levels_says};
-ghost use Rattle.definition.specs.Survey.{error_at, squared, level_sum, tally_refusal, tally_of, levels_refusal, levels_of};
+ghost use Rattle.definition.specs.Survey.{error_at, squared, level_sum, tally_refusal, tally_of, levels_refusal};
+ghost use Rattle.definition.specs.Survey.{levels_of};
 ghost use Rattle.checks.specs.Checks.{checked};
 ghost use Rattle.integers.specs.Totals.{TotalZ};
 ghost use Rattle.blocks.specs.Blocks.{BlockAsked};

@@ -107,7 +107,8 @@ cell_read false most end text {low} {high} {rest} e =
           (sym low_is ∙ high_is, rw (← low_is, ← rest_is) q)
     ]) refl
 cell_read true most end text {low} {high} {rest} e =
-    (elim (field_of most comma text) as (λ f. field_of most comma text ≡ f → CellRead true most end text low high rest) [
+    (elim (field_of most comma text)
+    as (λ f. field_of most comma text ≡ f → CellRead true most end text low high rest) [
       | malformed ↦ λ q. absurd (suc-ne-zero 0 (cc (rw (q, cell_of) at e)))
       | field first behind ↦
           λ q.

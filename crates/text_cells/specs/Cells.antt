@@ -1,6 +1,7 @@
 -- The cells of a text, from one on: what two buffers hold once they are read and stored (`CellsRead`), and the loop
 -- that reads them (`CellsLeft`, `left_less`).
-use Rattle.std.specs.Prelude.{◌≡◌, refl, Bool, true, false, cond, ◌&&◌, List, [], ◌∷◌, ℕ, suc, ◌+◌, ◌*◌, ◌<◌, ◌≤◌, leb, set}
+use Rattle.std.specs.Prelude.{◌≡◌, refl, Bool, true, false, cond, ◌&&◌, List, [], ◌∷◌, ℕ, suc, ◌+◌, ◌*◌, ◌<◌, ◌≤◌, leb}
+use Rattle.std.specs.Prelude.{set}
 use Rattle.std.proofs.Math.Path.{sym, ap}
 use Rattle.std.proofs.Common.{◌∙◌, mul-le-mul, arith, drop_of_length-le, drop-cons, Fits}
 use Rattle.std.proofs.Math.Option.{Option, some, none, map}
@@ -77,7 +78,8 @@ unfolding lows_of highs_of pairs_rise
 stored_cell false most end text {low} {high} e i lows highs rise values =
     let same = (cell_read false most end text e).0 in
     rw (← same, le-leb low low (omega arith))
-    (rise_in_lem (sets (set lows i low) (suc i) values) (sets (set highs i low) (suc i) values) (rise_more rise true true))
+    (rise_in_lem (sets (set lows i low) (suc i) values) (sets (set highs i low) (suc i) values)
+    (rise_more rise true true))
 stored_cell true most end text {low} {high} e i lows highs rise values =
     rise_in_lem (sets (set lows i low) (suc i) (lows_of values)) (sets (set highs i high) (suc i) (highs_of values))
     (rise_more rise (leb low high) (pairs_rise values))
@@ -178,7 +180,8 @@ module _ {text : List ℕ} {from side : ℕ} {pairs : Bool} {most : ℕ} {lows�
           → CellsLeft text from side pairs most lows₀ highs₀ next (i + 1) lows_after highs_after still
       unfolding cells_from cell_in
       left_less {low} {high} {next} e u v s =
-          let m : cell_of pairs most end (drop at text) ≡ cell low high (drop next text) = sym f ∙ ap (cell_in text) e in
+          let m : cell_of pairs most end (drop at text) ≡ cell low high (drop next text) = sym f
+          ∙ ap (cell_in text) e in
           let rest = drop (suc i) (map_ends side) in
           let values = values_of most (number_ends pairs rest) (drop next text) in
           record {

@@ -6,7 +6,8 @@ use Rattle.blocks.specs.Squares.{row_greys, row_most}
 use Rattle.blocks.proofs.square_greys.Given as goal
 
 abbrev pub invariant-loop-x : goal.invariant-loop-x
-invariant-loop-x l = (l.x ≤ l.s) × Total (sum_to l.x (λ i. row_greys l.greys ((l.top + i) * l.side + l.left) l.s)) (l.x * row_most) l.sum
+invariant-loop-x l = (l.x ≤ l.s) × Total (sum_to l.x (λ i. row_greys l.greys ((l.top + i) * l.side + l.left) l.s))
+    (l.x * row_most) l.sum
 
 abbrev pub decreases-loop-x : goal.decreases-loop-x
 decreases-loop-x l = l.s - l.x

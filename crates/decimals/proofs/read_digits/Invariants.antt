@@ -10,7 +10,8 @@ use Rattle.decimals.specs.Reading.{is_next_digit_lem, digits_out, digits_end, di
 use Rattle.decimals.proofs.read_digits.Given as goal
 
 abbrev pub invariant-loop-at : goal.invariant-loop-at
-invariant-loop-at l = digits_then l.most l.end l.v (drop l.at l.text) ≡ digits_then l.most l.end l.first (drop l.from l.text)
+invariant-loop-at l = digits_then l.most l.end l.v (drop l.at l.text)
+    ≡ digits_then l.most l.end l.first (drop l.from l.text)
 
 abbrev pub decreases-loop-at : goal.decreases-loop-at
 decreases-loop-at l = length l.text - l.at

@@ -20,7 +20,12 @@ overflow_add-dots c =
 
 pub place_dot-requires : goal.place_dot-requires
 place_dot-requires c =
-    record { dot_asked = search (dot_asked, rules); pyramid_len = search (still_long, rules); table_value = search rules }
+    record {
+      dot_asked = search (dot_asked, rules);
+      pyramid_len = search (still_long, rules);
+      table_value =
+          search rules;
+    }
 
 pub loop-made-preserved : goal.loop-made-preserved
 loop-made-preserved c =

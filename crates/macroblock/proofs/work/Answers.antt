@@ -36,7 +36,8 @@ returns-then-not-lies_clear c =
 pub place_at-requires : goal.place_at-requires
 place_at-requires c =
     record {
-      place_at_asked = place_asked c.args.knit _ _ _ _ _ _ _ c.requires.large_sheet c.requires.fits c.requires.pyramid_len
+      place_at_asked = place_asked c.args.knit _ _ _ _ _ _ _ c.requires.large_sheet c.requires.fits
+          c.requires.pyramid_len
           c.debt_of-debt.ensures c.if-not-debt.false _ _ c.descend-cell.ensures c.lies_clear.ensures
           c.if-not-lies_clear.false-raw;
       pyramid_len = c.requires.pyramid_len;

@@ -43,7 +43,12 @@ slice_bounds-place-start c =
 
 pub place-requires : goal.place-requires
 place-requires c =
-    record { place_asked = search (place_asked, parts_are, rules); table_value = search rules; p_value = search (parts_are, rules) }
+    record {
+      place_asked = search (place_asked, parts_are, rules);
+      table_value = search rules;
+      p_value =
+          search (parts_are, rules);
+    }
 
 pub renew-requires : goal.renew-requires
 renew-requires c =

@@ -1,7 +1,8 @@
 use mathlib.Core.Path.{refl}
 use native.Mathlib.Omega.{arith}
 use borrow.Author.Rules.{rules}
-use Rattle.plate_order.specs.Finding.{row_fits, row_narrow, cell_fits, rows_fit, bytes_fit, in_left, in_right, column_narrow, rest_none, rest_start, rest_row, rest_end, rest_next, rest_found}
+use Rattle.plate_order.specs.Finding.{row_fits, row_narrow, cell_fits, rows_fit, bytes_fit, in_left, in_right}
+use Rattle.plate_order.specs.Finding.{column_narrow, rest_none, rest_start, rest_row, rest_end, rest_next, rest_found}
 use Rattle.plate_order.proofs.first_difference.Goals as goal
 
 pub rows-init : goal.rows-init

@@ -4,4 +4,8 @@ use Rattle.program_texts.proofs.convert_text.Goals as goal
 
 pub returns : goal.returns
 returns c =
-    record { bytes_value = printed_text c.put_converted-length.ensures; length_bound = printed_in_lem c.put_converted-length.ensures }
+    record {
+      bytes_value = printed_text c.put_converted-length.ensures;
+      length_bound =
+          printed_in_lem c.put_converted-length.ensures;
+    }

@@ -10,5 +10,6 @@ put_map-requires c =
 
 pub returns : goal.returns
 returns c =
-    let both = sample_printed (omega arith) (filled _ (omega arith) c.sample.ensures c.lower.ensures) c.put_map.ensures in
+    let both = sample_printed (omega arith) (filled _ (omega arith) c.sample.ensures c.lower.ensures) c.put_map.ensures
+    in
     record { out_after = both.0; upper_bound = both.1 }

@@ -1,6 +1,7 @@
 use native.Mathlib.Omega.{arith}
 use borrow.Author.Rules.{rules}
-use Rattle.renewal.specs.Upward.{climb_begins, climb_some, places_some, four_asked, climb_on, climb_rising, climb_inside, climbed}
+use Rattle.renewal.specs.Upward.{climb_begins, climb_some, places_some, four_asked, climb_on, climb_rising}
+use Rattle.renewal.specs.Upward.{climb_inside, climbed}
 use Rattle.renewal.proofs.renew_up.Goals as goal
 
 pub loop-nw-init : goal.loop-nw-init

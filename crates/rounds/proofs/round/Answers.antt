@@ -1,5 +1,6 @@
 use borrow.Author.Rules.{rules}
-use Rattle.rounds.specs.Round.{row_asked, column_asked, begins, columns_some, count_fits, down_fits, a_fits, right_fits, b_fits, large_now, still_long, next_fits, worked, fits_now, goes_on}
+use Rattle.rounds.specs.Round.{row_asked, column_asked, begins, columns_some, count_fits, down_fits, a_fits, right_fits}
+use Rattle.rounds.specs.Round.{b_fits, large_now, still_long, next_fits, worked, fits_now, goes_on}
 use Rattle.rounds.proofs.round.Goals as goal
 
 pub across-rows-requires : goal.across-rows-requires

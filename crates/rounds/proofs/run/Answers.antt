@@ -8,7 +8,12 @@ loop-idle-init c =
 
 pub round-after-requires : goal.round-after-requires
 round-after-requires c =
-    record { large_sheet = search (large_now, rules); pyramid_len = search (still_long, rules); table_value = search rules }
+    record {
+      large_sheet = search (large_now, rules);
+      pyramid_len = search (still_long, rules);
+      table_value =
+          search rules;
+    }
 
 pub overflow_add-t : goal.overflow_add-t
 overflow_add-t c =

@@ -7,7 +7,8 @@ use Rattle.integers.specs.Totals.{Total}
 use Rattle.sound.proofs.counted.Given as goal
 
 abbrev pub invariant-loop-cell : goal.invariant-loop-cell
-invariant-loop-cell l = (l.cell ≤ l.cells) × Total (sum_to l.cell (λ m. burnt (get_or l.serials m 0))) (l.cell * 1) l.sum
+invariant-loop-cell l = (l.cell ≤ l.cells) × Total (sum_to l.cell (λ m. burnt (get_or l.serials m 0))) (l.cell * 1)
+    l.sum
 
 abbrev pub decreases-loop-cell : goal.decreases-loop-cell
 decreases-loop-cell l = l.cells - l.cell
