@@ -1,5 +1,5 @@
--- The list of calls that slices of numbers give (`item_at`, `actions_in`), and what the caller holds between two of them
--- (`caller_of`).
+-- The list of calls that slices of numbers give (`item_at`, `actions_in`), and what the caller holds between two of
+-- them (`caller_of`).
 use Rattle.std.specs.Prelude.{List, ℕ, zero, suc, length, get_or, ℤ}
 use Rattle.definition.specs.Lists.{tabulate}
 use Rattle.definition.specs.AdvanceList.{Call}

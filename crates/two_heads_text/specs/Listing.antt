@@ -40,7 +40,8 @@ listed_from t out = drill_list_by_quarters t.progress t.pyramid t.serials t.orde
 
 -- what is printed, by the side
 module _ (side : ℕ) (greys : List ℕ) {before after : List ℕ} {n : ℕ} where
-  small_printed : side < 16 → Printed (refused_text 14) before n after → Printed (two_heads_list side greys) before n after
+  small_printed : side < 16 → Printed (refused_text 14) before n after
+      → Printed (two_heads_list side greys) before n after
   unfolding two_heads_list
   small_printed h w = rw (lt-ltb side 16 h, two_heads_list) w
 

@@ -4,4 +4,8 @@ use Rattle.two_heads_text.proofs.two_heads_text.Goals as goal
 
 pub returns : goal.returns
 returns c =
-    record { bytes_value = printed_text c.put_text-length.ensures; length_bound = printed_in_lem c.put_text-length.ensures }
+    record {
+      bytes_value = printed_text c.put_text-length.ensures;
+      length_bound =
+          printed_in_lem c.put_text-length.ensures;
+    }
