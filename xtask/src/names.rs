@@ -1,7 +1,7 @@
 //! names: whether every name of ours that stands in backticks on README.md or a page of docs exists in the tree: a law,
-//! definition, function, crate, module, file, tool, or must-fail edit. Notes on requests (docs/changes) and docs/PORT.md keep the names
-//! of their time. A name counts as existing if something declares it, in a language without declarations that we read
-//! if code uses it; comments do not count.
+//! definition, function, crate, module, file, tool, or must-fail edit. Notes on requests (docs/changes) and
+//! docs/PORT.md keep the names of their time. A name counts as existing if something declares it, in a language without
+//! declarations that we read if code uses it; comments do not count.
 
 use std::collections::HashSet;
 use std::path::Path;
