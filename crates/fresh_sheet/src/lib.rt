@@ -13,6 +13,7 @@ use definition::Refusal;
 
 // Whether no grey of the map is above 240 (S 2.2). What lies behind its cells is not looked at; where fewer greys are
 // lent, those are.
+#[tactic(auto, using(crate::specs::Rows::low_short))]
 pub fn low_map(r: usize, greys: &[u8]) -> bool
     requires { r ≤ 8 }
     ensures { result ≡ low_map r greys.now }

@@ -1,11 +1,7 @@
 -- `fresh_sheet::low_map`.
 use borrow.Author.Rules.{rules}
-use Rattle.fresh_sheet.specs.Rows.{low_short, low_front, front_length}
+use Rattle.fresh_sheet.specs.Rows.{low_front, front_length}
 use Rattle.fresh_sheet.proofs.low_map.Goals as goal
-
-pub returns-then-greys-cells : goal.returns-then-greys-cells
-returns-then-greys-cells c =
-    search (low_short, rules)
 
 pub slice_bounds-none_high-end : goal.slice_bounds-none_high-end
 slice_bounds-none_high-end c =
