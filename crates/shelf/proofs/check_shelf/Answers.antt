@@ -1,6 +1,8 @@
 -- `shelf::check_shelf`: each row that does not apply is passed over; the first that does gives its number.
+use native.Mathlib.Omega.{arith}
 use borrow.Author.Rules.{rules}
 use borrow.Author.Tests.{eq-eqb, ne_eqb, lt-ltb, le-ltb}
+use Rattle.std.proofs.lemmas.Bool.Decides.{nat_tests}
 use Rattle.definition.specs.Answers.{number_of}
 use Rattle.definition.specs.Refusals.{lowest}
 use Rattle.definition.specs.Shelf.{shelf_refusal}
@@ -34,11 +36,8 @@ returns-then-plates-places c =
 pub returns-then-list-count : goal.returns-then-list-count
 unfolding checked number_of lowest shelf_refusal
 returns-then-list-count c =
-    simp (
-      ne_eqb _ 0 c.if-r-eq0.false,
-      enough (shelf_length c.args.n c.cell_count.ensures) c.if-plates-places.false,
-      lt-ltb _ _ c.if-list-count.true,
-    )
+    let e = shelf_length c.args.n c.cell_count.ensures in
+    grind (arith, nat_tests, e)
 
 pub returns : goal.returns
 unfolding checked number_of lowest shelf_refusal
