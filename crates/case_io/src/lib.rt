@@ -1,25 +1,14 @@
-// What the programs share: the input (`read_input`), numbers read from a text of numbers parted by commas and line ends
-// (`next`), and numbers, lists, answers and refusals written to an output (`field`, `print_load`, `print_call`); and
-// the buffers of a case, their greys (`make_greys`), and Advance on them (`advance_on`).
+// What the programs share: numbers read from a text of numbers parted by commas and line ends (`next`), and numbers,
+// lists, answers and refusals written to an output (`field`, `print_load`, `print_call`); and the buffers of a case,
+// their greys (`make_greys`), and Advance on them (`advance_on`).
 #![tactic(auto)]
 
-ghost use Rattle.std.specs.Prelude.{◌≡◌, ◌≤◌, ◌<◌, ◌^◌, IfOk, IfSome, length, take};
+ghost use Rattle.std.specs.Prelude.{◌≤◌, ◌<◌, ◌^◌, length};
 
 use decimals::Number;
 use definition::{AdvanceAnswer, AdvanceStatus, LoadAnswer, LoadStatus, Progress, Refusal};
-use std::alloc::Global;
 use std::io;
-use std::io::{Read, Write};
-
-// The bytes read at most, more than the cases of any program have.
-const INPUT_LIMIT: u64 = 65536;
-
-// Reads an input to its end, or no further than the limit.
-pub fn read_input<R: Read + Drop>(alloc: Global, input: R) -> io::Result<Vec<u8>>
-    ensures { IfOk result (λ read. IfSome (R.remaining input) (λ bytes. read.items ≡ take 65536 bytes)) }
-{
-    program_input::read_at_most(alloc, input, INPUT_LIMIT)
-}
+use std::io::Write;
 
 // A number that was read, and the place behind the byte that ends it.
 #[derive(Clone, Copy)]

@@ -1,5 +1,5 @@
--- A dot at a cell of a sound sheet that owes something: the cell is (unburnt kernel fit r big s sized sound row column
--- i j due) (`unburnt`) and owes at most one dot (`owed_most`), and the sheet is sound afterwards (`after_sound`).
+-- A dot at a cell of a sound sheet that owes something: the cell is unburnt (`unburnt`, in `Unburnt`) and owes at most
+-- one dot (`owed_most`), and the sheet is sound afterwards (`after_sound`).
 use Rattle.std.specs.Prelude.{◌≡◌, ◌⊎◌, false, ℕ, suc, ◌+◌, ◌*◌, ◌-◌, ◌^◌, ◌≤◌, ◌<◌, pos, neg_ℤ, ◌-ℤ◌, ◌≤ℤ◌, ◌<ℤ◌}
 use Rattle.std.proofs.Math.Path.{refl}
 use Rattle.std.proofs.Common.{sym, ap, ap₂, ◌∙◌, inl, inr, arith}

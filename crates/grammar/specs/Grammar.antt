@@ -1,6 +1,5 @@
--- `text_read_iff`, one law for maps and sketches: a text is read just if it is a line of the side and, behind it, so
--- many lines of as many numbers as are asked for, each a byte, where they fit. So a map's text is read just if it is
--- that of a map that fits (`grammar`), and a written one is read back (`written_text_accepted`).
+-- What the laws on texts speak of. One form for maps and sketches: a line of the side and, behind it, so many lines of
+-- as many numbers as are asked for, each a byte, where they fit (`TextOf`); and that of a map (`MapOf`).
 use Rattle.std.specs.Prelude.{◌≡◌, List, [], ◌∷◌, ◌++◌, length, get_or}
 use Prim.Native.Nat.{ℕ, ◌*◌, ◌<◌, ◌≤◌}
 use Rattle.definition.specs.Lists.{repeated}

@@ -1,6 +1,6 @@
--- What Lower Text makes of a text: the one text of the lowered greys (`converted`). It is read back as these
--- (`reads_lowered`), is the text itself if no grey was too high (`copied_if_low`), is just as long in any case
--- (`lowered_as_long`), and stays when converted again (`once_is_enough`).
+-- What Lower Text makes of a text, as one statement (`Converted`): the one text of the lowered greys, which is read
+-- back as these, is the text itself if no grey was too high, is just as long in any case, and stays when converted
+-- again.
 use Rattle.std.specs.Prelude.{◌≡◌, true, List, [], ◌∷◌, ◌++◌, ℕ, ◌*◌, ◌≤◌, length, take, drop}
 use Rattle.definition.specs.Answers.{returned}
 use Rattle.definition.specs.Lowering.{none_high, lowered}

@@ -1,5 +1,4 @@
--- What Map Text takes: a text of the grammar that has no grey above 240 (`read_low_iff`). On such a text, and on no
--- other, the call returns the map's side and leaves its greys (`map_text_returned_iff`, `map_text_outcome`).
+-- The texts that Map Text takes: those of the grammar that have no grey above 240 (`LowMapOf`).
 use Rattle.std.specs.Prelude.{List, ℕ, ◌<◌, ◌≤◌, length, get_or}
 use Rattle.grammar.specs.Grammar.{MapOf}
 

@@ -1,6 +1,6 @@
--- The grammar of sketches: pairs taken apart into lows and highs and put together again (`apart`); the text that the
--- call takes, told by its lows and highs (`sketch_read_iff`); what the call answers and leaves on such a text
--- (`sketch_outcome`), and that on no other it returns figures (`sketch_returned_iff`).
+-- What the laws on sketches speak of: pairs taken apart into lows and highs and put together again (`Apart`); the text
+-- of a sketch, told by its lows and highs (`SketchOf`), and what the reader finds in it (`SketchRead`); which of them
+-- the call quotes (`Quotable`, `Passed`), and what was quoted (`QuotedSketch`).
 use Rattle.std.specs.Prelude.{◌≡◌, true, List, ℕ, ◌*◌, ◌^◌, ◌<◌, ◌≤◌}
 use Rattle.std.proofs.Math.ListN.{length, get_or}
 use Rattle.definition.specs.Blocks.{grey_total, total_of}

@@ -1,5 +1,5 @@
--- `price_list`: the price list, for either knit and every list of calls after an accepted Load; from `loaded_before`,
--- which says it of every map that Load took before greys above 240 were refused.
+-- The price list for every map that Load took before greys above 240 were refused (`loaded_before`), for either knit
+-- and every list of calls. `Promised` has it from here for what Load accepts.
 use Rattle.std.specs.Prelude.{◌≡◌, refl, ◌≢◌, ◌↔◌, false, ℕ, ◌+◌, ◌*◌, ◌-◌, ◌^◌, ◌≤◌, ◌<◌, get_or, drop, ℤ, pos}
 use Rattle.std.proofs.Math.Path.{sym, ap}
 use Rattle.std.proofs.Common.{◌∙◌, zero-add, add-sub_cancel, pow_mono, take_at, drop_at}

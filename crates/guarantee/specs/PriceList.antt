@@ -1,5 +1,5 @@
 -- The price list as one statement about a whole list of calls, with its own figures: `Holds`, where Load has accepted
--- (`Accepted`). `Theorem` proves it, and `Clauses` says it again field by field.
+-- (`Accepted`). `Promised` proves it, and `Clauses` says it again field by field.
 use Rattle.std.specs.Prelude.{◌≡◌, ◌≢◌, ◌↔◌, false, List, [], ◌∷◌, ℕ, ◌+◌, ◌*◌, ◌-◌, ◌^◌, ◌≤◌, ◌<◌, min, get_or, take}
 use Rattle.std.specs.Prelude.{drop, ℤ, pos, ◌+ℤ◌, ◌<ℤ◌}
 use Rattle.definition.specs.Answers.{returned, finished}

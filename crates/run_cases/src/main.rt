@@ -8,8 +8,9 @@
 
 use case_io::{limit, next};
 use definition::Progress;
+use program_input::read_full;
 use std::io;
-use std::io::{BufWriter, Write};
+use std::io::Write;
 
 // The record after a call, and the place behind the call.
 #[derive(Clone, Copy)]
@@ -139,8 +140,7 @@ fn run_cases<W: Write>(out: &mut W, text: &[u8]) -> io::Result<()> {
 }
 
 fn main(rt: HostRuntime) -> io::Result<()> {
-    let input = case_io::read_input(rt.alloc(), rt.stdin())?;
-    let mut out = BufWriter::new(rt.alloc(), rt.stdout())?;
-    run_cases(&mut out, &input)?;
-    out.flush()
+    let mut input = [0u8; 65536];
+    let n = read_full(&mut rt.stdin(), &mut input)?;
+    run_cases(&mut rt.stdout(), &input[..n])
 }

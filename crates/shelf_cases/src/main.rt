@@ -8,8 +8,9 @@
 
 use case_io::{end_line, end_refused, field_u32, fields_u32, limit, next};
 use definition::{CompareAnswer, ShelfAnswer};
+use program_input::read_full;
 use std::io;
-use std::io::{BufWriter, Write};
+use std::io::Write;
 
 // Ends a line with a cell.
 fn end_cell<W: Write>(out: &mut W, row: u32, column: u32) -> io::Result<()> {
@@ -125,8 +126,7 @@ fn run_cases<W: Write>(out: &mut W, text: &[u8]) -> io::Result<()> {
 }
 
 fn main(rt: HostRuntime) -> io::Result<()> {
-    let input = case_io::read_input(rt.alloc(), rt.stdin())?;
-    let mut out = BufWriter::new(rt.alloc(), rt.stdout())?;
-    run_cases(&mut out, &input)?;
-    out.flush()
+    let mut input = [0u8; 65536];
+    let n = read_full(&mut rt.stdin(), &mut input)?;
+    run_cases(&mut rt.stdout(), &input[..n])
 }

@@ -1,5 +1,5 @@
--- What insertion does to a list of plate numbers: which numbers it holds (`times_in_order`), that it stays in order
--- (`in_order_pairs`), and at which place a plate is put (`insert_at`).
+-- What the laws on insertion speak of: all of a list (`Each`), all pairs of one (`Pairs`), and how often a number
+-- stands in it (`times`).
 use Rattle.std.specs.Prelude.{eqb}
 use mathlib.Core.List.{List, [], ◌∷◌}
 use Prim.Native.Nat.{ℕ, ◌+◌}

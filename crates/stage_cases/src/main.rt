@@ -15,8 +15,9 @@
 
 use case_io::{end_line, end_refused, field, field_u32, limit, next};
 use definition::{CheckpointAnswer, CheckpointStatus, Checkpoints, Progress};
+use program_input::read_full;
 use std::io;
-use std::io::{BufWriter, Write};
+use std::io::Write;
 
 // An action, and the place behind it.
 #[derive(Clone, Copy)]
@@ -313,8 +314,7 @@ fn run_cases<W: Write>(out: &mut W, text: &[u8]) -> io::Result<()> {
 }
 
 fn main(rt: HostRuntime) -> io::Result<()> {
-    let input = case_io::read_input(rt.alloc(), rt.stdin())?;
-    let mut out = BufWriter::new(rt.alloc(), rt.stdout())?;
-    run_cases(&mut out, &input)?;
-    out.flush()
+    let mut input = [0u8; 65536];
+    let n = read_full(&mut rt.stdin(), &mut input)?;
+    run_cases(&mut rt.stdout(), &input[..n])
 }

@@ -12,8 +12,9 @@ ghost use Rattle.std.specs.Prelude.{◌≤◌};
 
 use case_io::{end_line, field, field_u32, least, limit, next};
 use definition::{MapTextAnswer, Progress, TextAnswer};
+use program_input::read_full;
 use std::io;
-use std::io::{BufWriter, Write};
+use std::io::Write;
 
 // What a case asks for: the damage, the knit of the load, and the knit that the record says afterwards.
 #[derive(Clone, Copy)]
@@ -310,8 +311,7 @@ fn run_cases<W: Write>(to: &mut W, text: &[u8]) -> io::Result<()> {
 }
 
 fn main(rt: HostRuntime) -> io::Result<()> {
-    let input = case_io::read_input(rt.alloc(), rt.stdin())?;
-    let mut to = BufWriter::new(rt.alloc(), rt.stdout())?;
-    run_cases(&mut to, &input)?;
-    to.flush()
+    let mut input = [0u8; 65536];
+    let n = read_full(&mut rt.stdin(), &mut input)?;
+    run_cases(&mut rt.stdout(), &input[..n])
 }

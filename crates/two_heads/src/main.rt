@@ -5,24 +5,24 @@ ghost use Rattle.std.specs.Prelude.{IfSome, OnOk, take};
 ghost use Rattle.std.specs.Io.KnownBytes.{Appends};
 ghost use Rattle.heads.specs.TwoHeads.{two_heads_text};
 
-use program_input::read_at_most;
-use std::alloc::Global;
+use program_input::read_full;
 use std::io;
 use std::io::{Read, Write};
 
 // The bytes read at most, more than the longest map text that is read has.
-const INPUT_LIMIT: u64 = 65536;
+const INPUT_LIMIT: usize = 65536;
 
 // Reads an input, and writes what `two_heads_text` says of it.
-fn run<R: Read + Drop, W: Write>(alloc: Global, input: R, out: &mut W) -> io::Result<()>
-    ensures { OnOk result (IfSome (R.remaining input) (λ bytes.
+fn run<R: Read, W: Write>(input: &mut R, out: &mut W) -> io::Result<()>
+    ensures { OnOk result (IfSome (R.remaining input.old) (λ bytes.
         Appends (W.contents out.old) (W.contents out.new) (two_heads_text (take 65536 bytes)))) }
 {
-    let read = read_at_most(alloc, input, INPUT_LIMIT)?;
-    let text = two_heads_text::two_heads_text(&read);
+    let mut bytes = [0u8; INPUT_LIMIT];
+    let n = read_full(input, &mut bytes)?;
+    let text = two_heads_text::two_heads_text(&bytes[..n]);
     out.write_all(&text.bytes[..text.length])
 }
 
 fn main(rt: HostRuntime) -> io::Result<()> {
-    run(rt.alloc(), rt.stdin(), &mut rt.stdout())
+    run(&mut rt.stdin(), &mut rt.stdout())
 }

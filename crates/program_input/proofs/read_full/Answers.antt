@@ -1,0 +1,62 @@
+-- `program_input::read_full`: a read fills the buffer on from what is filled, and at the input's end that is all of it.
+use Rattle.std.proofs.Common.{◌≡◌, ℕ, ◌+◌, ◌-◌, ◌≤◌, List, ◌++◌, length, take, slice_range, drop_at, length-take-le}
+use Rattle.std.proofs.Common.{rules, arith, sym, ap, ◌∙◌, subst, le_refl}
+use Rattle.std.specs.Prelude.{Option}
+use Rattle.std.proofs.lemmas.Slice.{take-put_mid_below}
+use Rattle.std.specs.Io.KnownBytes.{Consumes, Keeps}
+use Rattle.std.proofs.KnownBytes.{Consumes-trans, Consumes-kept}
+use borrow.Rule.Slice.PartMut.{put_mid, post_of}
+use lib.Seq.{take-add, take-append-le}
+use Rattle.program_input.proofs.read_full.Goals.{in-Ok, in-Err+else-not-is_interrupted}
+use Rattle.program_input.proofs.read_full.Goals as goal
+
+take_split : (a b : ℕ) (old new : List ℕ) → a ≤ b → take a new ≡ take a old
+    → take a old ++ slice_range new a b ≡ take b new
+take_split a b old new h front =
+    let same : a + (b - a) ≡ b = omega arith in
+    ap (λ l. l ++ slice_range new a b) (sym front) ∙ sym (take-add a (b - a) new) ∙ ap (λ n. take n new) same
+
+slice_range-put_mid : (a k n : ℕ) (xs ys : List ℕ) → a ≤ length xs → n ≤ length ys
+    → slice_range (put_mid a k xs ys) a (a + n) ≡ take n ys
+slice_range-put_mid a k n xs ys within fits =
+    let same : (a + n) - a ≡ n = omega arith in
+    let after = post_of a k xs in
+    ap (take ((a + n) - a)) (drop_at (take a xs) (ys ++ after) a (length-take-le a xs within))
+    ∙ ap (λ m. take m (ys ++ after)) same ∙ take-append-le n ys after fits
+
+-- the filled front with what a read put behind it
+filled_on : (old mid new : Option (List ℕ)) (a n m : ℕ) (xs ys : List ℕ) → m ≡ a + n → a ≤ length xs → n ≤ length ys
+    → Consumes old mid (take a xs) → Consumes mid new (take n ys)
+    → Consumes old new (take m (put_mid a (length xs - a) xs ys))
+filled_on old mid new a n m xs ys is within fits before read =
+    let part = slice_range-put_mid a (length xs - a) n xs ys within fits in
+    let front = take-put_mid_below _ _ _ _ _ (le_refl _) within in
+    let joined = take_split a (a + n) xs (put_mid a (length xs - a) xs ys) (omega arith) front in
+    let put = put_mid a (length xs - a) xs ys in
+    let all = ap (λ l. take a xs ++ l) (sym part) ∙ joined ∙ ap (λ k. take k put) (sym is) in
+    subst (Consumes old new) all (Consumes-trans _ _ _ _ _ before read)
+
+-- the filled front after a read that failed
+kept_on : (old mid new : Option (List ℕ)) (a m : ℕ) (xs ys : List ℕ) → m ≡ a → a ≤ length xs
+    → Consumes old mid (take a xs) → Keeps mid new → Consumes old new (take m (put_mid a (length xs - a) xs ys))
+kept_on old mid new a m xs ys is within before keeps =
+    let front = take-put_mid_below a (length xs - a) xs ys a (le_refl a) within in
+    let all = sym front ∙ ap (λ k. take k (put_mid a (length xs - a) xs ys)) (sym is) in
+    subst (Consumes old new) all (Consumes-kept _ _ _ _ before keeps)
+
+pub loop-preserved : goal.loop-preserved
+loop-preserved g c =
+    let before = c.loop.invariant in
+    elim c.match-read.branch [
+      | in-Ok w ↦ (
+        search rules,
+        search rules,
+        filled_on _ _ _ c.loop.at w.in-Ok.n _ c.loop.buf c.read.new.buf w.at-is before.1
+            w.in-Ok.ensures.bound.0 before.2 w.in-Ok.ensures.bytes.0,
+      )
+      | in-Err+else-not-is_interrupted w ↦ (
+        search rules,
+        search rules,
+        kept_on _ _ _ c.loop.at _ c.loop.buf c.read.new.buf w.at-is before.1 before.2 w.in-Err.ensures.bytes,
+      )
+    ]
