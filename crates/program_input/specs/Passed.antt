@@ -1,4 +1,4 @@
--- What a program writes of the first bytes of an input that it read.
+-- What a program writes of the first bytes of an input that it read (`wrote_of`).
 use Rattle.std.specs.Prelude.{◌≡◌, ℕ, List, take, Option, None, Some, IfSome, OnOk, Result, Ok, Err}
 use Rattle.std.proofs.Common.{ap, subst, ◌∙◌}
 use Rattle.std.specs.Io.KnownBytes.{Appends}
