@@ -3,7 +3,7 @@
 --
 -- A law that takes i and n is of `tabulate_from i n f`, so of `tabulate n f` at i = 0. The kit has, in lib.ListN:
 -- `length-append`, `length-take`, `length-drop`, `length-set`, `length-replicate`, `length-map`, `get_or-replicate`,
--- `take-append-drop`, `drop_of_length-le`, `List·getD-append`, `List·getD-eq-default`, `List·getD-map`; and in lib.Seq:
+-- `take-append-drop`, `drop_of_length-le`, `get_or-append`, `get_or-eq_default`, `get_or-map`; and in lib.Seq:
 -- by elements `ext_get_or`; after a store `get_or-set_same`, `get_or-set_other`, `take-set-le`, `take-set-lt`,
 -- `drop-set-lt`, `drop-set-add`, `set-set`, `set_comm`, `set-get_or`, `set_out`, `set_split`, `set-append_left`; at a
 -- seam `take-append_seam`, `take-append-le`, `take-append-add`, `take_at` and the same of `drop`, `get_or-append-add`;

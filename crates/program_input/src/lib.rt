@@ -4,12 +4,7 @@
 ghost use Rattle.std.specs.Prelude.{◌≡◌, ◌≤◌, IfOk, IfSome, length, take};
 
 use std::io;
-use std::io::{ErrorKind, Read};
-
-// Whether a signal cut a call short, which says nothing of the input.
-fn is_interrupted(e: &io::Error) -> bool {
-    e.kind() == ErrorKind::Interrupted
-}
+use std::io::Read;
 
 // Reads until the buffer is full or the input ends, and returns how many bytes it read.
 pub fn read_full<R: Read>(input: &mut R, buf: &mut [u8]) -> io::Result<usize>
@@ -18,19 +13,12 @@ pub fn read_full<R: Read>(input: &mut R, buf: &mut [u8]) -> io::Result<usize>
         take n buf.new ≡ take (length buf.new) bytes)) }
 {
     let mut at = 0;
-    for _ in 0..u64::MAX {
-        if at >= buf.len() {
+    while at < buf.len() {
+        let n = input.read(&mut buf[at..])?;
+        if n == 0 {
             return Ok(at);
         }
-        match input.read(&mut buf[at..]) {
-            Ok(0) => return Ok(at),
-            Ok(n) => at += n,
-            Err(e) => {
-                if !is_interrupted(&e) {
-                    return Err(e);
-                }
-            }
-        }
+        at += n;
     }
-    Err(io::Error::from(ErrorKind::TimedOut))
+    Ok(at)
 }

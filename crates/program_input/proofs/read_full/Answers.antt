@@ -3,11 +3,10 @@ use Rattle.std.proofs.Common.{◌≡◌, ℕ, ◌+◌, ◌-◌, ◌≤◌, List,
 use Rattle.std.proofs.Common.{rules, arith, sym, ap, ◌∙◌, subst, le_refl}
 use Rattle.std.specs.Prelude.{Option}
 use Rattle.std.proofs.lemmas.Slice.{take-put_mid_below}
-use Rattle.std.specs.Io.KnownBytes.{Consumes, Keeps}
-use Rattle.std.proofs.KnownBytes.{Consumes-trans, Consumes-kept}
+use Rattle.std.specs.Io.KnownBytes.{Consumes}
+use Rattle.std.proofs.KnownBytes.{Consumes-trans}
 use borrow.Rule.Slice.PartMut.{put_mid, post_of}
 use lib.Seq.{take-add, take-append-le}
-use Rattle.program_input.proofs.read_full.Goals.{in-Ok, in-Err+else-not-is_interrupted}
 use Rattle.program_input.proofs.read_full.Goals as goal
 
 take_split : (a b : ℕ) (old new : List ℕ) → a ≤ b → take a new ≡ take a old
@@ -25,38 +24,21 @@ slice_range-put_mid a k n xs ys within fits =
     ∙ ap (λ m. take m (ys ++ after)) same ∙ take-append-le n ys after fits
 
 -- the filled front with what a read put behind it
-filled_on : (old mid new : Option (List ℕ)) (a n m : ℕ) (xs ys : List ℕ) → m ≡ a + n → a ≤ length xs → n ≤ length ys
+filled_on : (old mid new : Option (List ℕ)) (a n : ℕ) (xs ys : List ℕ) → a ≤ length xs → n ≤ length ys
     → Consumes old mid (take a xs) → Consumes mid new (take n ys)
-    → Consumes old new (take m (put_mid a (length xs - a) xs ys))
-filled_on old mid new a n m xs ys is within fits before read =
+    → Consumes old new (take (a + n) (put_mid a (length xs - a) xs ys))
+filled_on old mid new a n xs ys within fits before read =
     let part = slice_range-put_mid a (length xs - a) n xs ys within fits in
     let front = take-put_mid_below _ _ _ _ _ (le_refl _) within in
     let joined = take_split a (a + n) xs (put_mid a (length xs - a) xs ys) (omega arith) front in
-    let put = put_mid a (length xs - a) xs ys in
-    let all = ap (λ l. take a xs ++ l) (sym part) ∙ joined ∙ ap (λ k. take k put) (sym is) in
+    let all = ap (λ l. take a xs ++ l) (sym part) ∙ joined in
     subst (Consumes old new) all (Consumes-trans _ _ _ _ _ before read)
 
--- the filled front after a read that failed
-kept_on : (old mid new : Option (List ℕ)) (a m : ℕ) (xs ys : List ℕ) → m ≡ a → a ≤ length xs
-    → Consumes old mid (take a xs) → Keeps mid new → Consumes old new (take m (put_mid a (length xs - a) xs ys))
-kept_on old mid new a m xs ys is within before keeps =
-    let front = take-put_mid_below a (length xs - a) xs ys a (le_refl a) within in
-    let all = sym front ∙ ap (λ k. take k (put_mid a (length xs - a) xs ys)) (sym is) in
-    subst (Consumes old new) all (Consumes-kept _ _ _ _ before keeps)
-
-pub loop-preserved : goal.loop-preserved
-loop-preserved g c =
-    let before = c.loop.invariant in
-    elim c.match-read.branch [
-      | in-Ok w ↦ (
-        search rules,
-        search rules,
-        filled_on _ _ _ c.loop.at w.in-Ok.n _ c.loop.buf c.read.new.buf w.at-is before.1
-            w.in-Ok.ensures.bound.0 before.2 w.in-Ok.ensures.bytes.0,
-      )
-      | in-Err+else-not-is_interrupted w ↦ (
-        search rules,
-        search rules,
-        kept_on _ _ _ c.loop.at _ c.loop.buf c.read.new.buf w.at-is before.1 before.2 w.in-Err.ensures.bytes,
-      )
-    ]
+pub loop-at-preserved : goal.loop-at-preserved
+loop-at-preserved g c =
+    let before = c.loop-at.invariant in (
+      search rules,
+      search rules,
+      filled_on _ _ _ c.loop-at.at c.in_ok-n.n c.loop-at.buf c.read.new.buf before.1 c.in_ok-n.ensures.bound.0 before.2
+          c.in_ok-n.ensures.bytes.0,
+    )
