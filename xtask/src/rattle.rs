@@ -55,13 +55,25 @@ pub fn parse(crate_name: &str, path: &str, text: &str) -> Result<Source, String>
     let head = lines.iter().take_while(|line| line.starts_with("//")).count();
     source.cites = lines[..head].iter().flat_map(|line| citations(line)).collect();
     let mut comment: Vec<String> = Vec::new();
+    // the type whose methods the lines are
+    let mut of: Option<String> = None;
     for (at, line) in lines.iter().enumerate().skip(head) {
-        if line.starts_with("//") {
-            comment.push(line.to_string());
-        } else if is_function(line) {
+        if let Some(front) = line.strip_prefix("impl").and_then(|rest| rest.strip_suffix(" {")) {
+            of = front.split_whitespace().last().map(|word| word.split('<').next().unwrap_or(word).to_string());
+        } else if *line == "}" {
+            of = None;
+        }
+        let inner = if of.is_some() { line.strip_prefix("    ").unwrap_or(line) } else { line };
+        if inner.starts_with("//") {
+            comment.push(inner.to_string());
+        } else if is_function(inner) {
             let function = function(&lines, at, std::mem::take(&mut comment));
-            source.functions.push(function.map_err(|why| format!("{path}:{}: {why}", at + 1))?);
-        } else if !line.starts_with('#') {
+            let mut function = function.map_err(|why| format!("{path}:{}: {why}", at + 1))?;
+            if let Some(of) = &of {
+                function.name = format!("{of}::{}", function.name);
+            }
+            source.functions.push(function);
+        } else if !inner.starts_with('#') {
             comment.clear();
         }
     }
@@ -82,7 +94,7 @@ fn function(lines: &[&str], at: usize, comment: Vec<String>) -> Result<Function,
     let close = closing(&text, open)?;
     let Behind { returns, clauses, body } = behind(&text, close + 1)?;
     Ok(Function {
-        name: text[front.len() + 3..open].trim().to_string(),
+        name: text[front.len() + 3..open].split('<').next().unwrap_or("").trim().to_string(),
         public: front.contains("pub "),
         for_c: front.contains("extern \"C\""),
         line: at + 1,
@@ -129,7 +141,12 @@ fn behind(text: &str, mut rest: usize) -> Result<Behind, String> {
 }
 
 fn parameters(text: &str) -> Result<Vec<Parameter>, String> {
-    let parts = text.split(',').map(|part| part.trim()).filter(|part| !part.is_empty());
+    let mut depth = 0;
+    let parts = text.split(|c: char| {
+        depth += i32::from("<([".contains(c)) - i32::from(">)]".contains(c));
+        c == ',' && depth == 0
+    });
+    let parts = parts.map(|part| part.trim()).filter(|part| !part.is_empty() && !part.ends_with("self"));
     parts
         .map(|part| {
             let (name, kind) = part.split_once(':').ok_or(format!("the parameter `{part}`"))?;
@@ -201,12 +218,21 @@ pub extern \"C\" fn call(
 }
 
 fn small(x: u32) { drop::it(x) }
+
+impl Table {
+    // A method (S 1.3).
+    pub fn place<T: Copy>(&self, a: Result<u32, T>, b: usize) -> usize
+        ensures { result ≡ b }
+    {
+        b
+    }
+}
 ";
 
     #[test]
     fn functions_with_contracts() {
         let source = parse("one", "lib.rt", TEXT).unwrap();
-        assert_eq!(source.functions.len(), 2);
+        assert_eq!(source.functions.len(), 3);
         let call = &source.functions[0];
         assert!(call.public && call.for_c && call.line == 6);
         assert_eq!(call.clauses.len(), 2);
@@ -217,5 +243,8 @@ fn small(x: u32) { drop::it(x) }
         assert_eq!(calls(&call.body), [("other".to_string(), "part".to_string())]);
         assert_eq!(call.head.len(), 6);
         assert_eq!(source.functions[1].returns, None);
+        let method = &source.functions[2];
+        assert_eq!((method.name.as_str(), method.parameters.len(), method.clauses.len()), ("Table::place", 2, 1));
+        assert_eq!(method.cites, ["1.3"]);
     }
 }

@@ -204,7 +204,10 @@ fn code_faults(edit: &Edit, log: &str) -> Vec<String> {
 /// Whether the check found a fact of a function that is not proved: an answer of its proof files that does not hold, or
 /// a fact without an answer, of which a note speaks before the line on the function.
 fn fails_at_fact(crate_name: &str, function: &str, log: &str) -> bool {
-    let files = [format!("/proofs/{function}/"), format!("/proofs/+{function}/")];
+    // a method `Type::name` has its proof in `Type/name`, or in `Type/+name` where it calls itself
+    let (of, name) =
+        function.rsplit_once("::").map_or((String::new(), function), |(of, name)| (format!("{of}/"), name));
+    let files = [format!("/proofs/{of}{name}/"), format!("/proofs/{of}+{name}/")];
     let mut noted = false;
     for line in log.lines() {
         let is_named = !NO_LONGER_NAMED.iter().any(|words| line.contains(words));

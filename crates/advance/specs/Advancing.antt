@@ -1,12 +1,12 @@
 -- Advance's two ways out: refused, with nothing changed (`refused_is`), and the sheet run and advanced (`advanced_is`,
 -- `passed_is`).
-use Rattle.std.specs.Prelude.{◌≡◌, List, ◌++◌, length, get_or, drop, ℤ, pos}
+use Rattle.std.specs.Prelude.{◌≡◌, List, ◌++◌, length, get_or, drop, ℤ, pos, Result, Ok, Err}
 use Rattle.std.proofs.Math.Path.{sym, ap}
 use Rattle.std.proofs.Common.{◌∙◌, arith, mul-le-mul, pow_mono, length-append, length-take-le, Fits}
 use Prim.Native.Nat.{ℕ, suc, ◌+◌, ◌-◌, ◌^◌, ◌≤◌, ◌<◌, min}
 use Rattle.std.proofs.Math.ListN.{take, get_or-append}
 use Rattle.std.specs.Int.{w32}
-use Rattle.definition.specs.Answers.{advance_says, number_of}
+use Rattle.definition.specs.Answers.{status_says, number_of}
 use Rattle.definition.specs.Pyramid.{needed, cell_count}
 use Rattle.definition.specs.Diffusion.{kernel_of}
 use Rattle.definition.specs.Refusals.{power_of}
@@ -14,12 +14,12 @@ use Rattle.definition.specs.Model.{Halftone, top_of, steps}
 use Rattle.definition.specs.Sound.{is_sound}
 use Rattle.definition.specs.Quarters.{rows_from, as_rows}
 use Rattle.definition.specs.ByQuarters.{advance_by_quarters}
-use Rattle.definition.specs.Advance.{Reply, dots_due, said_at, sheet_in, advance_refusal, advanced, advance_of}
+use Rattle.definition.specs.Advance.{Reply, reply_of, dots_due, said_at, sheet_in, advance_refusal, advanced}
+use Rattle.definition.specs.Advance.{advance_of}
 use Rattle.definition.specs.declared.Progress.{Progress}
 use Rattle.definition.specs.declared.Refusal.{Refusal}
 use Rattle.definition.specs.declared.AdvanceAnswer.{AdvanceAnswer}
 use Rattle.definition.specs.declared.AdvanceStatus.{AdvanceStatus}
-use Rattle.definition.specs.declared.AdvanceStatus.TheVariants.{Refused}
 use Rattle.integers.specs.Tests.{T_true}
 use Rattle.quadtree.specs.Levels.{start_suc, cells_few}
 use Rattle.layouts.specs.Relaid.{length_rows}
@@ -30,8 +30,6 @@ use Rattle.refusals.specs.Numbers.{number_positive}
 use Rattle.dots.proofs.Steps.{Sheet, steps_sheet}
 use Rattle.dots.specs.SoundTest.{test_sound}
 use Rattle.checks.specs.Checks.{checked, passed_none, failed_number}
-use Rattle.checks.specs.declared.Check.{Check}
-use Rattle.checks.specs.declared.Check.TheVariants.{Passed, Failed}
 use Rattle.sheet.specs.Sheets.{SheetAsked, sheet_asked}
 use Rattle.dot_run.specs.Running.{RunAsked, Ran, top_rows}
 
@@ -119,31 +117,32 @@ module _ {r dots : ℕ} (p : List ℤ) (s o : List ℕ) (h : SheetAsked r dots p
     top_is : top_of (rows_from r p') ≡ get_or (p' ++ drop n p) 0 (pos 0)
     top_is = top_rows r p' ∙ sym (get_or-append p' (drop n p) (pos 0) 0 top_in)
 
-    pub advanced_is : (progress : Progress) {a : AdvanceAnswer} {status : AdvanceStatus} (top : ℤ)
+    pub advanced_is : (progress : Progress) (status : AdvanceStatus) (top : ℤ)
         → dots ≡ progress.dots → knit ≡ progress.knit
-        → top ≡ get_or (p' ++ drop n p) 0 (pos 0) → advance_says status ≡ said_at top
-        → a
-        ≡ record {
-          progress = record { side = progress.side; dots = dots + made; knit = knit };
-          made = made;
-          status = status;
-        }
+        → top ≡ get_or (p' ++ drop n p) 0 (pos 0) → status_says status ≡ said_at top
         → record {
-          reply = record { progress = a.progress; made = a.made; said = advance_says a.status };
+          reply =
+              record {
+                progress = record { side = progress.side; dots = dots + made; knit = knit };
+                made = made;
+                said = status_says status;
+              };
           pyramid = as_rows r (p' ++ drop n p);
           serials = s' ++ drop c s;
           order = o' ++ drop c o;
         }
         ≡ advanced r progress budget rows s o
     unfolding advanced
-    advanced_is progress {a} {status} top ed ek et says ea =
-        rw (← ed, ← ek, ea, says, et, ← top_is, made_in, after_in, rows_after, ec)
+    advanced_is progress status top ed ek et says =
+        rw (← ed, ← ek, says, et, ← top_is, made_in, after_in, rows_after, ec)
 
 -- ---- the call
-module _ (progress : Progress) (p : List ℤ) (s o : List ℕ) {r : ℕ} (er : r ≡ power_of progress.side) (check : Check)
-    (e : checked check
-    ≡ advance_refusal r progress.knit (length p) (length s) (length o)
-    (is_sound r (sheet_in r progress.dots (as_rows r p) s o))) where
+module _ (progress : Progress) (p : List ℤ) (s o : List ℕ) {r : ℕ} (er : r ≡ power_of progress.side) where
+  abbrev lent_refusal : ℕ
+  lent_refusal =
+      advance_refusal r progress.knit (length p) (length s) (length o)
+      (is_sound r (sheet_in r progress.dots (as_rows r p) s o))
+
   abbrev side_power : ℕ
   side_power = power_of progress.side
 
@@ -155,37 +154,37 @@ module _ (progress : Progress) (p : List ℤ) (s o : List ℕ) {r : ℕ} (er : r
       advance_refusal side_power progress.knit (length rows_lent) (length s) (length o)
       (is_sound side_power (sheet_in side_power progress.dots rows_lent s o))
 
-  check_rows : checked check ≡ refusal_of
-  check_rows = rw (rows_length side_power p, ← er) e
+  refusal_rows : lent_refusal ≡ refusal_of
+  refusal_rows = rw (rows_length side_power p, ← er)
 
-  pub refused_is : (budget : ℕ) {why : Refusal} {a : AdvanceAnswer}
-      → check ≡ Failed why → a ≡ record { progress = progress; made = 0; status = Refused why }
-      → record {
-        reply = record { progress = a.progress; made = a.made; said = advance_says a.status };
-        pyramid = p;
-        serials = s;
-        order = o;
-      }
+  pub refused_is : (budget : ℕ) (why : Refusal) {a : Result AdvanceAnswer Refusal}
+      → checked (Err why) ≡ lent_refusal → a ≡ Err why
+      → record { reply = reply_of progress a; pyramid = p; serials = s; order = o }
       ≡ advance_by_quarters progress budget p s o
-  unfolding advance_by_quarters advance_of advance_says
-  refused_is budget {why} failed ea =
-      let n : refusal_of ≡ suc (number_of why - 1) = failed_number check check_rows why failed in
+  unfolding advance_by_quarters advance_of reply_of
+  refused_is budget why e ea =
+      let n : refusal_of ≡ suc (number_of why - 1) = failed_number why (e ∙ refusal_rows) in
       rw (ea, advance_by_quarters, n, advance_of, quarters_rows side_power p, ← number_positive why)
 
-  module _ (passed : check ≡ Passed) where
+  module _ (e : checked (Ok tt) ≡ lent_refusal) where
     pub advance_asked : SheetAsked r progress.dots p s o
-    advance_asked =
-        sheet_asked progress.knit (power_small progress.side er) progress.dots p s o check e passed
+    advance_asked = sheet_asked progress.knit (power_small progress.side er) progress.dots p s o e
 
     -- what is left, row after row, is what the call by rows leaves; so what lies there is that by quarters
-    pub passed_is : (budget : ℕ) {reply : Reply} {p' : List ℤ} {s' o' : List ℕ}
-        → record { reply = reply; pyramid = as_rows r p'; serials = s'; order = o' }
+    pub passed_is : (budget : ℕ) (answer : AdvanceAnswer) {p' : List ℤ} {s' o' : List ℕ}
+        → record {
+          reply = record { progress = answer.progress; made = answer.made; said = status_says answer.status };
+          pyramid = as_rows r p';
+          serials = s';
+          order = o';
+        }
         ≡ advanced r progress budget (as_rows r p) s o
-        → record { reply = reply; pyramid = p'; serials = s'; order = o' }
+        → record { reply = reply_of progress (Ok answer); pyramid = p'; serials = s'; order = o' }
         ≡ advance_by_quarters progress budget p s o
-    unfolding advance_by_quarters advance_of
-    passed_is budget {reply} {p'} {s'} {o'} q =
-        let z : refusal_of ≡ 0 = passed_none check check_rows passed in
+    unfolding advance_by_quarters advance_of reply_of
+    passed_is budget answer {p'} {s'} {o'} q =
+        let reply : Reply = reply_of progress (Ok answer) in
+        let z : refusal_of ≡ 0 = passed_none (e ∙ refusal_rows) in
         let back : record { reply = reply; pyramid = as_rows side_power p'; serials = s'; order = o' }
         ≡ advanced side_power progress budget rows_lent s o
         = rw er at q in

@@ -2,49 +2,90 @@
 // (`block_dots`), its greys (`block_greys`), and the mark of a cell (`mark`).
 #![tactic(auto)]
 
-ghost use Rattle.std.specs.Prelude.{◌≡◌, length};
+ghost use Rattle.std.specs.Prelude.{◌≡◌, ◌*◌, ◌≤◌, ℕ, length};
 ghost use Rattle.definition.specs.Blocks.{burnt, grey_sum, dots_in};
 ghost use Rattle.integers.specs.Totals.{Total};
-ghost use Rattle.blocks.specs.Squares.{row_dots, square_dots, row_greys, square_greys, row_most, square_most};
-ghost use Rattle.blocks.specs.Squares.{RowAsked, SquareAsked};
-ghost use Rattle.blocks.specs.Blocks.{BlockAsked};
+ghost use Rattle.blocks.specs.Squares.{row_weight, square_weight, RowAsked, SquareAsked, as_it_is, grey_small};
+ghost use Rattle.blocks.specs.Squares.{serial_small};
+ghost use Rattle.blocks.specs.Blocks.{BlockAsked, block_weight};
+
+// What a cell holds, with what it counts in a sum over cells.
+trait Weighed: Copy {
+    ghost weight: { Self → ℕ };
+
+    ghost most: { ℕ };
+
+    fn weight(self) -> u32
+        ensures { Total (weight self) most result };
+
+    ghost few: { most ≤ 255 };
+}
+
+// The serial of a dot counts 1, that of a cell without one 0.
+impl Weighed for u32 {
+    ghost weight = { burnt };
+
+    ghost most = { 1 };
+
+    ghost few = { serial_small };
+
+    fn weight(self) -> u32 {
+        mark(self)
+    }
+}
+
+// A grey counts itself.
+impl Weighed for u8 {
+    ghost weight = { as_it_is };
+
+    ghost most = { 255 };
+
+    ghost few = { grey_small };
+
+    fn weight(self) -> u32 {
+        u32::from(self)
+    }
+}
 
 // 1 for the serial of a dot, 0 for that of a cell without one.
 pub fn mark(serial: u32) -> u32
     ensures { Total (burnt serial) 1 result }
 {
-    if serial != 0 {
-        return 1;
-    }
-    0
+    u32::from(serial != 0)
 }
 
-// The dots of `count` cells from the cell `from` on.
-fn row_dots(serials: &[u32], from: usize, count: usize) -> u32
-    requires { RowAsked (length serials.now) from count }
-    ensures { Total (row_dots serials.now from count) 256 result }
+// What `count` cells count together, from the cell `from` on.
+fn row_weight<T: Weighed>(values: &[T], from: usize, count: usize) -> u32
+    requires { RowAsked (length values.now) from count }
+    ensures { Total (row_weight T.weight values.now from count) (256 * T.most) result }
 {
     let mut sum = 0;
-    let mut y = 0;
-    while y < count {
-        sum += mark(serials[from + y]);
-        y += 1;
+    for value in &values[from..from + count] {
+        sum += value.weight();
     }
     sum
 }
 
-// The dots of a square of s by s cells, on a map of `side` by `side`.
-fn square_dots(serials: &[u32], side: usize, s: usize, top: usize, left: usize) -> u32
-    requires { SquareAsked (length serials.now) side s top left }
-    ensures { Total (square_dots serials.now side s top left) 65536 result }
+// What a square of s by s cells counts, on a map of `side` by `side`.
+fn square_weight<T: Weighed>(values: &[T], side: usize, s: usize, top: usize, left: usize) -> u32
+    requires { SquareAsked (length values.now) side s top left }
+    ensures { Total (square_weight T.weight values.now side s top left) (65536 * T.most) result }
 {
     let mut sum = 0;
-    let mut x = 0;
-    while x < s {
-        sum += row_dots(serials, (top + x) * side + left, s);
-        x += 1;
+    for x in 0..s {
+        sum += row_weight(values, (top + x) * side + left, s);
     }
     sum
+}
+
+// What the block (row, column) of level k counts (S 2.10).
+fn block_weight<T: Weighed>(values: &[T], r: usize, k: usize, row: usize, column: usize) -> u32
+    requires { BlockAsked (length values.now) r k row column }
+    ensures { result ≡ block_weight T.weight r values.now k row column }
+{
+    let side = sizes::pow2(r);
+    let s = sizes::pow2(r - k);
+    square_weight(values, side, s, row * s, column * s)
 }
 
 // The dots of the block (row, column) of level k (S 2.10).
@@ -52,37 +93,7 @@ pub fn block_dots(serials: &[u32], r: usize, k: usize, row: usize, column: usize
     requires { BlockAsked (length serials.now) r k row column }
     ensures { result ≡ dots_in r serials.now k row column }
 {
-    let side = sizes::pow2(r);
-    let s = sizes::pow2(r - k);
-    square_dots(serials, side, s, row * s, column * s)
-}
-
-// The greys of `count` cells from the cell `from` on.
-fn row_greys(greys: &[u8], from: usize, count: usize) -> u32
-    requires { RowAsked (length greys.now) from count }
-    ensures { Total (row_greys greys.now from count) row_most result }
-{
-    let mut sum = 0;
-    let mut y = 0;
-    while y < count {
-        sum += greys[from + y] as u32;
-        y += 1;
-    }
-    sum
-}
-
-// The greys of a square of s by s cells, on a map of `side` by `side`.
-fn square_greys(greys: &[u8], side: usize, s: usize, top: usize, left: usize) -> u32
-    requires { SquareAsked (length greys.now) side s top left }
-    ensures { Total (square_greys greys.now side s top left) square_most result }
-{
-    let mut sum = 0;
-    let mut x = 0;
-    while x < s {
-        sum += row_greys(greys, (top + x) * side + left, s);
-        x += 1;
-    }
-    sum
+    block_weight(serials, r, k, row, column)
 }
 
 // The grey sum of the block (row, column) of level k (S 2.10).
@@ -90,7 +101,5 @@ pub fn block_greys(greys: &[u8], r: usize, k: usize, row: usize, column: usize) 
     requires { BlockAsked (length greys.now) r k row column }
     ensures { result ≡ grey_sum r greys.now k row column }
 {
-    let side = sizes::pow2(r);
-    let s = sizes::pow2(r - k);
-    square_greys(greys, side, s, row * s, column * s)
+    block_weight(greys, r, k, row, column)
 }

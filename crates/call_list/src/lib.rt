@@ -2,39 +2,46 @@
 // lent parts of the buffers (`one_call`).
 #![tactic(auto)]
 
-ghost use Rattle.std.specs.Prelude.{◌≡◌, min, length, get_or};
+ghost use Rattle.std.specs.Prelude.{◌≡◌};
+ghost use Rattle.definition.specs.Answers.{load_record};
 ghost use Rattle.definition.specs.AdvanceList.{call_of, held_after, held_after_calls};
-ghost use Rattle.call_list.specs.PriceListOfCode.{calls_in, Kept};
+ghost use Rattle.call_list.specs.PriceListOfCode.{call_in, calls_in, Kept};
 
-use definition::Progress;
+use definition::{Progress, Refusal};
 
-// The number at place i, or 0 where there is none.
-pub fn at(numbers: &[usize], i: usize) -> usize
-    ensures { result ≡ get_or numbers.now i 0 }
-{
-    if i < numbers.len() {
-        return numbers[i];
-    }
-    0
+// How many places a call is lent of each buffer: so many, or all of a shorter one.
+#[derive(Clone, Copy)]
+pub struct Lent {
+    pub pyramid: usize,
+    pub serials: usize,
+    pub order: usize,
 }
 
-// How much of a buffer is lent: what is asked, or all of it.
-pub fn lent(asked: usize, length: usize) -> usize
-    ensures { result ≡ min asked length }
-{
-    if length < asked {
-        return length;
-    }
-    asked
+// An Advance of the list: its budget, and what it is lent.
+#[derive(Clone, Copy)]
+pub struct AdvanceCall {
+    pub budget: u32,
+    pub lent: Lent,
 }
 
-// One call, lent the first a, b and c places of the buffers.
+// The record of a Load that refuses.
+const NO_RECORD: Progress = Progress {
+    side: 0,
+    dots: 0,
+    knit: 0,
+};
+
+// The record after Load.
+pub fn record_of(loaded: Result<Progress, Refusal>) -> Progress
+    ensures { result ≡ load_record loaded }
+{
+    loaded.unwrap_or(NO_RECORD)
+}
+
+// One call, lent the first places of the buffers.
 pub fn one_call(
     progress: Progress,
-    budget: u32,
-    a: usize,
-    b: usize,
-    c: usize,
+    call: AdvanceCall,
     pyramid: &mut [i64],
     serials: &mut [u32],
     order: &mut [u32],
@@ -53,31 +60,30 @@ pub fn one_call(
           serials = serials.old;
           order = order.old;
         })
-        (record { budget = budget; pyramid_lent = a; serials_lent = b; order_lent = c })) }
+        (call_in call)) }
 {
-    let p = lent(a, pyramid.len());
-    let s = lent(b, serials.len());
-    let o = lent(c, order.len());
-    let answer = advance::advance(
+    let p = call.lent.pyramid.min(pyramid.len());
+    let s = call.lent.serials.min(serials.len());
+    let o = call.lent.order.min(order.len());
+    match advance::advance(
         progress,
-        budget,
+        call.budget,
         &mut pyramid[..p],
         &mut serials[..s],
         &mut order[..o],
-    );
-    answer.progress
+    ) {
+        Ok(answer) => answer.progress,
+        Err(_) => progress,
+    }
 }
 
-// A call for each budget, lent as many places as the three other slices say.
+// These calls, one after the other.
 fn make_calls(
     first: Progress,
     pyramid: &mut [i64],
     serials: &mut [u32],
     order: &mut [u32],
-    budgets: &[u32],
-    pyramids: &[usize],
-    sheets: &[usize],
-    orders: &[usize],
+    calls: &[AdvanceCall],
 ) -> Progress
     ensures { record {
       progress = result;
@@ -92,16 +98,11 @@ fn make_calls(
           serials = serials.old;
           order = order.old;
         })
-        (calls_in budgets.now pyramids.now sheets.now orders.now) }
+        (calls_in calls.now) }
 {
     let mut progress = first;
-    let mut i = 0;
-    while i < budgets.len() {
-        let a = at(pyramids, i);
-        let b = at(sheets, i);
-        let c = at(orders, i);
-        progress = one_call(progress, budgets[i], a, b, c, pyramid, serials, order);
-        i += 1;
+    for &call in calls {
+        progress = one_call(progress, call, pyramid, serials, order);
     }
     progress
 }
@@ -115,14 +116,11 @@ pub fn run_calls(
     pyramid: &mut [i64],
     serials: &mut [u32],
     order: &mut [u32],
-    budgets: &[u32],
-    pyramids: &[usize],
-    sheets: &[usize],
-    orders: &[usize],
+    calls: &[AdvanceCall],
 ) -> Progress
     ensures { Kept side knit
         greys.now pyramid.old serials.old order.old
-        (calls_in budgets.now pyramids.now sheets.now orders.now)
+        (calls_in calls.now)
         (record {
           progress = result;
           pyramid = pyramid.new;
@@ -130,9 +128,6 @@ pub fn run_calls(
           order = order.new;
         }) }
 {
-    let loaded = load::load(side, knit, greys, pyramid, serials, order);
-    let first = loaded.progress;
-    make_calls(
-        first, pyramid, serials, order, budgets, pyramids, sheets, orders,
-    )
+    let first = record_of(load::load(side, knit, greys, pyramid, serials, order));
+    make_calls(first, pyramid, serials, order, calls)
 }

@@ -1,64 +1,73 @@
-// What the programs share: numbers read from a text of numbers parted by commas and line ends (`next`), and numbers,
-// lists, answers and refusals written to an output (`field`, `print_load`, `print_call`); and the buffers of a case,
-// their greys (`make_greys`), and Advance on them (`advance_on`).
+// What the test programs share: a text of numbers parted by commas and line ends, read from the front (`Numbers`);
+// numbers, lists, answers and refusals written to an output (`field`, `print_load`, `print_call`); and the buffers of a
+// case, their greys (`make_greys`), and Advance on them (`advance_on`).
 #![tactic(auto)]
 
-ghost use Rattle.std.specs.Prelude.{◌≤◌, ◌<◌, ◌^◌, length};
+ghost use Rattle.std.specs.Prelude.{◌≤◌, length};
 
-use decimals::Number;
-use definition::{AdvanceAnswer, AdvanceStatus, LoadAnswer, LoadStatus, Progress, Refusal};
+use definition::{AdvanceAnswer, AdvanceStatus, Progress, Refusal};
 use std::io;
 use std::io::Write;
 
-// A number that was read, and the place behind the byte that ends it.
-#[derive(Clone, Copy)]
-pub struct Found {
-    pub value: u32,
-    pub at: usize,
+// A text of numbers, and the place that it is read up to.
+#[derive(Drop)]
+pub struct Numbers<'a> {
+    text: &'a [u8],
+    at: usize,
 }
 
-// The number that ends in byte 10; or 0 and the text's end, where there is none.
-fn last_of_line(text: &[u8], from: usize) -> Found {
-    match decimals::read_number(text, from, 4294967295, 10) {
-        Number::Read(value, at) => Found { value, at },
-        Number::Malformed => Found {
-            value: 0,
-            at: text.len(),
-        },
+impl<'a> Numbers<'a> {
+    pub fn new(text: &'a [u8]) -> Numbers<'a> {
+        Numbers { text, at: 0 }
     }
-}
 
-// The next number from a place on, whether a comma ends it or byte 10; or 0 and the text's end, where there is none.
-pub fn next(text: &[u8], from: usize) -> Found {
-    match decimals::read_number(text, from, 4294967295, 44) {
-        Number::Read(value, at) => Found { value, at },
-        Number::Malformed => last_of_line(text, from),
+    // The next number, if it ends in this byte.
+    fn until(&mut self, end: u8) -> Option<u32> {
+        let number = decimals::read_number(self.text, self.at, u32::MAX, end)?;
+        self.at = number.next;
+        Some(number.value)
     }
-}
 
-// Reads a number for each place, modulo 256, and returns the place behind the last.
-pub fn read_bytes(text: &[u8], from: usize, bytes: &mut [u8]) -> usize {
-    let mut at = from;
-    for byte in bytes.iter_mut() {
-        let n = next(text, at);
-        *byte = (n.value % 256) as u8;
-        at = n.at;
+    // The next number, whether a comma ends it or its line; or 0 and the text's end, where there is none.
+    pub fn next(&mut self) -> u32 {
+        if let Some(value) = self.until(b',') {
+            return value;
+        }
+        if let Some(value) = self.until(b'\n') {
+            return value;
+        }
+        self.at = self.text.len();
+        0
     }
-    at
-}
 
-// The smaller of two lengths.
-pub fn least(length: usize, most: usize) -> usize
-    ensures { result ≤ most }
-{
-    if length <= most { length } else { most }
+    // The next number as a length, but no more than there are places.
+    pub fn limit(&mut self, most: usize) -> usize
+        ensures { result ≤ most }
+    {
+        limit(self.next(), most)
+    }
+
+    // Reads a number for each place, modulo 256.
+    pub fn fill_bytes(&mut self, bytes: &mut [u8]) {
+        for byte in bytes.iter_mut() {
+            *byte = (self.next() % 256) as u8;
+        }
+    }
+
+    // So many bytes as they stand, or as many as are left.
+    pub fn take(&mut self, length: usize) -> &'a [u8] {
+        let start = self.at.min(self.text.len());
+        let end = start + length.min(self.text.len() - start);
+        self.at = end;
+        &self.text[start..end]
+    }
 }
 
 // A length that was read, but no more than there are places.
 pub fn limit(length: u32, most: usize) -> usize
     ensures { result ≤ most }
 {
-    least(length as usize, most)
+    (length as usize).min(most)
 }
 
 // Stores a number's digits, and returns how many they are.
@@ -80,58 +89,68 @@ pub fn end_line<W: Write>(out: &mut W) -> io::Result<()> {
     out.write_all(b"\n")
 }
 
+// A number that is printed in a field of an output.
+pub trait Printed: Copy {
+    // Writes its digits.
+    fn print<W: Write>(self, out: &mut W) -> io::Result<()>;
+
+    // It modulo 2 to the power of 32.
+    fn word(self) -> u64;
+}
+
+impl Printed for u64 {
+    fn print<W: Write>(self, out: &mut W) -> io::Result<()> {
+        print_number(out, self)
+    }
+
+    fn word(self) -> u64 {
+        self % 4294967296
+    }
+}
+
+impl Printed for u32 {
+    fn print<W: Write>(self, out: &mut W) -> io::Result<()> {
+        print_number(out, u64::from(self))
+    }
+
+    fn word(self) -> u64 {
+        u64::from(self)
+    }
+}
+
+impl Printed for u8 {
+    fn print<W: Write>(self, out: &mut W) -> io::Result<()> {
+        print_number(out, u64::from(self))
+    }
+
+    fn word(self) -> u64 {
+        u64::from(self)
+    }
+}
+
+impl Printed for i64 {
+    fn print<W: Write>(self, out: &mut W) -> io::Result<()> {
+        if self < 0 {
+            out.write_all(b"-")?;
+        }
+        print_number(out, self.unsigned_abs())
+    }
+
+    fn word(self) -> u64 {
+        self.rem_euclid(4294967296) as u64
+    }
+}
+
 // Writes a comma and a number.
-pub fn field<W: Write>(out: &mut W, n: u64) -> io::Result<()> {
+pub fn field<W: Write, T: Printed>(out: &mut W, n: T) -> io::Result<()> {
     out.write_all(b",")?;
-    print_number(out, n)
-}
-
-pub fn field_u32<W: Write>(out: &mut W, n: u32) -> io::Result<()> {
-    field(out, n as u64)
-}
-
-fn field_u8<W: Write>(out: &mut W, n: u8) -> io::Result<()> {
-    field(out, n as u64)
-}
-
-// n itself, or -1 - n for a number n below 0.
-pub fn folded(n: i64) -> u64
-    ensures { result < 2 ^ 63 }
-{
-    if n < 0 {
-        return -(n + 1) as u64;
-    }
-    n as u64
-}
-
-pub fn field_i64<W: Write>(out: &mut W, n: i64) -> io::Result<()> {
-    if n < 0 {
-        out.write_all(b",-")?;
-        return print_number(out, folded(n) + 1);
-    }
-    field(out, folded(n))
+    n.print(out)
 }
 
 // Writes a field for each value, and ends the line.
-pub fn fields_u32<W: Write>(out: &mut W, values: &[u32]) -> io::Result<()> {
+pub fn fields<W: Write, T: Printed>(out: &mut W, values: &[T]) -> io::Result<()> {
     for &value in values {
-        field_u32(out, value)?;
-    }
-    end_line(out)
-}
-
-// The same for signed values.
-pub fn fields_i64<W: Write>(out: &mut W, values: &[i64]) -> io::Result<()> {
-    for &value in values {
-        field_i64(out, value)?;
-    }
-    end_line(out)
-}
-
-// The same for bytes.
-pub fn fields_u8<W: Write>(out: &mut W, values: &[u8]) -> io::Result<()> {
-    for &value in values {
-        field_u8(out, value)?;
+        field(out, value)?;
     }
     end_line(out)
 }
@@ -139,7 +158,7 @@ pub fn fields_u8<W: Write>(out: &mut W, values: &[u8]) -> io::Result<()> {
 // Writes a refusal, and ends the line.
 pub fn print_refused<W: Write>(out: &mut W, why: Refusal) -> io::Result<()> {
     out.write_all(b"refused")?;
-    field_u32(out, checks::number_of(why))?;
+    field(out, checks::number_of(why))?;
     end_line(out)
 }
 
@@ -152,25 +171,37 @@ pub fn end_refused<W: Write>(out: &mut W, why: Refusal) -> io::Result<()> {
 // Writes the line before a case's answers.
 pub fn print_case<W: Write>(out: &mut W, number: u32) -> io::Result<()> {
     out.write_all(b"case")?;
-    field_u32(out, number)?;
+    field(out, number)?;
     end_line(out)
 }
 
 // Writes a field for each number of a record: the side, the dots, the knit.
 pub fn print_record<W: Write>(out: &mut W, progress: Progress) -> io::Result<()> {
-    field_u32(out, progress.side)?;
-    field_u32(out, progress.dots)?;
-    field_u32(out, progress.knit)
+    field(out, progress.side)?;
+    field(out, progress.dots)?;
+    field(out, progress.knit)
 }
 
-// Writes what Load answers.
-pub fn print_load<W: Write>(out: &mut W, answer: LoadAnswer) -> io::Result<()> {
+// The record of a Load that refuses.
+const NO_RECORD: Progress = Progress {
+    side: 0,
+    dots: 0,
+    knit: 0,
+};
+
+// Writes what Load answers, and returns the record after it.
+pub fn print_load<W: Write>(
+    out: &mut W,
+    loaded: Result<Progress, Refusal>,
+) -> io::Result<Progress> {
+    let progress = loaded.unwrap_or(NO_RECORD);
     out.write_all(b"load")?;
-    print_record(out, answer.progress)?;
-    match answer.status {
-        LoadStatus::Loaded => end_line(out),
-        LoadStatus::Refused(why) => end_refused(out, why),
+    print_record(out, progress)?;
+    match loaded {
+        Ok(_) => end_line(out)?,
+        Err(why) => end_refused(out, why)?,
     }
+    Ok(progress)
 }
 
 // Adds one number to an entry and subtracts another, if there is such an entry and it isn't too large.
@@ -213,14 +244,14 @@ pub fn pyramid_of(n: usize) -> usize
     }
 }
 
-// Reads the greys of seed 0, or fills in the sample of another, lowered, and returns the place behind what was read.
-pub fn make_greys(text: &[u8], from: usize, seed: u32, side: u32, greys: &mut [u8]) -> usize {
+// Reads the greys of seed 0, or fills in the sample of another, lowered.
+pub fn make_greys(numbers: &mut Numbers, seed: u32, side: u32, greys: &mut [u8]) {
     if seed == 0 {
-        return read_bytes(text, from, greys);
+        numbers.fill_bytes(greys);
+    } else {
+        let _ = sample_map::sample(seed, side, greys);
+        lower::lower(greys);
     }
-    let _ = sample_map::sample(seed, side, greys);
-    lower::lower(greys);
-    from
 }
 
 // Lends Advance the first places of each buffer, as many as the lengths say.
@@ -233,7 +264,7 @@ pub fn advance_on(
     pyramid: &mut [i64],
     serials: &mut [u32],
     order: &mut [u32],
-) -> AdvanceAnswer {
+) -> Result<AdvanceAnswer, Refusal> {
     let pyramid_lent = limit(p, pyramid.len());
     let serials_lent = limit(s, serials.len());
     let order_lent = limit(o, order.len());
@@ -246,57 +277,21 @@ pub fn advance_on(
     )
 }
 
-// A checksum with one more value.
-fn mix(sum: u64, value: u64) -> u64 {
-    (sum % 4294967296 * 16777619 + value % 4294967296) % 4294967296
-}
-
-// A signed value in two's complement, modulo 2 to the power of 32.
-fn word(n: i64) -> u64 {
-    let m = folded(n) % 4294967296;
-    if n < 0 {
-        return 4294967295 - m;
-    }
-    m
-}
-
-fn wide(n: u32) -> u64 {
-    n as u64
-}
-
 // The checksum of values.
-fn checksum_u32(values: &[u32]) -> u64 {
+fn checksum<T: Printed>(values: &[T]) -> u64 {
     let mut sum = 1;
     for &value in values {
-        sum = mix(sum, wide(value));
-    }
-    sum
-}
-
-// The same for signed values.
-fn checksum_i64(values: &[i64]) -> u64 {
-    let mut sum = 1;
-    for &value in values {
-        sum = mix(sum, word(value));
+        sum = (sum % 4294967296 * 16777619 + value.word() % 4294967296) % 4294967296;
     }
     sum
 }
 
 // Writes the values of a side up to 8, and the checksum of a larger one.
-fn write_u32<W: Write>(out: &mut W, n: usize, values: &[u32]) -> io::Result<()> {
+fn write_values<W: Write, T: Printed>(out: &mut W, n: usize, values: &[T]) -> io::Result<()> {
     if n <= 8 {
-        return fields_u32(out, values);
+        return fields(out, values);
     }
-    field(out, checksum_u32(values))?;
-    end_line(out)
-}
-
-// The same for signed values.
-fn write_i64<W: Write>(out: &mut W, n: usize, values: &[i64]) -> io::Result<()> {
-    if n <= 8 {
-        return fields_i64(out, values);
-    }
-    field(out, checksum_i64(values))?;
+    field(out, checksum(values))?;
     end_line(out)
 }
 
@@ -309,22 +304,42 @@ pub fn write_places<W: Write>(
     order: &[u32],
 ) -> io::Result<()> {
     out.write_all(b"pyramid")?;
-    write_i64(out, n, pyramid)?;
+    write_values(out, n, pyramid)?;
     out.write_all(b"serials")?;
-    write_u32(out, n, serials)?;
+    write_values(out, n, serials)?;
     out.write_all(b"order")?;
-    write_u32(out, n, order)
+    write_values(out, n, order)
 }
 
-// Writes what Advance answers to a budget.
-pub fn print_call<W: Write>(out: &mut W, budget: u32, answer: AdvanceAnswer) -> io::Result<()> {
-    out.write_all(b"call")?;
-    field_u32(out, budget)?;
-    print_record(out, answer.progress)?;
-    field_u32(out, answer.made)?;
-    match answer.status {
+// Writes what goes with an Advance that is not refused.
+fn print_status<W: Write>(out: &mut W, status: AdvanceStatus) -> io::Result<()> {
+    match status {
         AdvanceStatus::Finished => out.write_all(b",finished\n"),
         AdvanceStatus::More => out.write_all(b",more\n"),
-        AdvanceStatus::Refused(why) => end_refused(out, why),
+    }
+}
+
+// Writes what Advance, given a record, answers to a budget, and returns the record after it.
+pub fn print_call<W: Write>(
+    out: &mut W,
+    given: Progress,
+    budget: u32,
+    answer: Result<AdvanceAnswer, Refusal>,
+) -> io::Result<Progress> {
+    out.write_all(b"call")?;
+    field(out, budget)?;
+    match answer {
+        Ok(answer) => {
+            print_record(out, answer.progress)?;
+            field(out, answer.made)?;
+            print_status(out, answer.status)?;
+            Ok(answer.progress)
+        }
+        Err(why) => {
+            print_record(out, given)?;
+            field(out, 0u32)?;
+            end_refused(out, why)?;
+            Ok(given)
+        }
     }
 }

@@ -1,6 +1,6 @@
 -- The rows of the two checks: Keep's (`keep_passed`, `keep_failed`); Restore's by what is lent (`lent_first`), then the
 -- last three (`then_last`).
-use Rattle.std.specs.Prelude.{◌≡◌, Bool, true, false, not, List, [], ◌∷◌, ℕ, suc}
+use Rattle.std.specs.Prelude.{◌≡◌, Bool, true, false, not, List, [], ◌∷◌, ℕ, suc, Ok, Err}
 use Rattle.std.proofs.Math.Path.{refl}
 use Rattle.std.proofs.Common.{sym, ◌∙◌, arith}
 use borrow.Author.Tests.{ne_eqb, not-false}
@@ -21,15 +21,14 @@ use Rattle.definition.specs.Checkpoints.{is_name, name_unknown, keep_refusal, re
 use Rattle.definition.specs.declared.Refusal.TheVariants.{NameUnknown}
 use Rattle.refusals.specs.Lowest.{positive, lowest_none, lowest_before, lowest_after, lowest_split, lowest_last_not}
 use Rattle.checks.specs.Checks.{checked}
-use Rattle.checks.specs.declared.Check.TheVariants.{Passed, Failed}
 
 -- ---- Keep's check
 module _ {r : ℕ} (some : r ≡ 0 → ⊥) (name : ℕ) {b : Bool} (e : b ≡ is_name name) where
-  pub keep_passed : b ≡ true → checked Passed ≡ keep_refusal r name
+  pub keep_passed : b ≡ true → checked (Ok tt) ≡ keep_refusal r name
   unfolding checked keep_refusal lowest
   keep_passed yes' = rw (ne_eqb r 0 some, ← e, yes')
 
-  pub keep_failed : b ≡ false → checked (Failed NameUnknown) ≡ keep_refusal r name
+  pub keep_failed : b ≡ false → checked (Err NameUnknown) ≡ keep_refusal r name
   unfolding checked number_of keep_refusal lowest
   keep_failed no' = rw (ne_eqb r 0 some, ← e, no')
 

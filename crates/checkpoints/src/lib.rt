@@ -2,7 +2,7 @@
 #![tactic(auto)]
 
 ghost use Rattle.std.specs.Prelude.{◌≡◌, [], ◌∷◌, ◌-◌, ◌≤◌, length};
-ghost use Rattle.definition.specs.Answers.{checkpoint_says};
+ghost use Rattle.definition.specs.Answers.{done_says, kept_after, record_after};
 ghost use Rattle.definition.specs.Blocks.{grey_total, total_of};
 ghost use Rattle.definition.specs.Sound.{is_sound};
 ghost use Rattle.definition.specs.Refusals.{sheet_unsound, grey_high, lowest};
@@ -12,82 +12,53 @@ ghost use Rattle.definition.specs.Checkpoints.{kept_at, name_unknown, keep_refus
 ghost use Rattle.definition.specs.Checkpoints.{can_restore, restore_refusal};
 ghost use Rattle.definition.specs.Quarters.{as_rows};
 ghost use Rattle.definition.specs.ByQuarters.{restore_by_quarters};
-ghost use Rattle.places.specs.Table.{places};
 ghost use Rattle.checks.specs.Checks.{checked};
 ghost use Rattle.checkpoints.specs.Restoring.{CountAsked, AnewAsked, Restored};
 
-use checks::Check;
-use definition::{CheckpointAnswer, CheckpointStatus, Checkpoints, Progress, Refusal};
-
-fn done(progress: Progress, checkpoints: Checkpoints) -> CheckpointAnswer
-    ensures { result ≡ record { progress = progress; checkpoints = checkpoints; status = CheckpointStatus.Done } }
-{
-    CheckpointAnswer {
-        progress,
-        checkpoints,
-        status: CheckpointStatus::Done,
-    }
-}
-
-// Record and value are given back.
-fn refused(progress: Progress, checkpoints: Checkpoints, why: Refusal) -> CheckpointAnswer
-    ensures { result
-        ≡ record { progress = progress; checkpoints = checkpoints; status = CheckpointStatus.Refused why } }
-{
-    CheckpointAnswer {
-        progress,
-        checkpoints: checkpoints,
-        status: CheckpointStatus::Refused(why),
-    }
-}
+use definition::{Checkpoints, Progress, Refusal};
+use places::Table;
 
 // Keep's refusals 1, then 10 (S 5.2).
-fn check_keep(r: usize, name: u32) -> Check
+fn check_keep(r: usize, name: u32) -> Result<(), Refusal>
     ensures { checked result ≡ keep_refusal r name }
 {
     if r == 0 {
-        return Check::Failed(Refusal::SideUnknown);
+        return Err(Refusal::SideUnknown);
     }
-    if names::is_name(name) {
-        return Check::Passed;
+    if !names::is_name(name) {
+        return Err(Refusal::NameUnknown);
     }
-    Check::Failed(Refusal::NameUnknown)
+    Ok(())
 }
 
-// Keep (S 10.1): the dots of the record are written down under a name.
-pub fn keep(progress: Progress, checkpoints: Checkpoints, name: u32) -> CheckpointAnswer
+// Keep (S 10.1): the dots of the record are written down under a name. The record stays.
+pub fn keep(progress: Progress, checkpoints: Checkpoints, name: u32) -> Result<Checkpoints, Refusal>
     ensures { record {
-      progress = result.progress;
-      checkpoints = result.checkpoints;
-      said =
-          checkpoint_says result.status;
+      progress = progress;
+      checkpoints = kept_after checkpoints result;
+      said = done_says result;
     }
         ≡ keep_of progress checkpoints name }
 {
-    let r = sizes::power_of(progress.side);
-    match check_keep(r, name) {
-        Check::Failed(why) => refused(progress, checkpoints, why),
-        Check::Passed => {
-            let with = names::with_dots(checkpoints, name, progress.dots);
-            done(progress, with)
-        }
-    }
+    check_keep(sizes::power_of(progress.side), name)?;
+    let with = names::with_dots(checkpoints, name, progress.dots);
+    Ok(with)
 }
 
 // Restore's last refusals: 5, then 12, then 10.
-fn check_last(sound: bool, low: bool, known: bool) -> Check
+fn check_last(sound: bool, low: bool, known: bool) -> Result<(), Refusal>
     ensures { checked result ≡ lowest (sheet_unsound sound ∷ grey_high low ∷ name_unknown known ∷ []) }
 {
     if !sound {
-        return Check::Failed(Refusal::SheetUnsound);
+        return Err(Refusal::SheetUnsound);
     }
     if !low {
-        return Check::Failed(Refusal::GreyHigh);
+        return Err(Refusal::GreyHigh);
     }
     if !known {
-        return Check::Failed(Refusal::NameUnknown);
+        return Err(Refusal::NameUnknown);
     }
-    Check::Passed
+    Ok(())
 }
 
 // Restore's refusals (S 5.2): those of Load by what is lent, for which its greys count as low, then the last.
@@ -97,14 +68,13 @@ fn check_restore(
     knit: u32,
     checkpoints: Checkpoints,
     name: u32,
-    table: &[u16; 1024],
+    table: &Table,
     greys: &[u8],
     pyramid: &[i64],
     serials: &[u32],
     order: &[u32],
-) -> Check
-    requires r_bound { r ≤ 8 }
-    requires table_value { table.now ≡ places }
+) -> Result<(), Refusal>
+    requires { r ≤ 8 }
     ensures { checked result
         ≡ restore_refusal r knit
         (length greys.now) (length pyramid.now)
@@ -113,7 +83,7 @@ fn check_restore(
         (low_map r greys.now)
         (can_restore checkpoints name (total_of (grey_total r greys.now))) }
 {
-    match fresh_sheet::check_load(
+    fresh_sheet::check_load(
         r,
         knit,
         greys.len(),
@@ -121,16 +91,12 @@ fn check_restore(
         serials.len(),
         order.len(),
         true,
-    ) {
-        Check::Failed(why) => Check::Failed(why),
-        Check::Passed => {
-            let sound = sheet::sound_lent(r, dots, false, table, pyramid, serials, order);
-            let low = fresh_sheet::low_map(r, greys);
-            let total = quote_figures::total_dots(r, greys);
-            let known = names::can_restore(checkpoints, name, total);
-            check_last(sound, low, known)
-        }
-    }
+    )?;
+    let sound = sheet::sound_lent(r, dots, false, table, pyramid, serials, order);
+    let low = fresh_sheet::low_map(r, greys);
+    let total = quote_figures::total_dots(r, greys);
+    let known = names::can_restore(checkpoints, name, total);
+    check_last(sound, low, known)
 }
 
 // The dots kept under a name, which is not empty.
@@ -146,14 +112,13 @@ fn restore_sheet(
     knit: u32,
     r: usize,
     dots: u32,
-    table: &[u16; 1024],
+    table: &Table,
     greys: &[u8],
     pyramid: &mut [i64],
     serials: &mut [u32],
     order: &mut [u32],
 )
-    requires anew_asked { AnewAsked r greys.now (length pyramid.old) (length serials.old) (length order.old) }
-    requires table_value { table.now ≡ places }
+    requires { AnewAsked r greys.now (length pyramid.old) (length serials.old) (length order.old) }
     ensures { Restored knit r dots
         greys.now pyramid.old serials.old order.old
         pyramid.new serials.new order.new }
@@ -173,7 +138,7 @@ fn restore_sheet(
     );
 }
 
-// Restore (S 10.2, S 10.3): the way back to the sheet of a name.
+// Restore (S 10.2, S 10.3): the way back to the sheet of a name, and its record. The value stays.
 pub fn restore(
     progress: Progress,
     checkpoints: Checkpoints,
@@ -182,11 +147,11 @@ pub fn restore(
     pyramid: &mut [i64],
     serials: &mut [u32],
     order: &mut [u32],
-) -> CheckpointAnswer
+) -> Result<Progress, Refusal>
     ensures { record {
-      progress = result.progress;
-      checkpoints = result.checkpoints;
-      said = checkpoint_says result.status;
+      progress = record_after progress result;
+      checkpoints = checkpoints;
+      said = done_says result;
       pyramid = pyramid.new;
       serials = serials.new;
       order = order.new;
@@ -194,9 +159,9 @@ pub fn restore(
         ≡ restore_by_quarters progress checkpoints name
         greys.now pyramid.old serials.old order.old }
 {
-    let table = places::table();
+    let table = Table::new();
     let r = sizes::power_of(progress.side);
-    match check_restore(
+    check_restore(
         r,
         progress.dots,
         progress.knit,
@@ -207,14 +172,10 @@ pub fn restore(
         pyramid,
         serials,
         order,
-    ) {
-        Check::Failed(why) => refused(progress, checkpoints, why),
-        Check::Passed => {
-            let dots = kept_dots(checkpoints, name);
-            let knit = progress.knit;
-            restore_sheet(knit, r, dots, &table, greys, pyramid, serials, order);
-            let side = progress.side;
-            done(Progress { side, dots, knit }, checkpoints)
-        }
-    }
+    )?;
+    let side = progress.side;
+    let dots = kept_dots(checkpoints, name);
+    let knit = progress.knit;
+    restore_sheet(knit, r, dots, &table, greys, pyramid, serials, order);
+    Ok(Progress { side, dots, knit })
 }

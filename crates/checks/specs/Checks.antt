@@ -1,28 +1,32 @@
--- The number that a check says, 0 if it passes (`checked`, `passed_none`, `failed_number`); and what the tests of
--- lengths and places tell about the rows of refusals (`short`, `enough`).
-use Rattle.std.specs.Prelude.{◌≡◌, true, false, ℕ, suc, ◌-◌, ◌≤◌, ◌<◌, ltb, leb}
+-- The number that a check says, 0 if it passes (`checked`, `passed_none`, `failed_number`); what a call answers whose
+-- check failed (`gives_back`); and what the tests of lengths and places tell about the rows of refusals (`short`,
+-- `enough`).
+use Rattle.std.specs.Prelude.{◌≡◌, true, false, ℕ, suc, ◌-◌, ◌≤◌, ◌<◌, ltb, leb, Result, Ok, Err, IsErrAnd, refl}
 use Rattle.std.proofs.Math.Path.{sym, ap}
 use Rattle.std.proofs.Common.{◌∙◌, arith, lt-ltb, le-ltb, le-leb}
 use Rattle.std.proofs.lemmas.Bool.{lt-leb}
+use Rattle.std.proofs.lemmas.Result.{err_from_is_err_and}
 use Rattle.definition.specs.Answers.{number_of}
 use Rattle.definition.specs.declared.Refusal.{Refusal}
 use Rattle.refusals.specs.Numbers.{number_positive}
-use Rattle.checks.specs.declared.Check.{Check}
-use Rattle.checks.specs.declared.Check.TheVariants.{Passed, Failed}
 
-unfoldable pub checked : Check → ℕ
-checked Passed = 0
-checked (Failed why) = number_of why
+unfoldable pub checked : Result (Unit {0}) Refusal → ℕ
+checked (Ok _) = 0
+checked (Err why) = number_of why
 
 -- a check that says n, told apart
-module _ (check : Check) {n : ℕ} (e : checked check ≡ n) where
-  pub passed_none : check ≡ Passed → n ≡ 0
-  unfolding checked
-  passed_none passed = sym e ∙ ap checked passed
+pub passed_none : {n : ℕ} → checked (Ok tt) ≡ n → n ≡ 0
+unfolding checked
+passed_none e = sym e
 
-  pub failed_number : (why : Refusal) → check ≡ Failed why → n ≡ suc (number_of why - 1)
-  unfolding checked
-  failed_number why failed = sym e ∙ ap checked failed ∙ number_positive why
+pub failed_number : {n : ℕ} (why : Refusal) → checked (Err why) ≡ n → n ≡ suc (number_of why - 1)
+unfolding checked
+failed_number why e = sym e ∙ number_positive why
+
+-- what a call answers whose check failed, where `?` gives it back
+pub gives_back : {A : Type 0} (answer : Result A Refusal) (why : Refusal) → IsErrAnd answer (λ e. e ≡ why)
+    → answer ≡ Err why
+gives_back answer why h = let p = err_from_is_err_and answer h in rw (p.1, p.2) refl
 
 -- fewer places lent than asked, or enough; `asked` is what the code has worked out for `needed`
 module _ {lent asked needed : ℕ} (e : asked ≡ needed) where

@@ -1,6 +1,7 @@
 -- What a writer leaves (`Wrote`): bytes stored from a place on, as far as there are places, and the place behind them;
 -- one writer after another (`wrote_append`), and how long a number is (`length_decimal`).
-use Rattle.std.specs.Prelude.{◌≡◌, refl, ℕ, zero, suc, ◌+◌, ◌-◌, ◌/◌, ◌%◌, ◌^◌, ◌<◌, ◌≤◌, drop, set, replicate}
+use Rattle.std.specs.Prelude.{◌≡◌, refl, ℕ, zero, suc, ◌+◌, ◌-◌, ◌*◌, ◌/◌, ◌%◌, ◌^◌, ◌<◌, ◌≤◌, max, drop, set}
+use Rattle.std.specs.Prelude.{replicate}
 use Rattle.std.proofs.Common.{sym, ap, ◌∙◌, add_assoc, add-suc, suc-add, add-zero, zero-add, pow-suc, div-lt_iff_lt-mul}
 use Rattle.std.proofs.Common.{add-one, arith}
 use mathlib.Core.List.{List, [], ◌∷◌, ◌++◌, append_assoc}
@@ -77,6 +78,13 @@ module _ {l l₁ l₂ : List ℕ} {at a b : ℕ} where
       → Wrote l at (replicate (i + 1) space) b l₂
   one_more_space i x y = rw (← replicate-append-replicate i 1 space) (wrote_append x y)
 
+  -- at a place that is `a` itself
+  pub space_at : at ≤ a → Wrote l at (replicate (a - at) space) a l₁ → Wrote l₁ a (space ∷ []) b l₂
+      → Wrote l at (replicate (a + 1 - at) space) (a + 1) l₂
+  space_at h x y =
+      let e : a + 1 - at ≡ a - at + 1 = omega arith in
+      rw (e, ← y.place) (one_more_space (a - at) x y)
+
   -- ---- a number behind spaces: its last digit behind all that comes before it, in a place less
   module _ (width n : ℕ) {before : ℕ} (e : before ≡ width - 1) where
     pub one_digit : n < 10 → Wrote l at (replicate before space) a l₁ → Wrote l₁ a ((48 + n) ∷ []) b l₂
@@ -134,30 +142,23 @@ length_below_ten n h = rw (decimal_below_ten n h)
 length_from_ten : (n : ℕ) → 10 ≤ n → length (decimal n) ≡ length (decimal (n / 10)) + 1
 length_from_ten n h = rw (decimal_from_ten n h) (length-append (decimal (n / 10)) ((48 + n % 10) ∷ []))
 
--- k + 2 from the power k + 1 of ten up to the next
-pub length_between : (k n : ℕ) → 10 ^ suc k ≤ n → n < 10 ^ suc (suc k) → suc (suc k) ≡ length (decimal n)
-length_between zero n low high = omega (arith, length_from_ten n (omega arith), length_below_ten (n / 10) (omega arith))
+-- k + 1 from the power k of ten up to the next
+pub length_between : (k n : ℕ) → 10 ^ k ≤ n → n < 10 ^ suc k → suc k ≡ length (decimal n)
+length_between zero n low high = length_below_ten n high
 length_between (suc k) n low high =
-    let lower : 10 ^ suc k ≤ n / 10 = omega (arith, pow-suc 10 (suc k)) in
-    let higher : n / 10 < 10 ^ suc (suc k) = omega (arith, pow-suc 10 (suc (suc k))) in
+    let lower : 10 ^ k ≤ n / 10 = omega (arith, pow-suc 10 k) in
+    let higher : n / 10 < 10 ^ suc k = omega (arith, pow-suc 10 (suc k)) in
     omega (
       arith,
-      length_from_ten n (omega (arith, one-le-pow (suc k) 10 (omega arith))),
+      length_from_ten n (omega (arith, pow-suc 10 k, one-le-pow k 10 (omega arith))),
       length_between k (n / 10) lower higher,
     )
 
--- without its last five digits
-pub length_five_off : (n : ℕ) → 100000 ≤ n → length (decimal n) ≡ length (decimal (n / 100000)) + 5
-length_five_off n h =
-    let e : n / 10 / 10 / 10 / 10 / 10 ≡ n / 100000 = omega arith in
-    rw (← e) (omega (
-      arith,
-      length_from_ten n (omega arith),
-      length_from_ten (n / 10) (omega arith),
-      length_from_ten (n / 10 / 10) (omega arith),
-      length_from_ten (n / 10 / 10 / 10) (omega arith),
-      length_from_ten (n / 10 / 10 / 10 / 10) (omega arith),
-    ))
+-- with the byte that ends it, by the tenth logarithm of the number, or of 1 in place of 0
+pub length_by_log : (n k : ℕ) → 10 ^ k ≤ max n 1 → max n 1 < 10 * 10 ^ k → k + 2 ≡ length (decimal n) + 1
+length_by_log zero zero low high = omega (arith, length_below_ten 0 (omega arith))
+length_by_log zero (suc k) low high = absurd (omega (arith, pow-suc 10 k, one-le-pow k 10 (omega arith)))
+length_by_log (suc n) k low high = omega (arith, length_between k (suc n) (omega arith) (omega (arith, pow-suc 10 k)))
 
 pub length_right : (width n : ℕ) → length (right_aligned width n) ≡ width - length (decimal n) + length (decimal n)
 unfolding right_aligned

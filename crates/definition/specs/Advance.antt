@@ -2,9 +2,10 @@
 -- lists lent. `advance_of` is the whole of it, `advanced` one that is not refused; `dots_due` says how many dots are
 -- due.
 use Rattle.std.specs.Prelude.{Bool, cond, List, [], ◌∷◌, ◌++◌, ℕ, zero, suc, ◌+◌, ◌/◌, min, length, take, drop, ℤ, pos}
+use Rattle.std.specs.Prelude.{Result, Ok, Err}
 use Rattle.std.specs.Prelude.{nat_abs}
 use Rattle.std.specs.Int.Signed.{lt_z}
-use Rattle.definition.specs.Answers.{Said, finished, more, refused}
+use Rattle.definition.specs.Answers.{Said, finished, more, refused, number_of, status_says}
 use Rattle.definition.specs.Pyramid.{one_dot, half_dot, needed, cell_count}
 use Rattle.definition.specs.Diffusion.{kernel_of}
 use Rattle.definition.specs.Model.{Halftone, top_of, steps}
@@ -19,12 +20,20 @@ use Rattle.definition.specs.Refusals.{
   lowest,
 }
 use Rattle.definition.specs.declared.Progress.{Progress}
+use Rattle.definition.specs.declared.AdvanceAnswer.{AdvanceAnswer}
+use Rattle.definition.specs.declared.Refusal.{Refusal}
 
 -- what Advance answers: the new record, the dots made in this call, and what it says (S 7.3)
 pub record Reply : Type 0 where
   pub progress : Progress
   pub made : ℕ
   pub said : Said
+
+-- what its code answers is this: where it refuses, the record that it was given, and 0 dots made (S 7.4)
+unfoldable pub reply_of : Progress → Result AdvanceAnswer Refusal → Reply
+reply_of given (Ok answer) =
+    record { progress = answer.progress; made = answer.made; said = status_says answer.status }
+reply_of given (Err why) = record { progress = given; made = 0; said = refused (number_of why) }
 
 -- its answer, and the three buffers afterwards
 pub record AdvanceOutcome : Type 0 where

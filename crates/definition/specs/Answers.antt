@@ -1,6 +1,7 @@
--- What each value of the public enums says: a `Said`, and for a refusal its number, `number_of`. All other modules
--- speak in these terms.
-use Rattle.std.specs.Prelude.{List, [], ◌∷◌, ℕ}
+-- What the answer of each call says: a `Said`, and for a refusal its number, `number_of`; and what a call that refuses
+-- answers beside it. All other modules speak in these terms.
+use Rattle.std.specs.Prelude.{List, [], ◌∷◌, ℕ, replicate, pos, Result, Ok, Err}
+use Rattle.std.specs.Result.{result_unwrap_or}
 use Rattle.definition.specs.declared.Refusal.{Refusal}
 use Rattle.definition.specs.declared.Refusal.TheVariants.{
   SideUnknown,
@@ -18,32 +19,14 @@ use Rattle.definition.specs.declared.Refusal.TheVariants.{
   PairFalls,
   SideSmall,
 }
-use Rattle.definition.specs.declared.LoadStatus.{LoadStatus}
-use Rattle.definition.specs.declared.LoadStatus.TheVariants as Load
+use Rattle.definition.specs.declared.Progress.{Progress}
+use Rattle.definition.specs.declared.Checkpoints.{Checkpoints}
 use Rattle.definition.specs.declared.AdvanceStatus.{AdvanceStatus}
-use Rattle.definition.specs.declared.AdvanceStatus.TheVariants as Advance
-use Rattle.definition.specs.declared.TallyAnswer.{TallyAnswer}
-use Rattle.definition.specs.declared.TallyAnswer.TheVariants as Tally
-use Rattle.definition.specs.declared.LevelsStatus.{LevelsStatus}
-use Rattle.definition.specs.declared.LevelsStatus.TheVariants as Levels
-use Rattle.definition.specs.declared.MapTextAnswer.{MapTextAnswer}
-use Rattle.definition.specs.declared.MapTextAnswer.TheVariants as MapText
-use Rattle.definition.specs.declared.TextAnswer.{TextAnswer}
-use Rattle.definition.specs.declared.TextAnswer.TheVariants as Text
-use Rattle.definition.specs.declared.SampleAnswer.{SampleAnswer}
-use Rattle.definition.specs.declared.SampleAnswer.TheVariants as Sample
+use Rattle.definition.specs.declared.AdvanceStatus.TheVariants.{Finished, More}
 use Rattle.definition.specs.declared.CompareAnswer.{CompareAnswer}
 use Rattle.definition.specs.declared.CompareAnswer.TheVariants as Compare
-use Rattle.definition.specs.declared.ShelfAnswer.{ShelfAnswer}
-use Rattle.definition.specs.declared.ShelfAnswer.TheVariants as Shelf
-use Rattle.definition.specs.declared.CheckpointStatus.{CheckpointStatus}
-use Rattle.definition.specs.declared.CheckpointStatus.TheVariants as Checkpoint
-use Rattle.definition.specs.declared.RelayAnswer.{RelayAnswer}
-use Rattle.definition.specs.declared.RelayAnswer.TheVariants as Relay
 use Rattle.definition.specs.declared.SketchAnswer.{SketchAnswer}
-use Rattle.definition.specs.declared.SketchAnswer.TheVariants as Sketch
-use Rattle.definition.specs.declared.TwoHeadsStatus.{TwoHeadsStatus}
-use Rattle.definition.specs.declared.TwoHeadsStatus.TheVariants as TwoHeads
+use Rattle.definition.specs.declared.TwoHeadsAnswer.{TwoHeadsAnswer}
 
 -- How the left of two plates stands to the right one: before it, the same, or after it; where a cell decides, with its
 -- row and column (S 11.1).
@@ -85,72 +68,61 @@ number_of GreyHigh = 12
 number_of PairFalls = 13
 number_of SideSmall = 14
 
--- Load answers its record and, beside it, nothing or a number (S 7.1, S 7.2)
-unfoldable pub load_says : LoadStatus → Said
-load_says Load.Loaded = returned []
-load_says (Load.Refused why) = refused (number_of why)
+-- A call that does its work says nothing more, or the number of its refusal: Load, Levels, Shelf, Keep, Restore, Relay
+-- and Two Heads. What else they answer stands beside it (S 7.1, S 8.2, S 10.1, S 10.2, S 11.2, S 12.2, S 13.5).
+unfoldable pub done_says : {A : Type 0} → Result A Refusal → Said
+done_says (Ok _) = returned []
+done_says (Err why) = refused (number_of why)
 
--- Advance says "finished", "more" or, in place of these, a number (S 7.3, S 7.4)
-unfoldable pub advance_says : AdvanceStatus → Said
-advance_says Advance.Finished = finished
-advance_says Advance.More = more
-advance_says (Advance.Refused why) = refused (number_of why)
+-- A call that answers one number says it, or the number of its refusal: Tally the dots of a square, Map Text the side,
+-- Drill List, Quote Page and Lower Text the length of their text, Sample the state (S 6.6, S 8.1, S 9.1, S 12.1).
+unfoldable pub value_says : Result ℕ Refusal → Said
+value_says (Ok n) = returned (n ∷ [])
+value_says (Err why) = refused (number_of why)
 
--- Tally answers the dots of a square, or a number alone (S 8.1)
-unfoldable pub tally_says : TallyAnswer → Said
-tally_says (Tally.Dots n) = returned (n ∷ [])
-tally_says (Tally.Refused why) = refused (number_of why)
+-- an Advance that is not refused says "finished" or "more" (S 7.3)
+unfoldable pub status_says : AdvanceStatus → Said
+status_says Finished = finished
+status_says More = more
 
--- Levels answers its nine sums beside this (S 8.2)
-unfoldable pub levels_says : LevelsStatus → Said
-levels_says Levels.Summed = returned []
-levels_says (Levels.Refused why) = refused (number_of why)
+-- how two plates stand (S 11.1)
+unfoldable pub stands : CompareAnswer → Compared
+stands Compare.Before = before
+stands (Compare.BeforeAt row column) = before_at row column
+stands Compare.Same = same
+stands (Compare.AfterAt row column) = after_at row column
+stands Compare.After = after
 
--- Map Text answers the side that it read (S 9.1)
-unfoldable pub map_text_says : MapTextAnswer → Said
-map_text_says (MapText.Side n) = returned (n ∷ [])
-map_text_says (MapText.Refused why) = refused (number_of why)
-
--- Drill List, Quote Page and Lower Text answer the length of their text (S 6.6)
-unfoldable pub text_says : TextAnswer → Said
-text_says (Text.Length n) = returned (n ∷ [])
-text_says (Text.Refused why) = refused (number_of why)
-
--- Sample answers the state reached (S 12.1)
-unfoldable pub sample_says : SampleAnswer → Said
-sample_says (Sample.State n) = returned (n ∷ [])
-sample_says (Sample.Refused why) = refused (number_of why)
-
--- Compare answers how two plates stand (S 11.1)
-unfoldable pub compare_says : CompareAnswer → Said
-compare_says Compare.Before = comparison before
-compare_says (Compare.BeforeAt row column) = comparison (before_at row column)
-compare_says Compare.Same = comparison same
-compare_says (Compare.AfterAt row column) = comparison (after_at row column)
-compare_says Compare.After = comparison after
-compare_says (Compare.Refused why) = refused (number_of why)
-
--- Shelf answers nothing, or a number (S 11.2)
-unfoldable pub shelf_says : ShelfAnswer → Said
-shelf_says Shelf.Sorted = returned []
-shelf_says (Shelf.Refused why) = refused (number_of why)
-
--- Keep and Restore: beside the record and the value, nothing or a number (S 10.1, S 10.2)
-unfoldable pub checkpoint_says : CheckpointStatus → Said
-checkpoint_says Checkpoint.Done = returned []
-checkpoint_says (Checkpoint.Refused why) = refused (number_of why)
-
--- Relay answers nothing, or a number (S 12.2)
-unfoldable pub relay_says : RelayAnswer → Said
-relay_says Relay.Relaid = returned []
-relay_says (Relay.Refused why) = refused (number_of why)
+-- Compare answers how two plates stand, or a number
+unfoldable pub compare_says : Result CompareAnswer Refusal → Said
+compare_says (Ok answer) = comparison (stands answer)
+compare_says (Err why) = refused (number_of why)
 
 -- Sketch Quote answers the side, and the least and the greatest total (S 9.4)
-unfoldable pub sketch_says : SketchAnswer → Said
-sketch_says (Sketch.Quoted side least greatest) = returned (side ∷ least ∷ greatest ∷ [])
-sketch_says (Sketch.Refused why) = refused (number_of why)
+unfoldable pub sketch_says : Result SketchAnswer Refusal → Said
+sketch_says (Ok answer) = returned (answer.side ∷ answer.least ∷ answer.greatest ∷ [])
+sketch_says (Err why) = refused (number_of why)
 
--- Two Heads: beside the record, the holes and the debt, nothing or a number (S 13.5)
-unfoldable pub two_heads_says : TwoHeadsStatus → Said
-two_heads_says TwoHeads.Stopped = returned []
-two_heads_says (TwoHeads.Refused why) = refused (number_of why)
+-- a record that says nothing: the answer of a call that has none to give
+abbrev pub no_record : Progress
+no_record = record { side = 0; dots = 0; knit = 0 }
+
+-- the record that Load answers: side 0, without dots, where it refuses (S 7.2)
+abbrev pub load_record : Result Progress Refusal → Progress
+load_record answer = result_unwrap_or answer no_record
+
+-- the record after a Restore: as it was given where it refuses (S 10.3)
+abbrev pub record_after : Progress → Result Progress Refusal → Progress
+record_after given answer = result_unwrap_or answer given
+
+-- the nine sums of Levels, all 0 where it refuses (S 8.2)
+abbrev pub levels_sums : Result (List ℕ) Refusal → List ℕ
+levels_sums answer = result_unwrap_or answer (replicate 9 0)
+
+-- the value after Keep: as it was given where it refuses (S 10.1)
+abbrev pub kept_after : Checkpoints → Result Checkpoints Refusal → Checkpoints
+kept_after given answer = result_unwrap_or answer given
+
+-- the record, the holes and the debt of Two Heads, all 0 where it refuses (S 13.5)
+abbrev pub two_heads_answer : Result TwoHeadsAnswer Refusal → TwoHeadsAnswer
+two_heads_answer answer = result_unwrap_or answer (record { progress = no_record; made = 0; debt = pos 0 })

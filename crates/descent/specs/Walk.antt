@@ -1,9 +1,9 @@
 -- Why the code of the descent meets the definition, on the pyramid written row after row: the sum with its tie
--- (`candidate_is`), the one that is taken (`taken_is`), one level down (`next_asked`), and the cell back from its
+-- (`better_is`), the one that is taken (`taken_is`), one level down (`next_asked`), and the cell back from its
 -- number (`cell_is`).
 use Rattle.std.specs.Prelude.{◌≡◌, Bool, true, false, cond, List, length, take, ℤ, pos, ◌+ℤ◌}
 use Rattle.std.proofs.Math.Path.{refl, sym, ap}
-use Rattle.std.proofs.Common.{ap₂, ◌∙◌, mul-le-mul, add-one, pow_pos, pow_mono, take_all, to_z-of_z}
+use Rattle.std.proofs.Common.{ap₂, ◌∙◌, add-one, pow_mono, take_all, to_z-of_z}
 use Prim.Native.Nat.{ℕ, zero, suc, ◌+◌, ◌*◌, ◌-◌, ◌/◌, ◌%◌, ◌^◌, ◌≤◌, ◌<◌}
 use native.Mathlib.Omega.{arith}
 use Rattle.std.proofs.Math.Nat.{pow-succ', add-zero}
@@ -33,11 +33,6 @@ use Rattle.descent.specs.Candidates.{
   DescentAsked,
   number_of,
 }
-
--- ---- one of the four entries
-pub candidate_is : (pyramid : List ℤ) (first quarter : ℕ) {sum : ℤ} → sum ≡ get_or pyramid (first + quarter) (pos 0)
-    → record { quarter = quarter; sum = sum } ≡ candidate_at pyramid first quarter
-candidate_is pyramid first quarter e = rw e
 
 -- ---- the better of two: the best is below the later sum + tie just where the later one is taken
 tied : (last : Bool) (best next : ℤ) → lt_z best (next +ℤ pos (bool_byte last)) ≡ of_equals last best next
@@ -109,11 +104,6 @@ taken_is last pyramid first e =
           (omega arith));
       is = e;
     }
-
--- the sums are small
-module _ (pyramid : List ℤ) (first : ℕ) (h : FourAsked pyramid first) where
-  pub sum_small : (quarter : ℕ) (c : Candidate) → c ≡ candidate_at pyramid first quarter → Within (2 ^ 40) c.sum
-  sum_small quarter c e = rw (ap (λ (x : Candidate). x.sum) e) (h.small.small (first + quarter))
 
 -- ---- one level down
 start_four : (k : ℕ) → start (suc k) ≡ 4 * start k + 1
@@ -225,15 +215,6 @@ module _ {pyramid : List ℤ} {r k at a b : ℕ} (h : DescentAsked pyramid r k a
   unfolding descend
   here last e = let n : r - k ≡ 0 = omega (arith, e) in rw n
 
-  -- the number of an entry of level k, on a map of side 2^r
-  pub number_few : {side : ℕ} → side ≡ 2 ^ r → (a * side ≤ 65536) × (b * side ≤ 65536) × (a ≤ 256) × (b ≤ 256)
-  number_few {side} e =
-      let w : 2 ^ k ≤ 2 ^ 8 = pow_mono {i = k} {j = 8} (omega (arith, h.level, h.most)) in
-      let u : side ≤ 256 = rw e (pow_mono {i = r} {j = 8} h.most) in
-      let x : a ≤ 256 = omega (arith, h.row) in
-      let y : b ≤ 256 = omega (arith, h.column) in
-      (mul-le-mul x u, mul-le-mul y u, x, y)
-
   pub number_here : (last : Bool) {side : ℕ} → k ≡ r → side ≡ 2 ^ r
       → a * side + b ≡ number_of r (descend (of_equals last) (rows_from r pyramid) (r - k) k a b)
   number_here last e es = rw (← here last e, es)
@@ -253,9 +234,6 @@ module _ {pyramid : List ℤ} {r k at a b : ℕ} (h : DescentAsked pyramid r k a
     module _ {n : ℕ} (en : n ≡ needed r) where
       part_is : take n pyramid ≡ pyramid
       part_is = take_all n pyramid (omega (arith, en, h.whole))
-
-      pub part_long : n ≡ length (take n pyramid)
-      part_long = rw part_is (omega (arith, en, h.whole))
 
       module _ {last : Bool} {q : ℕ} (t : Taken last pyramid (4 * at + 1) q) where
         pub next_asked : DescentAsked (take n pyramid) r (k + 1) (4 * at + 1 + q) (2 * a + q / 2) (2 * b + q % 2)
@@ -281,6 +259,3 @@ module _ {pyramid : List ℤ} {r k at a b : ℕ} (h : DescentAsked pyramid r k a
         rw (es, e)
         (ap₂ (λ (x y : ℕ). (x, y)) (row_place_lem r reached.0 reached.1 c.1)
         (column_place_lem r reached.0 reached.1 c.1))
-
-pub side_some : (r : ℕ) {side : ℕ} → side ≡ 2 ^ r → 0 < side
-side_some r e = omega (arith, pow_pos r, e)

@@ -28,10 +28,9 @@ fn candidate_at(pyramid: &[i64], first: usize, quarter: usize) -> Candidate
     requires { first + quarter < length pyramid.now }
     ensures { result ≡ candidate_at pyramid.now first quarter }
 {
-    let sum = pyramid[first + quarter];
     Candidate {
-        quarter: quarter,
-        sum: sum,
+        quarter,
+        sum: pyramid[first + quarter],
     }
 }
 
@@ -41,9 +40,8 @@ fn better(best: Candidate, next: Candidate, last: bool) -> Candidate
     requires { Within (2 ^ 40) next.sum }
     ensures { result ≡ better_of last best next }
 {
-    let most = best.sum;
     let sum = next.sum + last as i64;
-    if most < sum { next } else { best }
+    if best.sum < sum { next } else { best }
 }
 
 // Which of the four entries from place `first` on is a largest.
@@ -57,8 +55,7 @@ fn largest(pyramid: &[i64], first: usize, last: bool) -> usize
     let bottom_right = candidate_at(pyramid, first, 3);
     let two = better(top_left, top_right, last);
     let three = better(two, bottom_left, last);
-    let taken = better(three, bottom_right, last);
-    taken.quarter
+    better(three, bottom_right, last).quarter
 }
 
 // The number of the cell that the descent reaches from entry (a, b) of level k, which is at place `at`, by the last of

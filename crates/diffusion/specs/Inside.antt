@@ -1,9 +1,9 @@
--- A cell inside the map (`told_inside`): all nine places around it lie on the map, so that no weight is cut off
+-- A cell inside the map (`right_decides`): all nine places around it lie on the map, so that no weight is cut off
 -- (`weight_inside`), the weights' sum is known, and each neighbour's place is its row's part and its column's, added
 -- (`inside_turn`).
 use Rattle.std.specs.Prelude.{◌≡◌, refl, Bool, true, false, List, ltb, length, get_or, set, ℤ, pos, ◌-ℤ◌}
 use Rattle.std.proofs.Math.Path.{sym, ap₂}
-use Rattle.std.proofs.Common.{ap, ◌∙◌, arith, add-zero, pow_pos, Fits}
+use Rattle.std.proofs.Common.{ap, ◌∙◌, ◌⊎◌, inl, inr, arith, add-zero, Fits}
 use Prim.Native.Nat.{ℕ, zero, suc, ◌+◌, ◌*◌, ◌-◌, ◌/◌, ◌%◌, ◌^◌, ◌≤◌, ◌<◌, min}
 use Rattle.std.proofs.Math.Decide.{ℕ_discrete}
 use borrow.Author.Tests.{lt-ltb, le-ltb}
@@ -19,47 +19,27 @@ use Rattle.layouts.specs.Interleaved.{interleaved_lt}
 use Rattle.layouts.specs.Cells.{rows_level}
 use Rattle.places.specs.declared.Parts.{Parts}
 use Rattle.places.specs.Parts.{parts_around, place_parts}
-use Rattle.diffusion.specs.OneTurn.{
-  is_inside,
-  one_of_three,
-  share_taken,
-  ShareAsked,
-  DiffuseAsked,
-  TakeAsked,
-  InsideAsked,
-}
+use Rattle.diffusion.specs.OneTurn.{is_inside, one_of_three, share_taken, ShareAsked, TakeAsked, InsideAsked}
 use Rattle.diffusion.specs.Weights.{turn_nine, weight_on}
 use Rattle.diffusion.specs.Shares.{taken_none, taken_some, near_asked, near_stored}
 use Rattle.diffusion.specs.Turns.{Turns, turn_asked, turn}
 
 -- ---- whether a cell is inside, as the code finds it
-pub side_some : (r : ℕ) {side : ℕ} → side ≡ 2 ^ r → 1 ≤ side
-side_some r e = omega (arith, pow_pos r)
 
 module _ (r row column : ℕ) where
-  pub none_above : row ≡ 0 → false ≡ is_inside r row column
+  pub none_there : {side : ℕ} {t : Bool} → side ≡ 2 ^ r → t ≡ false
+      → (0 < row × 0 < column × side - 1 ≤ row) ⊎ ((0 < row × column ≤ 0) ⊎ (row ≤ 0)) → t ≡ is_inside r row column
   unfolding is_inside
-  none_above e = rw (le-ltb 0 row (omega arith))
+  none_there e f (inl h) = f ∙ simp (le-ltb (row + 1) (2 ^ r) (omega arith), and_false)
+  none_there e f (inr (inl h)) = f ∙ rw (le-ltb 0 column (omega arith), and_false (ltb 0 row))
+  none_there e f (inr (inr h)) = f ∙ rw (le-ltb 0 row (omega arith))
 
-  pub none_left : column ≡ 0 → false ≡ is_inside r row column
-  unfolding is_inside
-  none_left e = rw (le-ltb 0 column (omega arith), and_false (ltb 0 row))
-
-  pub none_below : {side : ℕ} → side ≡ 2 ^ r → side - 1 ≤ row → false ≡ is_inside r row column
-  unfolding is_inside
-  none_below e h = simp (le-ltb (row + 1) (2 ^ r) (omega arith), and_false)
-
-  pub right_decides : {side : ℕ} → side ≡ 2 ^ r → (row ≡ 0 → ⊥) → (column ≡ 0 → ⊥) → row < side - 1
+  pub right_decides : {side : ℕ} → side ≡ 2 ^ r → 0 < row × 0 < column × row < side - 1
       → ltb column (side - 1) ≡ is_inside r row column
   unfolding is_inside
-  right_decides {side} e a b c =
+  right_decides {side} e h =
       rw (lt-ltb 0 row (omega arith), lt-ltb 0 column (omega arith), lt-ltb (row + 1) (2 ^ r) (omega arith))
       (same_test (ltb column (side - 1)) (ltb (column + 1) (2 ^ r)) (λ t. omega tests) (λ t. omega tests))
-
-pub told_inside : {cells : List ℤ} {p : Parts} {r row column d : ℕ} {b : Bool} → DiffuseAsked cells r row column d
-    → p ≡ parts_around (2 ^ r) row column → b ≡ is_inside r row column → b ≡ true
-    → InsideAsked cells p r row column d
-told_inside h e q t = record { asked = h; inside = sym q ∙ t; parts = e }
 
 -- ---- what that says
 module _ (r row column : ℕ) (i : is_inside r row column ≡ true) where
@@ -122,10 +102,6 @@ ribbed_any zero ne = absurd (ne refl)
 ribbed_any (suc n) ne = refl
 
 module _ (knit r row column d : ℕ) (cells : List ℤ) {next : List ℤ} where
-  pub as_plain : knit ≡ 0 → next ≡ diffuse (kernel_of 0) r row column d 9 cells
-      → next ≡ diffuse (kernel_of knit) r row column d 9 cells
-  as_plain e q = rw e q
-
   pub as_ribbed : (knit ≡ 0 → ⊥) → next ≡ diffuse (kernel_of 1) r row column d 9 cells
       → next ≡ diffuse (kernel_of knit) r row column d 9 cells
   as_ribbed ne q = rw (← ribbed_any knit ne) q

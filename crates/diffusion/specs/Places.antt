@@ -1,6 +1,6 @@
 -- Places of a map: where a cell lies among the cells by quarters (`place_in_lem`, `read_there`, `stored_there`), and
 -- that the numbers on the way to it are small.
-use Rattle.std.specs.Prelude.{◌≡◌, List, ℕ, ◌+◌, ◌*◌, ◌/◌, ◌%◌, ◌^◌, ◌≤◌, ◌<◌, length, get_or, set, ℤ, pos}
+use Rattle.std.specs.Prelude.{◌≡◌, List, ℕ, ◌*◌, ◌^◌, ◌≤◌, ◌<◌, length, get_or, set, ℤ, pos}
 use Rattle.std.proofs.Common.{sym, ap, ◌∙◌, arith, pow_mono, Fits}
 use Rattle.std.specs.Int.{w64}
 use Rattle.definition.specs.Pyramid.{cell_count, place_in, in_level}
@@ -8,20 +8,9 @@ use Rattle.definition.specs.Quarters.{interleaved}
 use Rattle.quadtree.specs.Levels.{cells_few}
 use Rattle.layouts.specs.Interleaved.{interleaved_lt}
 use Rattle.layouts.specs.Cells.{rows_level, rows_in, rows_set}
-use Rattle.diffusion.specs.OneTurn.{CellAsked}
 
 pub side_small_lem : (r : ℕ) → r ≤ 8 → 2 ^ r ≤ 256
 side_small_lem r h = pow_mono {i = r} {j = 8} h
-
--- the row and the column of place p of the nine around a cell, counted from one before the map
-module _ (r row column p : ℕ) where
-  pub row_fits : CellAsked r row column → p < 9 → Fits w64 (row + p / 3)
-  row_fits h k = record { fits = omega (arith, side_small_lem r h.most, h.above) }
-
-  pub column_fits : CellAsked r row column → Fits w64 (column + p % 3)
-  column_fits h = record { fits = omega (arith, side_small_lem r h.most, h.left) }
-
-pub ruleset Near-fits = (row_fits, column_fits)
 
 -- a place of a map
 module _ (r x y at : ℕ) (e : at ≡ interleaved r x y) where

@@ -1,31 +1,22 @@
 -- A share (`share_fair`), and what taking it off a neighbour does (`share_taken_lem`).
 use Rattle.std.specs.Prelude.{◌≡◌, ◌≢◌, List, [], ◌∷◌, ℕ, zero, suc, ◌+◌, ◌*◌, ◌-◌, ◌/◌, ◌%◌, ◌^◌, ◌≤◌, ◌<◌, length}
 use Rattle.std.specs.Prelude.{get_or, set, ℤ, pos, ◌-ℤ◌}
-use Rattle.std.proofs.Common.{sym, ap, ◌∙◌, arith, mul-le-mul, mul-le-mul_left, div-le_self, eq-eqb, ne_eqb, Fits}
-use Rattle.std.proofs.Common.{SFits, to_z, of_z, to_z-of_z}
+use Rattle.std.proofs.Common.{sym, ap, ◌∙◌, arith, mul-le-mul, div-le_self, eq-eqb, ne_eqb}
 use Rattle.std.proofs.Math.Decide.{ℕ_discrete}
-use Rattle.std.specs.Int.{w64}
 use Rattle.definition.specs.Pyramid.{place_in, in_level}
 use Rattle.definition.specs.Quarters.{interleaved}
 use Rattle.definition.specs.Diffusion.{row_near, column_near}
 use Rattle.integers.specs.Linear.{zz, ints}
-use Rattle.integers.specs.Machine.{words, machine, of_bits, div_mono}
 use Rattle.layouts.specs.Interleaved.{interleaved_any}
 use Rattle.layouts.specs.Cells.{rows_level}
 use Rattle.pyramid.specs.PyramidPart.{Within}
 use Rattle.pyramid.specs.Four.{within_mono}
 use Rattle.diffusion.specs.OneTurn.{share_taken, ShareAsked, TakeAsked}
-use Rattle.diffusion.specs.Places.{side_small_lem, place_in_lem, bytes_fit, read_there, stored_there}
+use Rattle.diffusion.specs.Places.{side_small_lem, place_in_lem, read_there, stored_there}
 
 -- ---- a share
 part_small : (d c : ℕ) → d ≤ 2 ^ 41 → c ≤ 18 → d * c ≤ 2 ^ 46
 part_small d c h k = let m : d * c ≤ 2 ^ 41 * 18 = mul-le-mul h k in omega arith
-
-pub part_fits : (d c : ℕ) → d ≤ 2 ^ 41 → c ≤ 18 → Fits w64 (d * c)
-part_fits d c h k = record { fits = omega (arith, part_small d c h k) }
-
-pub share_down : (d before after all : ℕ) → before ≤ after → 0 < all → d * before / all ≤ d * after / all
-share_down d before after all h k = div_mono all k (mul-le-mul_left d h)
 
 pub share_fair : (d before after all : ℕ) → d ≤ 2 ^ 41 → after ≤ 18 → d * after / all - d * before / all ≤ 2 ^ 46
 share_fair d before after all h k = omega (arith, part_small d after h k, div-le_self (d * after) all)
@@ -46,30 +37,6 @@ module _ (r row column p w s : ℕ) (cells : List ℤ) where
       → set cells (place_in r x y) (in_level r cells x y -ℤ pos s) ≡ share_taken r row column p w s cells
   unfolding share_taken
   taken_some ne = rw (ne_eqb w 0 ne, share_taken)
-
--- ---- a share taken at a place, in machine words
-module _ {cells : List ℤ} {at s : ℕ} (h : TakeAsked cells at s) where
-  -- the residual there, as it is read; with the share off it, as it is stored
-  abbrev old : ℤ
-  old = to_z w64 (of_z w64 (get_or cells at (pos 0)))
-
-  abbrev new : ℤ
-  new = to_z w64 (of_z w64 (old -ℤ to_z w64 s))
-
-  cast : to_z w64 s ≡ pos s
-  cast = of_bits s (omega (arith, h.fair))
-
-  old_fits : SFits w64 (get_or cells at (pos 0))
-  old_fits = let b = h.small in simp words (omega machine)
-
-  new_fits : SFits w64 (get_or cells at (pos 0) -ℤ pos s)
-  new_fits = let b = h.small in let f = h.fair in simp words (omega machine)
-
-  pub less_fits : SFits w64 (old -ℤ to_z w64 s)
-  less_fits = rw (to_z-of_z old_fits, cast) new_fits
-
-  pub less_stored : set cells at new ≡ set cells at (get_or cells at (pos 0) -ℤ pos s)
-  less_stored = rw (to_z-of_z old_fits, cast, to_z-of_z new_fits)
 
 -- ---- what taking a share off a neighbour rests on
 module _ {cells : List ℤ} {r row column p w s : ℕ} (h : ShareAsked cells r row column p w s) where
@@ -98,9 +65,6 @@ module _ {cells : List ℤ} {r row column p w s : ℕ} (h : ShareAsked cells r r
     pub near_in : at < length cells
     near_in = place_in_lem r x y at at_is h.whole
 
-    pub near_bytes : Fits w64 (at * 8)
-    near_bytes = bytes_fit r x y at at_is h.cell.most
-
     -- its residual, read there and row after row
     read : in_level r (rows_level r cells) x y ≡ get_or cells at (pos 0)
     read = read_there r x y at at_is cells a b
@@ -118,16 +82,14 @@ module _ {cells : List ℤ} {r row column p w s : ℕ} (h : ShareAsked cells r r
     near_stored = rw (← read) (stored_there r x y at at_is cells a b h.whole _)
 
   pub share_taken_lem : (w ≡ 0 → ⊥) → (at : ℕ) → at ≡ interleaved 8 (row + p / 3 - 1) (column + p % 3 - 1)
-      → rows_level r (set cells at (to_z w64 (of_z w64 (to_z w64 (of_z w64 (get_or cells at (pos 0))) -ℤ to_z w64 s))))
-      ≡ share_taken r row column p w s (rows_level r cells)
-  share_taken_lem ne at e =
-      let x = row + p / 3 - 1 in
-      let y = column + p % 3 - 1 in
-      ap (rows_level r) (less_stored (near_asked x y at e (near_row ne) (near_column ne)))
-      ∙ near_stored x y at e (near_row ne) (near_column ne)
+      → {next : List ℤ} → next ≡ set cells at (get_or cells at (pos 0) -ℤ pos s)
+      → rows_level r next ≡ share_taken r row column p w s (rows_level r cells)
+  share_taken_lem ne at e en =
+      ap (rows_level r) en
+      ∙ near_stored (row + p / 3 - 1) (column + p % 3 - 1) at e (near_row ne) (near_column ne)
       ∙ taken_some r row column p w s (rows_level r cells) ne
 
-pub ruleset nearby = (near_up, near_left, near_row, near_column, served, near_in, near_bytes, near_asked)
+pub ruleset nearby = (near_up, near_left, near_row, near_column, served, near_in, near_asked)
 
 -- ---- sizes
 pub set_within : (B : ℕ) (l : List ℤ) (k : ℕ) (v : ℤ) → ((i : ℕ) → Within B (get_or l i (pos 0))) → Within B v

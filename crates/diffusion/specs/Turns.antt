@@ -1,4 +1,4 @@
--- The turns of the diffusion, one neighbour after the other (`Turns`, `turn`), up to the ninth (`turns_all`).
+-- The turns of the diffusion, one neighbour after the other (`Turns`, `turn`).
 use Rattle.std.specs.Prelude.{◌≡◌, ◌≢◌, List, ℕ, zero, suc, ◌+◌, ◌*◌, ◌-◌, ◌/◌, ◌^◌, ◌≤◌, ◌<◌, length, get_or, ℤ, pos}
 use Rattle.std.proofs.Math.Path.{refl}
 use Rattle.std.proofs.Common.{sym, ◌∙◌, arith, div-le_self, add-one}
@@ -10,7 +10,7 @@ use Rattle.pyramid.specs.Four.{within_mono}
 use Rattle.shares.specs.Neighbours.{weight_on_map}
 use Rattle.diffusion.specs.OneTurn.{share_taken, ShareAsked, DiffuseAsked}
 use Rattle.diffusion.specs.Weights.{turn_nine, sum_none, sum_next, sum_more}
-use Rattle.diffusion.specs.Shares.{share_down, share_fair, taken_within}
+use Rattle.diffusion.specs.Shares.{share_fair, taken_within}
 
 module _ (knit r row column d : ℕ) (cells : List ℤ) where
   abbrev weights : ℕ → ℕ
@@ -67,10 +67,6 @@ module _ (cells : List ℤ) (knit r row column d : ℕ) (h : DiffuseAsked cells 
     (part : List ℤ) (sum given n : ℕ) (t : Turns cells knit r row column d all part sum given n) (lt : n < 9)
     (w : ℕ) (ew : w ≡ weight_at (kernel_of knit) r row column n) (until : ℕ)
     (eu : until ≡ d * (sum + w) / all) where
-  -- what is given grows
-  pub given_grows : 0 < all → given ≤ until
-  given_grows k = rw (t.gave, eu) (share_down d sum (sum + w) all (omega arith) k)
-
   module _ (p : ℕ) (ep : p ≡ get_or places_in_turn n 4) where
     -- a neighbour that weighs something lies on the map
     on_map_lem : w ≢ 0 → (1 ≤ row_near row p) × (row_near row p ≤ 2 ^ r)
@@ -108,8 +104,3 @@ module _ (cells : List ℤ) (knit r row column d : ℕ) (h : DiffuseAsked cells 
               e ∙ rw (t.list, s, ew, ep, add-one n) (sym (diffuse_suc knit r row column d (rows_level r cells) n));
           long = k ∙ t.long;
         }
-
-pub turns_all : {cells : List ℤ} {knit r row column d all : ℕ} {part : List ℤ} {sum given n : ℕ}
-    → Turns cells knit r row column d all part sum given n → 9 ≤ n
-    → rows_level r part ≡ diffuse (kernel_of knit) r row column d 9 (rows_level r cells)
-turns_all {n} t ge = let e : n ≡ 9 = omega (arith, t.few) in t.list ∙ rw e

@@ -1,6 +1,6 @@
 -- The turns of the spread (`turn_is`) and the weights around a cell (`weight_plain`, `weight_ribbed`), as the code
 -- finds them; the weights' sums are small (`sum_fits`), and the sum of all isn't 0 (`sum_some`).
-use Rattle.std.specs.Prelude.{◌≡◌, refl, ◌⊎◌, Bool, ◌||◌, List, T, eqb}
+use Rattle.std.specs.Prelude.{◌≡◌, refl, ◌⊎◌, Bool, ◌||◌, List, [], ◌∷◌, T, eqb}
 use Rattle.std.proofs.Common.{sym, ◌∙◌, inl, inr, arith, add-one, eqb→eq, pow_mono, Fits}
 use Prim.Native.Nat.{ℕ, zero, suc, ◌+◌, ◌*◌, ◌/◌, ◌%◌, ◌^◌, ◌≤◌, ◌<◌}
 use Rattle.std.proofs.Math.Dec.{leb, leb→le}
@@ -56,13 +56,13 @@ unfolding small_nine all_to weights_of
 small_nine_lem zero = tt
 small_nine_lem (suc n) = tt
 
--- ---- the turns: the hexadecimal digits of this number, 0x475318620, from the lowest up
-abbrev digits : ℕ
-digits = 19146049056
-
-pub turn_is : (n : ℕ) → n < 9 → digits / 2 ^ (4 * n) % 16 ≡ get_or places_in_turn n 4
-unfolding all_to places_in_turn
-turn_is n h = eqb→eq _ _ (all_to_at 9 (λ m. eqb (digits / 2 ^ (4 * m) % 16) (get_or places_in_turn m 4)) tt n h)
+-- ---- the turns: the code's list of them
+pub turn_is : (n : ℕ) → n < 9
+    → get_or (0 ∷ 2 ∷ 6 ∷ 8 ∷ 1 ∷ 3 ∷ 5 ∷ 7 ∷ 4 ∷ []) n 0 ≡ get_or places_in_turn n 4
+unfolding places_in_turn all_to
+turn_is n h =
+    let nine : List ℕ = 0 ∷ 2 ∷ 6 ∷ 8 ∷ 1 ∷ 3 ∷ 5 ∷ 7 ∷ 4 ∷ [] in
+    eqb→eq _ _ (all_to_at 9 (λ m. eqb (get_or nine m 0) (get_or nine m 4)) tt n h)
 
 -- every turn has one of the nine places
 pub turn_nine : (n : ℕ) {p : ℕ} → n < 9 → p ≡ get_or places_in_turn n 4 → p < 9

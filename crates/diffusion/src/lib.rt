@@ -8,7 +8,6 @@ ghost use Rattle.definition.specs.Pyramid.{place_in, in_level};
 ghost use Rattle.definition.specs.Model.{missing};
 ghost use Rattle.definition.specs.Diffusion.{weights_of, places_in_turn, kernel_of, weight_at, diffuse};
 ghost use Rattle.layouts.specs.Cells.{rows_level};
-ghost use Rattle.places.specs.Table.{places};
 ghost use Rattle.places.specs.Parts.{parts_around};
 ghost use Rattle.diffusion.specs.OneTurn.{
   share_taken,
@@ -22,14 +21,12 @@ ghost use Rattle.diffusion.specs.OneTurn.{
   PlaceAsked,
 };
 
-use places::Parts;
+use places::{Parts, Table};
+use sizes::DOT;
 
-// The nine places in the order of the spread, a hexadecimal digit each, from the lowest digit up: the diagonals by row
-// and column (0, 2, 6, 8), then up, left, right and down (1, 3, 5, 7); last the cell itself (4), which weighs nothing.
-const TURNS: usize = 0x475318620;
-
-// What one dot is worth.
-const DOT: i64 = 65280;
+// The nine places in the order of the spread: the diagonals by row and column, then up, left, right and down; last the
+// cell itself, which weighs nothing.
+static TURNS: [usize; 9] = [0, 2, 6, 8, 1, 3, 5, 7, 4];
 
 // The weight of place p of the nine around a cell, three by three (S 3.5). The cell itself, in the middle, weighs
 // nothing; a straight neighbour, whose place is odd, 2 on plain cloth, which is knit 0, and 1 on ribbed; a diagonal one
@@ -52,10 +49,11 @@ fn turn(n: usize) -> usize
     requires { n < 9 }
     ensures { result ≡ get_or places_in_turn n 4 }
 {
-    (TURNS >> (4 * n)) % 16
+    TURNS[n]
 }
 
 // The weight of the place in turn n around a cell: 0 at the cell itself and off the map.
+// Here and below row and column stay two numbers, as in the definitions: a struct of the two makes no contract plainer.
 fn weight(knit: u32, r: usize, row: usize, column: usize, n: usize) -> usize
     requires { CellAsked r row column × (n < 9) }
     ensures { result ≡ weight_at (kernel_of knit) r row column n }
@@ -64,16 +62,7 @@ fn weight(knit: u32, r: usize, row: usize, column: usize, n: usize) -> usize
     let side = sizes::pow2(r);
     let x = row + p / 3;
     let y = column + p % 3;
-    if x == 0 {
-        return 0;
-    }
-    if side < x {
-        return 0;
-    }
-    if y == 0 {
-        return 0;
-    }
-    if side < y {
+    if x == 0 || side < x || y == 0 || side < y {
         return 0;
     }
     knit_weight(knit, p)
@@ -86,10 +75,8 @@ fn weight_sum(knit: u32, r: usize, row: usize, column: usize) -> usize
     ensures { result ≡ sum_to 9 (weight_at (kernel_of knit) r row column) }
 {
     let mut sum = 0;
-    let mut n = 0;
-    while n < 9 {
+    for n in 0..9 {
         sum += weight(knit, r, row, column, n);
-        n += 1;
     }
     sum
 }
@@ -102,11 +89,19 @@ fn part(d: usize, sum: usize, all: usize) -> usize
     d * sum / all
 }
 
+// Takes a share off the residual at a place.
+fn take(cells: &mut [i64], at: usize, s: usize)
+    requires { TakeAsked cells.old at s }
+    ensures { cells.new ≡ set cells.old at (get_or cells.old at (pos 0) -ℤ pos s) }
+{
+    cells[at] -= s as i64;
+}
+
 // Takes a share off the residual of the neighbour at place p of the nine, if its weight w isn't 0. The table has where
 // it lies among the cells.
 fn take_share(
     cells: &mut [i64],
-    table: &[u16; 1024],
+    table: &Table,
     r: usize,
     row: usize,
     column: usize,
@@ -114,45 +109,39 @@ fn take_share(
     w: usize,
     s: usize,
 )
-    requires share_asked { ShareAsked cells.old r row column p w s }
-    requires table_value { table.now ≡ places }
+    requires { ShareAsked cells.old r row column p w s }
     ensures { rows_level r cells.new ≡ share_taken r row column p w s (rows_level r cells.old) }
 {
     if w == 0 {
         return;
     }
-    let at = places::place(table, row + p / 3 - 1, column + p % 3 - 1);
-    let z = cells[at];
-    cells[at] = z - (s as i64);
+    take(cells, table.place(row + p / 3 - 1, column + p % 3 - 1), s);
 }
 
 // Takes d off the residuals of the neighbours of a cell. The share of a neighbour is what goes to those up to its turn
 // less what was given to those before it (S 3.6, S 3.7).
 pub fn diffuse(
     cells: &mut [i64],
-    table: &[u16; 1024],
+    table: &Table,
     knit: u32,
     r: usize,
     row: usize,
     column: usize,
     d: usize,
 )
-    requires diffuse_asked { DiffuseAsked cells.old r row column d }
-    requires table_value { table.now ≡ places }
+    requires { DiffuseAsked cells.old r row column d }
     ensures { rows_level r cells.new
         ≡ diffuse (kernel_of knit) r row column d 9 (rows_level r cells.old) }
 {
     let all = weight_sum(knit, r, row, column);
     let mut sum = 0;
     let mut given = 0;
-    let mut n = 0;
-    while n < 9 {
+    for n in 0..9 {
         let w = weight(knit, r, row, column, n);
         sum += w;
         let until = part(d, sum, all);
         take_share(cells, table, r, row, column, turn(n), w, until - given);
         given = until;
-        n += 1;
     }
 }
 
@@ -162,16 +151,7 @@ fn is_inside(r: usize, row: usize, column: usize) -> bool
     ensures { result ≡ is_inside r row column }
 {
     let last = sizes::pow2(r) - 1;
-    if row == 0 {
-        return false;
-    }
-    if column == 0 {
-        return false;
-    }
-    if last <= row {
-        return false;
-    }
-    column < last
+    0 < row && 0 < column && row < last && column < last
 }
 
 // Of the three rows around a cell the part of row x: above, here, below.
@@ -196,15 +176,6 @@ fn column_at(p: Parts, y: usize) -> usize
     }
 }
 
-// Takes a share off the residual at a place.
-fn take(cells: &mut [i64], at: usize, s: usize)
-    requires { TakeAsked cells.old at s }
-    ensures { cells.new ≡ set cells.old at (get_or cells.old at (pos 0) -ℤ pos s) }
-{
-    let z = cells[at];
-    cells[at] = z - (s as i64);
-}
-
 // What `diffuse` does, for a cell inside the map, whose weights sum to `all`: no rim cuts a weight off, and a
 // neighbour's place is the sum of its row's part and its column's. From the cell itself, which comes last, nothing is
 // taken. Only the contract has a use for r, row and column.
@@ -225,14 +196,12 @@ fn spread(
 {
     let mut sum = 0;
     let mut given = 0;
-    let mut n = 0;
-    while n < 9 {
+    for n in 0..9 {
         let q = turn(n);
         sum += knit_weight(knit, q);
         let up_to = part(d, sum, all);
         take(cells, row_at(p, q / 3) + column_at(p, q % 3), up_to - given);
         given = up_to;
-        n += 1;
     }
 }
 
@@ -262,7 +231,7 @@ fn spread_inside(
 // are those of the places around the cell.
 fn diffuse_at(
     cells: &mut [i64],
-    table: &[u16; 1024],
+    table: &Table,
     p: Parts,
     knit: u32,
     r: usize,
@@ -271,7 +240,6 @@ fn diffuse_at(
     d: usize,
 )
     requires diffuse_asked { DiffuseAsked cells.old r row column d }
-    requires table_value { table.now ≡ places }
     requires p_value { p ≡ parts_around (2 ^ r) row column }
     ensures { rows_level r cells.new
         ≡ diffuse (kernel_of knit) r row column d 9 (rows_level r cells.old) }
@@ -288,7 +256,7 @@ fn diffuse_at(
 // those of the places around the cell.
 pub fn place(
     cells: &mut [i64],
-    table: &[u16; 1024],
+    table: &Table,
     p: Parts,
     knit: u32,
     r: usize,
@@ -297,7 +265,6 @@ pub fn place(
     column: usize,
 )
     requires place_asked { PlaceAsked cells.old r at row column }
-    requires table_value { table.now ≡ places }
     requires p_value { p ≡ parts_around (2 ^ r) row column }
     ensures { rows_level r cells.new
         ≡ diffuse (kernel_of knit) r row column

@@ -89,8 +89,12 @@ module _ (knit r : ℕ) (p₀ : List ℤ) (s₀ o₀ : List ℕ) (dots budget : 
     rest : made + dots_due (top_of (rows_from r p)) ≡ dots_due (top_of (rows_from r p₀))
     rest = omega (arith, rw (← g.is) at (steps_due (kernel_of knit) (knit_fit knit) r big made first h.sheet))
 
-    pub spent : budget ≤ made → Ran knit r first budget made sheet_now
-    spent le = record { made_is = omega (arith, rest, g.within); after_is = g.is }
+    spent_all : budget ≤ made → Ran knit r first budget made sheet_now
+    spent_all le = record { made_is = omega (arith, rest, g.within); after_is = g.is }
+
+    pub spent : budget ≤ made → Ran knit r first budget budget
+        (record { pyramid = rows_from r p; serials = s; order = o; dots = dots + budget })
+    spent le = let e : made ≡ budget = omega (arith, g.within) in rw e at (spent_all le)
 
     module _ (fits : SFits w64 (get_or p 0 (pos 0))) where
       pub none_due : lt_z (to_z w64 (of_z w64 (get_or p 0 (pos 0)))) (pos half_dot) ≡ true

@@ -5,11 +5,10 @@
 ghost use Rattle.std.specs.Prelude.{◌≡◌, ◌+◌, length};
 ghost use Rattle.definition.specs.Pyramid.{needed};
 ghost use Rattle.definition.specs.Quarters.{rows_from};
-ghost use Rattle.places.specs.Table.{places};
 ghost use Rattle.dot_run.specs.Running.{RunAsked, Ran};
 
-// From this top on a dot is due: half a dot, the 0.5 at which report 265, section 3.2, stops.
-const HALF_DOT: i64 = 32640;
+use places::Table;
+use sizes::HALF_DOT;
 
 // Makes the dots that are due (S 3.1) on cloth of a knit, as far as the budget lasts, on a sound sheet of just the
 // needed lengths, and returns how many: the report's iterations, until its root asks for less than half a dot. The
@@ -18,7 +17,7 @@ pub fn run(
     pyramid: &mut [i64],
     serials: &mut [u32],
     order: &mut [u32],
-    table: &[u16; 1024],
+    table: &Table,
     knit: u32,
     r: usize,
     dots: u32,
@@ -27,7 +26,6 @@ pub fn run(
     requires run_asked { RunAsked r
         (record { pyramid = rows_from r pyramid.now; serials = serials.old; order = order.old; dots = dots }) }
     requires pyramid_len { length pyramid.old ≡ needed r }
-    requires table_value { table.now ≡ places }
     ensures { Ran knit r
         (record {
           pyramid = rows_from r pyramid.entry.now;
@@ -43,14 +41,12 @@ pub fn run(
           dots = dots + result;
         }) }
 {
-    let mut made = 0;
-    while made < budget {
+    for made in 0..budget {
         let top = pyramid[0];
         if top < HALF_DOT {
             return made;
         }
         place_dot::place_dot(pyramid, serials, order, table, knit, r, dots + made);
-        made += 1;
     }
-    made
+    budget
 }

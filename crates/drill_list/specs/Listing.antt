@@ -1,19 +1,19 @@
 -- The list written line by line (`head_wrote`, `dot_wrote`, `list_wrote`), and into a buffer that has room for it
 -- (`list_written`) or not (`list_short`).
-use Rattle.std.specs.Prelude.{◌≡◌, refl, List, [], ◌∷◌, ◌++◌, ℕ, suc, ◌+◌, ◌-◌, ◌/◌, ◌%◌, ◌^◌, ◌<◌, ◌≤◌, get_or, take}
+use Rattle.std.specs.Prelude.{◌≡◌, refl, List, [], ◌∷◌, ◌++◌, ℕ, suc, ◌+◌, ◌/◌, ◌%◌, ◌^◌, ◌<◌, ◌≤◌, get_or, take, Ok}
+use Rattle.std.specs.Prelude.{Err}
 use Rattle.std.proofs.Common.{sym, ap, ◌∙◌, append_assoc, append-nil, add-zero, div-le_self, add-one, pow_pos, pow_mono}
-use Rattle.std.proofs.Common.{length-append, take-suc, length-take-le}
+use Rattle.std.proofs.Common.{length-append, take-suc, take_all, length-take-le}
 use Rattle.std.proofs.Math.Nat.{zero-add, mod-le}
 use native.Mathlib.Omega.{arith}
 use borrow.Author.Tests.{lt-ltb, le-ltb}
 use Rattle.std.proofs.Math.ListN.{length}
 use Rattle.std.proofs.Math.Seq.{append_snoc}
-use Rattle.definition.specs.Answers.{text_says, number_of}
+use Rattle.definition.specs.Answers.{value_says, number_of}
 use Rattle.definition.specs.Refusals.{output_short, lowest}
 use Rattle.definition.specs.Text.{comma, newline, decimal, line, TextOutcome, text_into}
 use Rattle.definition.specs.DrillList.{dot_lines}
 use Rattle.definition.specs.declared.Refusal.TheVariants.{OutputShort}
-use Rattle.definition.specs.declared.TextAnswer.TheVariants.{Length, Refused}
 use Rattle.decimals.specs.Writing.{field_text, length_number, Wrote, wrote_none, wrote_append, sets_front}
 
 -- the list of the first `dots` cells of an order list
@@ -142,39 +142,44 @@ pub no_dots_add : (r : ℕ) → 0 ≡ length (dot_lines r 1 [])
 unfolding dot_lines
 no_dots_add r = refl
 
--- the dot with a serial stands one place before it
-module _ (r : ℕ) (order : List ℕ) (serial : ℕ) (some : 0 < serial) (h : serial ≤ length order) {a b : ℕ} where
-  pub one_more_adds : a ≡ length (dot_lines r 1 (take (serial - 1) order))
-      → b ≡ length (line (serial ∷ get_or order (serial - 1) 0 / 2 ^ r ∷ get_or order (serial - 1) 0 % 2 ^ r ∷ []))
-      → a + b ≡ length (dot_lines r 1 (take (serial + 1 - 1) order))
-  one_more_adds x y =
-      let next : serial + 1 - 1 ≡ serial - 1 + 1 = omega arith in
-      let here : serial - 1 + 1 ≡ serial = omega arith in
-      rw (next, taken r order (serial - 1) (omega arith), here, length-append) (omega arith)
+module _ (r : ℕ) (order : List ℕ) (j : ℕ) (h : j < length order) {a b : ℕ} where
+  pub one_more_adds : a ≡ length (dot_lines r 1 (take j order))
+      → b ≡ length (line ((j + 1) ∷ get_or order j 0 / 2 ^ r ∷ get_or order j 0 % 2 ^ r ∷ []))
+      → a + b ≡ length (dot_lines r 1 (take (j + 1) order))
+  one_more_adds x y = rw (taken r order j h, length-append) (omega arith)
 
-pub list_adds : {a b : ℕ} (r dots : ℕ) (order : List ℕ) → a ≡ length (line (dots ∷ 2 ^ r ∷ []))
-    → b ≡ length (dot_lines r 1 (take dots order))
-    → a + b ≡ length (list_text r dots order)
-unfolding list_text
-list_adds r dots order x y = rw length-append (omega arith)
+module _ (r : ℕ) (cells : List ℕ) where
+  all_listed : list_text r (length cells) cells ≡ line (length cells ∷ 2 ^ r ∷ []) ++ dot_lines r 1 cells
+  unfolding list_text
+  all_listed = rw (take_all (length cells) cells (omega arith))
 
--- ---- the whole list
-pub list_wrote : {l l₁ l₂ : List ℕ} {a b : ℕ} (r dots : ℕ) (order : List ℕ) → Wrote l 0 (line (dots ∷ 2 ^ r ∷ [])) a l₁
-    → Wrote l₁ a (dot_lines r 1 (take dots order)) b l₂
-    → Wrote l 0 (list_text r dots order) b l₂
+  pub list_adds : {a b : ℕ} → a ≡ length (line (length cells ∷ 2 ^ r ∷ [])) → b ≡ length (dot_lines r 1 cells)
+      → a + b ≡ length (list_text r (length cells) cells)
+  list_adds x y = rw (all_listed, length-append) (omega arith)
+
+  -- ---- the whole list
+  pub list_wrote : {l l₁ l₂ : List ℕ} {a b : ℕ} → Wrote l 0 (line (length cells ∷ 2 ^ r ∷ [])) a l₁
+      → Wrote l₁ a (dot_lines r 1 cells) b l₂
+      → Wrote l 0 (list_text r (length cells) cells) b l₂
+  list_wrote x y = rw all_listed (wrote_append x y)
+
+-- the cells of the dots, which stand at the front of an order list
+pub list_front : (r dots : ℕ) (order : List ℕ) → dots ≤ length order
+    → list_text r (length (take dots order)) (take dots order) ≡ list_text r dots order
 unfolding list_text
-list_wrote r dots order x y = wrote_append x y
+list_front r dots order h =
+    rw (length-take-le dots order h, take_all dots (take dots order) (omega (arith, length-take-le dots order h)))
 
 -- n is its length, worked out before: it says whether there is room
 module _ (list output : List ℕ) {n : ℕ} (long : n ≡ length list) where
   pub list_short : length output < n
-      → record { said = text_says (Refused OutputShort); output = output } ≡ listed_in list output
-  unfolding text_into lowest text_says number_of
+      → record { said = value_says (Err OutputShort); output = output } ≡ listed_in list output
+  unfolding text_into lowest value_says number_of
   list_short h = rw (lt-ltb (length output) (length list) (omega arith))
 
   pub list_written : n ≤ length output → {m : ℕ} {after : List ℕ} → Wrote output 0 list m after
-      → record { said = text_says (Length m); output = after } ≡ listed_in list output
-  unfolding text_into lowest text_says
+      → record { said = value_says (Ok m); output = after } ≡ listed_in list output
+  unfolding text_into lowest value_says
   list_written h w =
       let room : length list ≤ length output = omega arith in
       let fits = le-ltb (length output) (length list) room in

@@ -4,12 +4,11 @@
 
 ghost use Rattle.std.specs.Prelude.{◌≡◌, ◌++◌, ◌≤◌, length, drop, replicate};
 ghost use Rattle.definition.specs.Load.{low_map, load_refusal};
-ghost use Rattle.places.specs.Table.{places};
 ghost use Rattle.checks.specs.Checks.{checked};
 ghost use Rattle.fresh_sheet.specs.Filling.{FillLent, Filled};
 
-use checks::Check;
 use definition::Refusal;
+use places::Table;
 
 // Whether no grey of the map is above 240 (S 2.2). What lies behind its cells is not looked at; where fewer greys are
 // lent, those are.
@@ -35,34 +34,34 @@ pub fn check_load(
     serials: usize,
     order: usize,
     low: bool,
-) -> Check
+) -> Result<(), Refusal>
     requires { r ≤ 8 }
     ensures { checked result ≡ load_refusal r knit greys pyramid serials order low }
 {
     let cells = sizes::cell_count(r);
     let needed = sizes::needed(r);
     if r == 0 {
-        return Check::Failed(Refusal::SideUnknown);
+        return Err(Refusal::SideUnknown);
     }
     if 1 < knit {
-        return Check::Failed(Refusal::KnitUnknown);
+        return Err(Refusal::KnitUnknown);
     }
     if greys < cells {
-        return Check::Failed(Refusal::GreysShort);
+        return Err(Refusal::GreysShort);
     }
     if pyramid < needed {
-        return Check::Failed(Refusal::PyramidShort);
+        return Err(Refusal::PyramidShort);
     }
     if serials < cells {
-        return Check::Failed(Refusal::SheetShort);
+        return Err(Refusal::SheetShort);
     }
     if order < cells {
-        return Check::Failed(Refusal::SheetShort);
+        return Err(Refusal::SheetShort);
     }
     if !low {
-        return Check::Failed(Refusal::GreyHigh);
+        return Err(Refusal::GreyHigh);
     }
-    Check::Passed
+    Ok(())
 }
 
 // Sets the first `count` places to 0.
@@ -70,24 +69,19 @@ fn clear(places: &mut [u32], count: usize)
     requires { count ≤ length places.old }
     ensures { places.new ≡ replicate count 0 ++ drop count places.old }
 {
-    let mut i = 0;
-    while i < count {
-        places[i] = 0;
-        i += 1;
-    }
+    places[..count].fill(0);
 }
 
 // Fills the three buffers with the model's start (S 3.9), the pyramid by quarters.
 pub fn fill(
     r: usize,
-    table: &[u16; 1024],
+    table: &Table,
     greys: &[u8],
     pyramid: &mut [i64],
     serials: &mut [u32],
     order: &mut [u32],
 )
-    requires fill_lent { FillLent r (length greys.now) (length pyramid.old) (length serials.old) (length order.old) }
-    requires table_value { table.now ≡ places }
+    requires { FillLent r (length greys.now) (length pyramid.old) (length serials.old) (length order.old) }
     ensures { Filled r greys.now pyramid.old serials.old order.old
         pyramid.new serials.new order.new }
 {

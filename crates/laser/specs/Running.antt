@@ -1,14 +1,12 @@
 -- The run on the parts of just the needed lengths (`ran_is`): n and c are what the code has worked out for the needed
 -- length and the number of cells.
-use Rattle.std.specs.Prelude.{◌≡◌, List, ◌++◌, ℕ, ◌^◌, ◌≤◌, ◌<◌, length, get_or, take, drop, ℤ, pos}
+use Rattle.std.specs.Prelude.{◌≡◌, List, [], ◌++◌, ℕ, ◌^◌, ◌≤◌, ◌<◌, length, get_or, take, drop, ℤ, pos}
 use Rattle.std.proofs.Common.{sym, ap, ◌∙◌, arith, mul-le-mul, pow_mono, length-append, length-take-le}
 use Rattle.std.proofs.Math.ListN.{get_or-append}
-use Rattle.definition.specs.Answers.{two_heads_says}
+use Rattle.definition.specs.Answers.{returned}
 use Rattle.definition.specs.Pyramid.{needed, cell_count}
 use Rattle.definition.specs.Quarters.{rows_from}
 use Rattle.definition.specs.Model.{Halftone, top_of}
-use Rattle.definition.specs.declared.TwoHeadsAnswer.{TwoHeadsAnswer}
-use Rattle.definition.specs.declared.TwoHeadsStatus.TheVariants.{Stopped}
 use Rattle.quadtree.specs.Levels.{start_suc}
 use Rattle.layouts.specs.Relaid.{quarters_back}
 use Rattle.layouts.specs.Lent.{rows_taken}
@@ -59,24 +57,16 @@ module _ {r : ℕ} (p : List ℤ) (s o : List ℕ) (h : SheetLent r p s o)
         ≡ record { pyramid = rows_from r p'; serials = s'; order = o'; dots = made }
     run_is = ap (run_of knit r) (sym lent_is) ∙ sym ran
 
-    pub ran_is : (side : ℕ) {a : TwoHeadsAnswer} (top : ℤ) → top ≡ get_or (p' ++ drop n p) 0 (pos 0)
-        → a
-        ≡ record {
+    pub ran_is : (side : ℕ) (top : ℤ) → top ≡ get_or (p' ++ drop n p) 0 (pos 0)
+        → record {
           progress = record { side = side; dots = made; knit = knit };
           made = made;
           debt = top;
-          status = Stopped;
-        }
-        → record {
-          progress = a.progress;
-          made = a.made;
-          debt = a.debt;
-          said = two_heads_says a.status;
+          said = returned [];
           pyramid = p' ++ drop n p;
           serials = s' ++ drop c s;
           order = o' ++ drop c o;
         }
         ≡ ran_of side knit r p s o
-    unfolding two_heads_says
-    ran_is side top et ea =
-        rw (ea, et, top_is, run_is, en, ec, quarters_back r p' (long ∙ whole))
+    ran_is side top et =
+        rw (et, top_is, run_is, en, ec, quarters_back r p' (long ∙ whole))

@@ -1,11 +1,11 @@
 -- The call's ways out: refused before Load (`refused_early`) or by Load (`refused_late`), with nothing changed, and run
 -- to the end (`ran_all`).
 use Rattle.std.specs.Prelude.{◌≡◌, Bool, List, [], ◌∷◌, ◌++◌, ℕ, zero, suc, ◌-◌, ◌≤◌, ◌<◌, ltb, eqb, length, get_or}
-use Rattle.std.specs.Prelude.{take, drop, ℤ, pos}
+use Rattle.std.specs.Prelude.{take, drop, ℤ, pos, Result, Ok, Err}
 use Rattle.std.proofs.Math.Path.{refl, ap}
 use Rattle.std.proofs.Common.{sym, ◌∙◌, inr, arith, length-append, take_at, drop_at}
 use borrow.Author.Tests.{lt-ltb, le-ltb, ltb-false, eqb-false, eq-eqb, ne_eqb}
-use Rattle.definition.specs.Answers.{returned, load_says, two_heads_says, number_of}
+use Rattle.definition.specs.Answers.{returned, load_record, done_says, two_heads_answer, number_of}
 use Rattle.definition.specs.Answers as Answers
 use Rattle.definition.specs.Pyramid.{needed, cell_count}
 use Rattle.definition.specs.Quarters.{rows_from, quarters_from}
@@ -14,12 +14,10 @@ use Rattle.definition.specs.Refusals.{power_of, side_unknown, side_small, knit_u
 use Rattle.definition.specs.Load.{LoadOutcome, low_map, load_refusal, loaded, load_of}
 use Rattle.definition.specs.ByQuarters.{load_by_quarters}
 use Rattle.definition.specs.AdvanceList.{Held, held_after_load}
+use Rattle.definition.specs.declared.Progress.{Progress}
 use Rattle.definition.specs.declared.Refusal.{Refusal}
 use Rattle.definition.specs.declared.Refusal.TheVariants.{SideUnknown, SideSmall, KnitUnknown}
-use Rattle.definition.specs.declared.LoadAnswer.{LoadAnswer}
-use Rattle.definition.specs.declared.LoadStatus.TheVariants as Load
 use Rattle.definition.specs.declared.TwoHeadsAnswer.{TwoHeadsAnswer}
-use Rattle.definition.specs.declared.TwoHeadsStatus.TheVariants.{Refused}
 use Rattle.refusals.specs.Numbers.{number_positive}
 use Rattle.refusals.specs.Powers.{power_small}
 use Rattle.refusals.specs.Lowest.{lowest_none, lowest_before}
@@ -30,8 +28,6 @@ use Rattle.guarantee.specs.PriceList.{Each}
 use Rattle.guarantee.proofs.Lent.{held_of}
 use Rattle.guarantee.proofs.Start.{each_of, start_sheet, Loaded, accepted_loaded, loaded_held}
 use Rattle.checks.specs.Checks.{checked, passed_none, failed_number}
-use Rattle.checks.specs.declared.Check.{Check}
-use Rattle.checks.specs.declared.Check.TheVariants.{Passed, Failed}
 use Rattle.heads.specs.TwoHeads.{two_heads_refusal, TwoHeadsOutcome, two_heads_by_quarters, two_heads_in, two_heads}
 use Rattle.head_order.proofs.Checks.{power_large, heads_load}
 use Rattle.head_order.proofs.Call.{out_refused, out_is, expected}
@@ -42,27 +38,29 @@ module _ (r side knit : ℕ) where
   abbrev first : ℕ
   first = lowest (side_unknown r ∷ side_small side ∷ knit_unknown knit ∷ [])
 
-  pub side_fails : r ≡ 0 → checked (Failed SideUnknown) ≡ first
+  pub side_fails : r ≡ 0 → checked (Err SideUnknown) ≡ first
   unfolding checked number_of lowest
   side_fails e = rw (eq-eqb r 0 e)
 
   module _ (some : r ≡ 0 → ⊥) where
-    pub small_fails : side < 16 → checked (Failed SideSmall) ≡ first
+    pub small_fails : side < 16 → checked (Err SideSmall) ≡ first
     unfolding checked number_of lowest
     small_fails h = rw (ne_eqb r 0 some, lt-ltb side 16 h)
 
     module _ (large : 16 ≤ side) where
-      pub knit_fails : 1 < knit → checked (Failed KnitUnknown) ≡ first
+      pub knit_fails : 1 < knit → checked (Err KnitUnknown) ≡ first
       unfolding checked number_of lowest
       knit_fails h = rw (ne_eqb r 0 some, le-ltb side 16 large, lt-ltb 1 knit h)
 
-      pub none_fails : knit ≤ 1 → checked Passed ≡ first
+      pub none_fails : knit ≤ 1 → checked (Ok tt) ≡ first
       unfolding checked lowest
       none_fails h = rw (ne_eqb r 0 some, le-ltb side 16 large, le-ltb 1 knit h)
 
 -- ---- the call: greys that are bytes, and what the check has said
-module _ (side knit : ℕ) {r : ℕ} (er : r ≡ power_of side) (g : List ℕ) (p : List ℤ) (s o : List ℕ)
-    (check : Check) (e : checked check ≡ lowest (side_unknown r ∷ side_small side ∷ knit_unknown knit ∷ [])) where
+module _ (side knit : ℕ) {r : ℕ} (er : r ≡ power_of side) (g : List ℕ) (p : List ℤ) (s o : List ℕ) where
+  abbrev first_refusal : ℕ
+  first_refusal = lowest (side_unknown r ∷ side_small side ∷ knit_unknown knit ∷ [])
+
   abbrev low : Bool
   low = low_map (power_of side) g
 
@@ -73,65 +71,52 @@ module _ (side knit : ℕ) {r : ℕ} (er : r ≡ power_of side) (g : List ℕ) (
   load = load_refusal (power_of side) knit (length g) (length p) (length s) (length o) low
 
   -- a refusal, which leaves the buffers as they were
-  no_answer : (why : Refusal) → heads ≡ suc (number_of why - 1) → {a : TwoHeadsAnswer}
-      → a
-      ≡ record {
-        progress = record { side = 0; dots = 0; knit = 0 };
-        made = 0;
-        debt = pos 0;
-        status = Refused why;
-      }
+  no_answer : (why : Refusal) → heads ≡ suc (number_of why - 1) → {a : Result TwoHeadsAnswer Refusal} → a ≡ Err why
       → record {
-        progress = a.progress;
-        made = a.made;
-        debt = a.debt;
-        said = two_heads_says a.status;
+        progress = (two_heads_answer a).progress;
+        made = (two_heads_answer a).made;
+        debt = (two_heads_answer a).debt;
+        said = done_says a;
         pyramid = p;
         serials = s;
         order = o;
       }
       ≡ two_heads_by_quarters side knit g p s o
-  unfolding two_heads_says
+  unfolding done_says
   no_answer why n ea = rw (ea, out_refused side knit g p s o (number_of why - 1) n, ← number_positive why) refl
 
   -- by the check
-  pub refused_early : {why : Refusal} {a : TwoHeadsAnswer} → check ≡ Failed why
-      → a
-      ≡ record {
-        progress = record { side = 0; dots = 0; knit = 0 };
-        made = 0;
-        debt = pos 0;
-        status = Refused why;
-      }
+  pub refused_early : (why : Refusal) {a : Result TwoHeadsAnswer Refusal} → checked (Err why) ≡ first_refusal
+      → a ≡ Err why
       → record {
-        progress = a.progress;
-        made = a.made;
-        debt = a.debt;
-        said = two_heads_says a.status;
+        progress = (two_heads_answer a).progress;
+        made = (two_heads_answer a).made;
+        debt = (two_heads_answer a).debt;
+        said = done_says a;
         pyramid = p;
         serials = s;
         order = o;
       }
       ≡ two_heads_by_quarters side knit g p s o
-  refused_early {why} failed ea = no_answer why heads_is ea
+  refused_early why e ea = no_answer why heads_is ea
     where
       heads_is : heads ≡ suc (number_of why - 1)
       heads_is =
-          let n = rw er at (failed_number check e why failed) in
+          let n = rw er at (failed_number why e) in
           unfold two_heads_refusal in
           lowest_before (side_unknown (power_of side) ∷ side_small side ∷ knit_unknown knit ∷ []) _ (number_of why - 1)
           n
 
-  module _ (passed : check ≡ Passed) where
+  module _ (e : checked (Ok tt) ≡ first_refusal) where
     some_side : 0 < power_of side
     some_side =
-        let n = passed_none check e passed in
+        let n = passed_none e in
         let h = lowest_none 1 (eqb r 0) _ (omega arith) n in
         omega (arith, eqb-false r 0 h.0, er)
 
     large_side : 16 ≤ side
     large_side =
-        let n = passed_none check e passed in
+        let n = passed_none e in
         let h = lowest_none 1 (eqb r 0) _ (omega arith) n in
         ltb-false side 16 (lowest_none 14 (ltb side 16) _ (omega arith) h.1).0
 
@@ -168,14 +153,16 @@ module _ (side knit : ℕ) {r : ℕ} (er : r ≡ power_of side) (g : List ℕ) (
             z ∙ w ∙ number_positive why
 
     -- what Load has answered and left
-    module _ {a : LoadAnswer} {p₁ : List ℤ} {s₁ o₁ : List ℕ}
-        (q : record { progress = a.progress; said = load_says a.status; pyramid = p₁; serials = s₁; order = o₁ }
+    module _ {a : Result Progress Refusal} {p₁ : List ℤ} {s₁ o₁ : List ℕ}
+        (q : record { progress = load_record a; said = done_says a; pyramid = p₁; serials = s₁; order = o₁ }
         ≡ load_by_quarters side knit g p s o) where
       -- it refuses
-      module _ {why : Refusal} (refuses : a.status ≡ Load.Refused why) where
+      module _ {why : Refusal} (refuses : a ≡ Err why) where
         says_why : (load_by_quarters side knit g p s o).said ≡ Answers.refused (number_of why)
-        unfolding load_says
-        says_why = ap (λ (out : LoadOutcome). out.said) (sym q) ∙ ap load_says refuses
+        unfolding done_says
+        says_why =
+            ap (λ (out : LoadOutcome). out.said) (sym q)
+            ∙ ap (λ (b : Result Progress Refusal). done_says b) refuses
 
         left : load_by_quarters side knit g p s o
             ≡ record {
@@ -196,19 +183,12 @@ module _ (side knit : ℕ) {r : ℕ} (er : r ≡ power_of side) (g : List ℕ) (
         same_order : o₁ ≡ o
         same_order = ap (λ (out : LoadOutcome). out.order) (q ∙ left)
 
-        pub refused_late : {b : TwoHeadsAnswer}
-            → b
-            ≡ record {
-              progress = record { side = 0; dots = 0; knit = 0 };
-              made = 0;
-              debt = pos 0;
-              status = Refused why;
-            }
+        pub refused_late : {b : Result TwoHeadsAnswer Refusal} → b ≡ Err why
             → record {
-              progress = b.progress;
-              made = b.made;
-              debt = b.debt;
-              said = two_heads_says b.status;
+              progress = (two_heads_answer b).progress;
+              made = (two_heads_answer b).made;
+              debt = (two_heads_answer b).debt;
+              said = done_says b;
               pyramid = p₁;
               serials = s₁;
               order = o₁;
@@ -219,13 +199,15 @@ module _ (side knit : ℕ) {r : ℕ} (er : r ≡ power_of side) (g : List ℕ) (
             (no_answer why (heads_is_load ∙ load_number why says_why) eb)
 
       -- it has loaded the map
-      module _ (loads : a.status ≡ Load.Loaded) (bytes : (i : ℕ) → get_or g i 0 ≤ 255) where
+      module _ {loaded : Progress} (loads : a ≡ Ok loaded) (bytes : (i : ℕ) → get_or g i 0 ≤ 255) where
         each_byte : Each (λ grey. grey ≤ 255) g
         each_byte = each_of (λ grey. grey ≤ 255) g 0 (λ i l. bytes i)
 
         says_loaded : (load_by_quarters side knit g p s o).said ≡ returned []
-        unfolding load_says
-        says_loaded = ap (λ (out : LoadOutcome). out.said) (sym q) ∙ ap load_says loads
+        unfolding done_says
+        says_loaded =
+            ap (λ (out : LoadOutcome). out.said) (sym q)
+            ∙ ap (λ (b : Result Progress Refusal). done_says b) loads
 
         accepted : Loaded side knit g p s o
         accepted = accepted_loaded side knit g p s o (record { bytes = each_byte; said = says_loaded })
@@ -236,12 +218,12 @@ module _ (side knit : ℕ) {r : ℕ} (er : r ≡ power_of side) (g : List ℕ) (
         sheet : Sheet (power_of side) (model_start (power_of side) g)
         sheet = start_sheet (power_of side) g each_byte
 
-        held : record { progress = a.progress; pyramid = p₁; serials = s₁; order = o₁ }
+        held : record { progress = load_record a; pyramid = p₁; serials = s₁; order = o₁ }
             ≡ held_of knit (power_of side) (model_start (power_of side) g) (drop (needed (power_of side)) p)
             (drop (cell_count (power_of side)) s) (drop (cell_count (power_of side)) o)
         held = after ∙ loaded_held side knit g p s o accepted
           where
-            after : record { progress = a.progress; pyramid = p₁; serials = s₁; order = o₁ }
+            after : record { progress = load_record a; pyramid = p₁; serials = s₁; order = o₁ }
                 ≡ held_after_load side knit g p s o
             after = unfold held_after_load in rw (← q)
 
@@ -325,8 +307,28 @@ module _ (side knit : ℕ) {r : ℕ} (er : r ≡ power_of side) (g : List ℕ) (
         unfolding two_heads two_heads_in
         ran_expected = rw (sheet_is, rest_pyramid, rest_serials, rest_order) refl
 
-        pub ran_all : {out : TwoHeadsOutcome} → out ≡ ran_of side knit r p₁ s₁ o₁
-            → out ≡ two_heads_by_quarters side knit g p s o
-        ran_all e₁ =
+        pub ran_all : (answer : TwoHeadsAnswer) {p₂ : List ℤ} {s₂ o₂ : List ℕ}
+            → record {
+              progress = answer.progress;
+              made = answer.made;
+              debt = answer.debt;
+              said = returned [];
+              pyramid = p₂;
+              serials = s₂;
+              order = o₂;
+            }
+            ≡ ran_of side knit r p₁ s₁ o₁
+            → record {
+              progress = (two_heads_answer (Ok answer)).progress;
+              made = (two_heads_answer (Ok answer)).made;
+              debt = (two_heads_answer (Ok answer)).debt;
+              said = done_says {A = TwoHeadsAnswer} (Ok answer);
+              pyramid = p₂;
+              serials = s₂;
+              order = o₂;
+            }
+            ≡ two_heads_by_quarters side knit g p s o
+        unfolding done_says
+        ran_all answer e₁ =
             (rw er at e₁) ∙ ran_expected
             ∙ sym (out_is side knit g p s o each_byte four≤ (heads_is_load ∙ accepted.none))

@@ -3,22 +3,11 @@
 #![tactic(auto)]
 
 ghost use Rattle.std.specs.Prelude.{◌≡◌};
-ghost use Rattle.definition.specs.Answers.{load_says};
+ghost use Rattle.definition.specs.Answers.{load_record, done_says};
 ghost use Rattle.definition.specs.ByQuarters.{load_by_quarters};
 
-use checks::Check;
-use definition::{LoadAnswer, LoadStatus, Progress};
-
-// A record without dots, and what is said with it.
-fn answer(side: u32, knit: u32, status: LoadStatus) -> LoadAnswer
-    ensures { result ≡ record { progress = record { side = side; dots = 0; knit = knit }; status = status } }
-{
-    let dots = 0;
-    LoadAnswer {
-        progress: Progress { side, dots, knit },
-        status,
-    }
-}
+use definition::{Progress, Refusal};
+use places::Table;
 
 // Load (S 7.1, S 7.2), with its checks in order (S 5.2) and the record (S 2.8).
 pub fn load(
@@ -28,10 +17,10 @@ pub fn load(
     pyramid: &mut [i64],
     serials: &mut [u32],
     order: &mut [u32],
-) -> LoadAnswer
+) -> Result<Progress, Refusal>
     ensures { record {
-      progress = result.progress;
-      said = load_says result.status;
+      progress = load_record result;
+      said = done_says result;
       pyramid = pyramid.new;
       serials = serials.new;
       order = order.new;
@@ -40,7 +29,7 @@ pub fn load(
         greys.now pyramid.old serials.old order.old }
 {
     let r = sizes::power_of(side);
-    match fresh_sheet::check_load(
+    fresh_sheet::check_load(
         r,
         knit,
         greys.len(),
@@ -48,12 +37,8 @@ pub fn load(
         serials.len(),
         order.len(),
         fresh_sheet::low_map(r, greys),
-    ) {
-        Check::Failed(why) => answer(0, 0, LoadStatus::Refused(why)),
-        Check::Passed => {
-            let table = places::table();
-            fresh_sheet::fill(r, &table, greys, pyramid, serials, order);
-            answer(side, knit, LoadStatus::Loaded)
-        }
-    }
+    )?;
+    fresh_sheet::fill(r, &Table::new(), greys, pyramid, serials, order);
+    let dots = 0;
+    Ok(Progress { side, dots, knit })
 }

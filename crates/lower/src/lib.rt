@@ -8,34 +8,22 @@ ghost use Rattle.definition.specs.Lowering.{none_high, lowered};
 pub fn none_high(greys: &[u8]) -> bool
     ensures { result ≡ none_high greys.now }
 {
-    let mut i = 0;
-    while i < greys.len() {
-        if 240 < greys[i] {
-            return false;
-        }
-        i += 1;
-    }
-    true
+    greys.iter().all(|grey| *grey <= 240)
 }
 
 // A grey, or 240 if it is above that.
 fn low(grey: u8) -> u8
     ensures { result ≡ min grey 240 }
 {
-    if 240 < grey {
-        return 240;
-    }
-    grey
+    grey.min(240)
 }
 
 // Lowers each grey above 240 to 240 (S 12.4).
+#[tactic(auto, using(crate::specs::Loops::one_lowered), unfolding(definition::specs::Lowering::lowered))]
 pub fn lower(greys: &mut [u8])
     ensures { greys.new ≡ lowered greys.old }
 {
-    let count = greys.len();
-    let mut i = 0;
-    while i < count {
-        greys[i] = low(greys[i]);
-        i += 1;
+    for grey in greys.iter_mut() {
+        *grey = low(*grey);
     }
 }

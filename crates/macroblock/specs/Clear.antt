@@ -1,4 +1,4 @@
--- The rim, as the code tests it (`both_clear`, `not_clear`).
+-- The rim, as the code tests it (`clear_first`, `clear_last`, `clear_inside`).
 use Rattle.std.specs.Prelude.{◌≡◌, Bool, not, ◌&&◌, ◌||◌, ℕ, ◌+◌, ◌*◌, ◌^◌}
 use Rattle.std.proofs.Math.Path.{refl}
 use Rattle.std.proofs.Math.Bool.{true, false}
@@ -23,12 +23,3 @@ module _ (r a x : ℕ) where
   pub clear_inside : (x ≡ 4 * a → ⊥) → (x ≡ 4 * a + 7 → ⊥) → true ≡ clear r a x
   unfolding clear
   clear_inside ne nf = rw (ne_eqb x (4 * a) ne, ne_eqb x (4 * a + 7) nf)
-
--- by row and by column
-pub both_clear : (r a b row column : ℕ) {t u : Bool} → t ≡ clear r a row → t ≡ true → u ≡ clear r b column
-    → u ≡ (clear r a row && clear r b column)
-both_clear r a b row column e f g = rw (← e, f) g
-
-pub not_clear : (r a b row column : ℕ) {t : Bool} → t ≡ clear r a row → t ≡ false
-    → false ≡ (clear r a row && clear r b column)
-not_clear r a b row column e f = rw (← e, f) refl

@@ -1,7 +1,8 @@
 -- The four blocks of a macroblock as the code reads them (`block_is`): their sum, and the one that owes most (`seen`).
-use Rattle.std.specs.Prelude.{◌≡◌, Bool, cond, List, ℕ, suc, ◌+◌, ◌*◌, ◌-◌, ◌^◌, ◌≤◌, ◌<◌, length, get_or, ℤ, pos, ◌+ℤ◌}
+use Rattle.std.specs.Prelude.{◌≡◌, Bool, not, cond, List, ℕ, suc, ◌+◌, ◌*◌, ◌-◌, ◌^◌, ◌≤◌, ◌<◌, length, get_or}
+use Rattle.std.specs.Prelude.{ℤ, pos, ◌+ℤ◌}
 use Rattle.std.proofs.Math.Path.{refl}
-use Rattle.std.proofs.Common.{ap, ap₂, ◌∙◌, arith, pow_mono, Fits, SFits, to_z, of_z, to_z-of_z}
+use Rattle.std.proofs.Common.{sym, ap, ap₂, ◌∙◌, arith, pow_mono, Fits, SFits, to_z, of_z, to_z-of_z}
 use Rattle.std.proofs.Math.Bool.{true, false}
 use Rattle.std.proofs.Math.Nat.{add-zero}
 use Rattle.std.specs.Int.Signed.{le_z, lt_z}
@@ -11,6 +12,7 @@ use Rattle.definition.specs.Quarters.{interleaved, quarter_entry, rows_from}
 use Rattle.definition.specs.Descent as definition
 use Rattle.definition.specs.Descent.{first_of_equals, candidate, largest}
 use Rattle.heads.specs.TwoHeads.{block_sums, macroblock_sum}
+use Rattle.integers.specs.Loops.{held, failed}
 use Rattle.integers.specs.Machine.{lt_z_back, words, machine}
 use Rattle.quadtree.specs.Levels.{start_suc, start_mono}
 use Rattle.layouts.specs.Interleaved.{interleaved_lt, interleaved_any}
@@ -37,9 +39,6 @@ module _ (p : List ℤ) (r a b : ℕ) (h : BlockAsked p r a b) where
   few =
       let e : start 9 ≡ 87381 = unfold start in refl in
       omega (arith, h.whole, start_mono (suc r) 9 (omega (arith, h.most)), e)
-
-  pub row_few : a < 256
-  row_few = omega (arith, h.row, side_most)
 
   pub column_few : b < 256
   column_few = omega (arith, h.column, side_most)
@@ -103,12 +102,6 @@ module _ (p : List ℤ) (r a b : ℕ) (h : MacroblockAsked p r a b) where
 
   side_few : 2 ^ (r - 2) ≤ 64
   side_few = pow_mono {i = r - 2} {j = 6} (omega (arith, h.least, h.most))
-
-  pub row_next : Fits w64 (a + 1)
-  row_next = record { fits = omega (arith, h.row, side_few) }
-
-  pub column_next : Fits w64 (b + 1)
-  column_next = record { fits = omega (arith, h.column, side_few) }
 
   -- its four blocks, i rows and j columns on
   asked_at : (i j : ℕ) → i ≤ 1 → j ≤ 1 → BlockAsked p r (a + i) (b + j)
@@ -184,21 +177,28 @@ module _ (p : List ℤ) (r a b : ℕ) (h : MacroblockAsked p r a b) where
     unfolding macroblock_sum four block_sums
     whole_sum = rw (e₀, e₁, e₂, e₃, add-zero a, add-zero b)
 
-    pub seen : (due : Bool) (best : Block)
-        → due
+    -- whether they owe enough, as the code finds it
+    module _ {due : Bool}
+        (ed : due
         ≡ le_z (pos half_dot)
         (to_z w64 (of_z w64 c₀.sum) +ℤ to_z w64 (of_z w64 c₁.sum)
-        +ℤ to_z w64 (of_z w64 c₂.sum) +ℤ to_z w64 (of_z w64 c₃.sum))
-        → best ≡ largest_of c₀ c₁ c₂ c₃
-        → Seen r rows a b due best.row best.column best.at
-    seen due best ed eb =
-        rw eb
-        (record {
-          due_is = words ∙ ap (le_z (pos half_dot)) whole_sum;
-          row_is = for_largest.row;
-          column_is = for_largest.column;
-          place_is = for_largest.place;
-        })
-      where
-        words : due ≡ le_z (pos half_dot) (c₀.sum +ℤ c₁.sum +ℤ c₂.sum +ℤ c₃.sum)
-        words = ed ∙ rw (to_z-of_z fit.first, to_z-of_z fit.second, to_z-of_z fit.third, to_z-of_z fit.fourth) refl
+        +ℤ to_z w64 (of_z w64 c₂.sum) +ℤ to_z w64 (of_z w64 c₃.sum))) where
+      due_is : due ≡ le_z (pos half_dot) (macroblock_sum r rows (a, b))
+      due_is =
+          ed
+          ∙ rw (to_z-of_z fit.first, to_z-of_z fit.second, to_z-of_z fit.third, to_z-of_z fit.fourth)
+          (ap (le_z (pos half_dot)) whole_sum)
+
+      pub little : not due ≡ true → false ≡ le_z (pos half_dot) (macroblock_sum r rows (a, b))
+      little f = sym (failed due_is f)
+
+      pub seen : not due ≡ false → (best : Block) → best ≡ largest_of c₀ c₁ c₂ c₃
+          → Seen r rows a b true best.row best.column best.at
+      seen f best eb =
+          rw eb
+          (record {
+            due_is = sym (held due_is f);
+            row_is = for_largest.row;
+            column_is = for_largest.column;
+            place_is = for_largest.place;
+          })

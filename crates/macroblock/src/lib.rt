@@ -3,19 +3,18 @@
 // quarters; what is read of it is said of the pyramid written row after row.
 #![tactic(auto)]
 
-ghost use Rattle.std.specs.Prelude.{◌≡◌, ◌&&◌, ◌≤◌, ◌<◌, length, pos, ◌+ℤ◌};
+ghost use Rattle.std.specs.Prelude.{◌≡◌, true, false, ◌&&◌, ◌≤◌, ◌<◌, length, pos, ◌+ℤ◌, MatchOption};
 ghost use Rattle.std.specs.Int.Signed.{le_z};
 ghost use Rattle.definition.specs.Pyramid.{half_dot, needed};
 ghost use Rattle.definition.specs.Quarters.{rows_from};
 ghost use Rattle.definition.specs.Diffusion.{kernel_of};
-ghost use Rattle.places.specs.Table.{places};
-ghost use Rattle.heads.specs.TwoHeads.{clear, work};
+ghost use Rattle.heads.specs.TwoHeads.{macroblock_sum, clear, work};
 ghost use Rattle.head_order.specs.Promise.{Fits};
 ghost use Rattle.macroblock.specs.FourBlocks.{BlockAsked, MacroblockAsked, LargeSheet, SmallSums};
 ghost use Rattle.macroblock.specs.FourBlocks.{block_of, better_of, largest_of, Seen};
 
-// From this sum on a macroblock burns a cell.
-const HALF_DOT: i64 = 32640;
+use places::Table;
+use sizes::HALF_DOT;
 
 // A block: its row, its column and its place in the pyramid, and the sum of its cells.
 #[derive(Clone, Copy)]
@@ -26,29 +25,19 @@ struct Block {
     sum: i64,
 }
 
-// Whether a macroblock owes half a dot or more, and which of its blocks owes most.
-#[derive(Clone, Copy)]
-struct Debt {
-    due: bool,
-    row: usize,
-    column: usize,
-    at: usize,
-}
-
 // Block (a, b).
-fn block_at(pyramid: &[i64], table: &[u16; 1024], r: usize, a: usize, b: usize) -> Block
-    requires block_asked { BlockAsked pyramid.now r a b }
-    requires table_value { table.now ≡ places }
+fn block_at(pyramid: &[i64], table: &Table, r: usize, a: usize, b: usize) -> Block
+    requires { BlockAsked pyramid.now r a b }
     ensures { result ≡ block_of r (rows_from r pyramid.now) a b }
 {
     let first = sizes::level_start(r - 2);
-    let at = first + places::place(table, a, b);
+    let at = first + table.place(a, b);
     let sum = pyramid[at];
     Block {
         row: a,
         column: b,
-        at: at,
-        sum: sum,
+        at,
+        sum,
     }
 }
 
@@ -56,9 +45,7 @@ fn block_at(pyramid: &[i64], table: &[u16; 1024], r: usize, a: usize, b: usize) 
 fn better(best: Block, next: Block) -> Block
     ensures { result ≡ better_of best next }
 {
-    let most = best.sum;
-    let sum = next.sum;
-    if most < sum { next } else { best }
+    if best.sum < next.sum { next } else { best }
 }
 
 // Of four blocks, one that owes most: the first of equals.
@@ -78,29 +65,27 @@ fn is_due(first: i64, second: i64, third: i64, fourth: i64) -> bool
     HALF_DOT <= first + second + third + fourth
 }
 
-// Whether macroblock (a, b) owes enough, and which of its blocks owes most (S 13.2). Each block is read once.
-fn debt_of(pyramid: &[i64], table: &[u16; 1024], r: usize, a: usize, b: usize) -> Debt
-    requires macroblock_asked { MacroblockAsked pyramid.now r a b }
-    requires table_value { table.now ≡ places }
-    ensures { Seen r (rows_from r pyramid.now) a b result.due result.row result.column result.at }
+// The block that owes most of macroblock (a, b), where the macroblock owes half a dot or more (S 13.2). Each block is
+// read once.
+fn debt_of(pyramid: &[i64], table: &Table, r: usize, a: usize, b: usize) -> Option<Block>
+    requires { MacroblockAsked pyramid.now r a b }
+    ensures { MatchOption result
+        (false ≡ le_z (pos half_dot) (macroblock_sum r (rows_from r pyramid.now) (a, b)))
+        (λ best. Seen r (rows_from r pyramid.now) a b true best.row best.column best.at) }
 {
     let top_left = block_at(pyramid, table, r, a, b);
     let top_right = block_at(pyramid, table, r, a, b + 1);
     let bottom_left = block_at(pyramid, table, r, a + 1, b);
     let bottom_right = block_at(pyramid, table, r, a + 1, b + 1);
-    let due = is_due(
+    if !is_due(
         top_left.sum,
         top_right.sum,
         bottom_left.sum,
         bottom_right.sum,
-    );
-    let best = largest(top_left, top_right, bottom_left, bottom_right);
-    Debt {
-        due: due,
-        row: best.row,
-        column: best.column,
-        at: best.at,
+    ) {
+        return None;
     }
+    Some(largest(top_left, top_right, bottom_left, bottom_right))
 }
 
 // Whether x is no rim row of a macroblock, whose rows are 4a to 4a + 7, or one that is the map's edge. Of columns
@@ -125,10 +110,7 @@ fn lies_clear(r: usize, a: usize, b: usize, row: usize, column: usize) -> bool
     requires { (r ≤ 8) × (a < 256) × (b < 256) }
     ensures { result ≡ (clear r a row && clear r b column) }
 {
-    if is_clear(r, a, row) {
-        return is_clear(r, b, column);
-    }
-    false
+    is_clear(r, a, row) && is_clear(r, b, column)
 }
 
 // Works macroblock (a, b) of a sound sheet of just the needed lengths, on cloth of a knit: where it owes half a dot or
@@ -138,7 +120,7 @@ pub fn work(
     pyramid: &mut [i64],
     serials: &mut [u32],
     order: &mut [u32],
-    table: &[u16; 1024],
+    table: &Table,
     knit: u32,
     r: usize,
     a: usize,
@@ -149,7 +131,6 @@ pub fn work(
         (record { pyramid = rows_from r pyramid.now; serials = serials.old; order = order.old; dots = dots }) }
     requires fits { Fits r (a, b) }
     requires pyramid_len { length pyramid.old ≡ needed r }
-    requires table_value { table.now ≡ places }
     ensures { record {
       pyramid = rows_from r pyramid.exit.now;
       serials = serials.new;
@@ -165,11 +146,10 @@ pub fn work(
         })
         (a, b) }
 {
-    let debt = debt_of(pyramid, table, r, a, b);
-    if !debt.due {
+    let Some(block) = debt_of(pyramid, table, r, a, b) else {
         return dots;
-    }
-    let cell = descent::descend(pyramid, r, r - 2, debt.at, debt.row, debt.column, false);
+    };
+    let cell = descent::descend(pyramid, r, r - 2, block.at, block.row, block.column, false);
     if !lies_clear(r, a, b, cell.row, cell.column) {
         return dots;
     }

@@ -3,7 +3,7 @@
 #![tactic(auto)]
 
 ghost use Rattle.std.specs.Prelude.{◌≡◌, ◌^◌, ◌≤◌, length};
-ghost use Rattle.definition.specs.Answers.{map_text_says, text_says};
+ghost use Rattle.definition.specs.Answers.{value_says};
 ghost use Rattle.definition.specs.MapText.{map_text, map_text_of};
 ghost use Rattle.definition.specs.LowerText.{lower_text_of};
 ghost use Rattle.decimals.specs.Writing.{Wrote};
@@ -12,43 +12,40 @@ ghost use Rattle.text_cells.specs.FirstLine.{GoodSide};
 ghost use Rattle.map_text.specs.WaysOut.{GreysStored};
 ghost use Rattle.map_text.specs.Written.{MapLent, greys_text, LoweredPut};
 
-use definition::{MapTextAnswer, Refusal, TextAnswer};
-use text_cells::{Cells, FirstLine};
+use definition::Refusal;
 
 // Reads the greys of a map, none above `most`, and stores them: of each cell's low and high, which are the same, the
 // low.
-fn store_greys(text: &[u8], from: usize, side: usize, most: u32, greys: &mut [u8]) -> Cells
+#[tactic(auto, using(crate::specs::WaysOut::greys_stored))]
+fn store_greys(text: &[u8], from: usize, side: usize, most: u32, greys: &mut [u8]) -> Option<bool>
     requires { CellsAsked side most }
     ensures { GreysStored text.now from side most greys.old result greys.new }
 {
-    let mut no_highs = [0; 0];
-    text_cells::read_cells(text, from, side, false, most, greys, &mut no_highs)
+    text_cells::read_cells(text, from, side, false, most, greys, &mut [])
 }
 
 // The greys behind a first line that says a good side: tested, then stored.
-fn read_map(text: &[u8], from: usize, side: u32, greys: &mut [u8]) -> MapTextAnswer
+fn read_map(text: &[u8], from: usize, side: u32, greys: &mut [u8]) -> Result<u32, Refusal>
     requires { GoodSide text.now (length greys.old) side from }
-    ensures { record { said = map_text_says result; greys = greys.new }
+    ensures { record { said = value_says result; greys = greys.new }
         ≡ map_text_of text.now greys.old }
 {
     let n = side as usize;
     let found = text_cells::find_cells(text, from, n, false, 240);
-    if !found.all {
-        return MapTextAnswer::Refused(text_cells::why_not(text, from, n, false));
+    if found.is_none() {
+        return Err(text_cells::why_not(text, from, n, false));
     }
     store_greys(text, from, n, 240, greys);
-    MapTextAnswer::Side(side)
+    Ok(side)
 }
 
 // Map Text (S 9.1), with its refusals in order (S 5.2).
-pub fn map_text(text: &[u8], greys: &mut [u8]) -> MapTextAnswer
-    ensures { record { said = map_text_says result; greys = greys.new }
+pub fn map_text(text: &[u8], greys: &mut [u8]) -> Result<u32, Refusal>
+    ensures { record { said = value_says result; greys = greys.new }
         ≡ map_text_of text.now greys.old }
 {
-    match text_cells::first_line(text, greys.len()) {
-        FirstLine::Refused(why) => MapTextAnswer::Refused(why),
-        FirstLine::Side(side, at) => read_map(text, at, side, greys),
-    }
+    let line = text_cells::first_line(text, greys.len())?;
+    read_map(text, line.next, line.side, greys)
 }
 
 // Stores the greys of a map, each with the byte that ends it, from a place on.
@@ -58,10 +55,8 @@ fn put_greys(out: &mut [u8], from: usize, side: usize, greys: &[u8]) -> usize
         (greys_text side greys.now (length greys.now)) result out.new }
 {
     let mut at = from;
-    let mut i = 0;
-    while i < greys.len() {
-        at = decimals::put_field(out, at, greys[i] as u64, text_cells::end_at(side, i));
-        i += 1;
+    for (i, &grey) in greys.iter().enumerate() {
+        at = decimals::put_field(out, at, u64::from(grey), text_cells::end_at(side, i));
     }
     at
 }
@@ -71,11 +66,12 @@ pub fn put_map(out: &mut [u8], side: usize, greys: &[u8]) -> usize
     requires { MapLent side (length greys.now) }
     ensures { Wrote out.old 0 (map_text side greys.now) result out.new }
 {
-    let at = decimals::put_field(out, 0, side as u64, 10);
+    let at = decimals::put_field(out, 0, side as u64, b'\n');
     put_greys(out, at, side, greys)
 }
 
 // Lowers the greys of a map in their place, and stores their text as put_map does.
+#[tactic(auto, using(crate::specs::Written::lowered_put))]
 fn put_lowered(out: &mut [u8], side: usize, greys: &mut [u8]) -> usize
     requires { MapLent side (length greys.old) }
     ensures { LoweredPut side greys.old out.old greys.new result out.new }
@@ -91,32 +87,28 @@ fn lower_map(
     side: usize,
     greys: &mut [u8],
     output: &mut [u8],
-) -> TextAnswer
+) -> Result<usize, Refusal>
     requires { GoodSide text.now (length greys.old) side from }
-    ensures { record { said = text_says result; greys = greys.new; output = output.new }
+    ensures { record { said = value_says result; greys = greys.new; output = output.new }
         ≡ lower_text_of text.now greys.old output.old }
 {
-    let cells = side * side;
     let there = text_cells::find_cells(text, from, side, false, 255);
-    if !there.all {
-        return TextAnswer::Refused(Refusal::TextMalformed);
+    if there.is_none() {
+        return Err(Refusal::TextMalformed);
     }
     // the text that is written is as long as the one that was read: 241 to 255 have three digits, as 240 has
     if output.len() < text.len() {
-        return TextAnswer::Refused(Refusal::OutputShort);
+        return Err(Refusal::OutputShort);
     }
     store_greys(text, from, side, 255, greys);
-    let length = put_lowered(output, side, &mut greys[..cells]);
-    TextAnswer::Length(length)
+    Ok(put_lowered(output, side, &mut greys[..side * side]))
 }
 
 // Lower Text (S 9.2), with its refusals in order (S 5.2).
-pub fn lower_text(text: &[u8], greys: &mut [u8], output: &mut [u8]) -> TextAnswer
-    ensures { record { said = text_says result; greys = greys.new; output = output.new }
+pub fn lower_text(text: &[u8], greys: &mut [u8], output: &mut [u8]) -> Result<usize, Refusal>
+    ensures { record { said = value_says result; greys = greys.new; output = output.new }
         ≡ lower_text_of text.now greys.old output.old }
 {
-    match text_cells::first_line(text, greys.len()) {
-        FirstLine::Refused(why) => TextAnswer::Refused(why),
-        FirstLine::Side(side, at) => lower_map(text, at, side as usize, greys, output),
-    }
+    let line = text_cells::first_line(text, greys.len())?;
+    lower_map(text, line.next, line.side as usize, greys, output)
 }

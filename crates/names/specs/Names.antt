@@ -3,22 +3,13 @@
 use Rattle.std.specs.Prelude.{◌≡◌, refl, Bool}
 use Rattle.std.proofs.Common.{sym, ◌∙◌, true≢false}
 use Rattle.std.proofs.Math.Bool.{true, false}
-use Prim.Native.Nat.{ℕ, zero, suc, ◌-◌, ◌≤◌, ◌<◌}
+use Prim.Native.Nat.{ℕ, zero, suc, ◌-◌, ◌≤◌}
 use native.Mathlib.Omega.{arith}
 use Rattle.std.proofs.Math.Dec.{leb}
-use borrow.Author.Tests.{le-leb, lt-leb, leb-true}
+use borrow.Author.Tests.{leb-true}
 use Rattle.definition.specs.Checkpoints.{is_name, kept_at, can_restore}
 use Rattle.definition.specs.declared.Checkpoints.{Checkpoints}
-use Rattle.refusals.specs.Names.{both, at_least_one, at_most_eight}
-
--- ---- names
-pub below_one : (name : ℕ) → name < 1 → false ≡ is_name name
-unfolding is_name
-below_one name h = rw (lt-leb 1 name h)
-
-pub from_one : (name : ℕ) → 1 ≤ name → leb name 8 ≡ is_name name
-unfolding is_name
-from_one name h = rw (le-leb 1 name h)
+use Rattle.refusals.specs.Names.{both}
 
 -- what the code's test told
 module _ (name : ℕ) {b : Bool} (e : b ≡ is_name name) where
@@ -27,10 +18,6 @@ module _ (name : ℕ) {b : Bool} (e : b ≡ is_name name) where
 
   pub name_not : b ≡ false → is_name name ≡ false
   name_not no' = sym e ∙ no'
-
--- the place of a name among the eight
-pub place_in : (name : ℕ) → is_name name ≡ true → name - 1 < 8
-place_in name e = omega (arith, at_least_one name e, at_most_eight name e)
 
 -- ---- whether there is a way back to a name; n is what the code has read under it
 module _ (checkpoints : Checkpoints) (name total : ℕ) where

@@ -8,32 +8,30 @@ ghost use Rattle.definition.specs.Checkpoints.{is_name, kept_at, can_restore};
 use definition::Checkpoints;
 
 // Whether this is one of the names 1 to 8 (S 2.11).
+#[tactic(auto, unfolding(definition::specs::Checkpoints::is_name))]
 pub fn is_name(name: u32) -> bool
     ensures { result ≡ is_name name }
 {
-    if name < 1 {
-        return false;
-    }
-    name <= 8
+    (1..=8).contains(&name)
 }
 
 // What stands under a name (S 2.11).
+#[tactic(auto, unfolding(definition::specs::Checkpoints::is_name, definition::specs::Checkpoints::kept_at))]
 pub fn kept_at(checkpoints: Checkpoints, name: u32) -> u64
     requires { is_name name ≡ true }
     ensures { result ≡ kept_at checkpoints name }
 {
-    let kept = checkpoints.kept;
-    let place = name as usize - 1;
-    kept[place]
+    checkpoints.kept[name as usize - 1]
 }
 
 // The value with these dots kept under a name (S 2.11, S 10.1).
+#[tactic(auto, unfolding(definition::specs::Checkpoints::is_name))]
 pub fn with_dots(checkpoints: Checkpoints, name: u32, dots: u32) -> Checkpoints
     requires { is_name name ≡ true }
     ensures { result ≡ record { kept = set checkpoints.kept (name - 1) (suc dots) } }
 {
     let mut kept = checkpoints.kept;
-    kept[name as usize - 1] = dots as u64 + 1;
+    kept[name as usize - 1] = u64::from(dots) + 1;
     Checkpoints { kept }
 }
 
@@ -41,12 +39,9 @@ pub fn with_dots(checkpoints: Checkpoints, name: u32, dots: u32) -> Checkpoints
 pub fn can_restore(checkpoints: Checkpoints, name: u32, total: u64) -> bool
     ensures { result ≡ can_restore checkpoints name total }
 {
-    if is_name(name) {
-        let kept = kept_at(checkpoints, name);
-        if kept == 0 {
-            return false;
+    is_name(name)
+        && match kept_at(checkpoints, name) {
+            0 => false,
+            kept => kept - 1 <= total,
         }
-        return kept - 1 <= total;
-    }
-    false
 }

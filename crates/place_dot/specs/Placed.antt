@@ -24,7 +24,7 @@ use Rattle.dots.proofs.Steps.{Sheet, target, step_made, row_in, column_in_lem, o
 use Rattle.layouts.specs.Interleaved.{interleaved_lt, interleaved_any}
 use Rattle.layouts.specs.Cells.{rows_level, length_rows_level, rows_in, rows_cells, rows_replaced}
 use Rattle.places.specs.declared.Parts.{Parts}
-use Rattle.places.specs.Parts.{parts_around, AroundAsked, place_parts}
+use Rattle.places.specs.Parts.{parts_around, place_parts}
 use Rattle.pyramid.specs.PyramidPart.{Within, Whole, SmallPyramid}
 use Rattle.pyramid.specs.Four.{within_mono}
 use Rattle.pyramid.specs.Small.{take_within, append_within}
@@ -91,10 +91,6 @@ module _ (r : ℕ) (p : List ℤ) (ss o : List ℕ) (dots row column : ℕ)
 
   -- the parts of the places around the cell
   module _ {side : ℕ} (es : side ≡ 2 ^ r) where
-    pub around_asked : AroundAsked side row column
-    around_asked =
-        rw es (record { most = pow_mono {i = r} {j = 8} h.small; above = h.above; left = h.left })
-
     pub parts_are : {parts : Parts} → parts ≡ parts_around side row column → parts ≡ parts_around (2 ^ r) row column
     parts_are e = rw es at e
 

@@ -7,8 +7,10 @@ ghost use Rattle.definition.specs.Pyramid.{needed};
 ghost use Rattle.definition.specs.Quarters.{rows_from};
 ghost use Rattle.definition.specs.Diffusion.{kernel_of};
 ghost use Rattle.definition.specs.Model.{place_dot, step};
-ghost use Rattle.places.specs.Table.{places};
 ghost use Rattle.place_dot.specs.DotDue.{NoteAsked, PlaceAtAsked, DotAsked};
+
+use descent::Cell;
+use places::Table;
 
 // Notes the next dot, at the cell with the number `at` (S 2.3), in serial sheet and order list (S 2.7).
 fn note(serials: &mut [u32], order: &mut [u32], at: usize, dots: u32)
@@ -23,21 +25,21 @@ fn note(serials: &mut [u32], order: &mut [u32], at: usize, dots: u32)
 // Makes the next dot on cloth of a knit at a cell that owes something (S 3.4), on a sound sheet of just the needed
 // lengths: step 2 of report 265, section 3.2. The dot is placed and its error spread, the quadtree renewed, and the dot
 // noted, which sets the report's X to 1 at this cell. The table has the places.
+// The sheet's three parts stay parameters: with a struct of `&mut` slices each contract says more, and no proof closed.
 pub fn place_at(
     pyramid: &mut [i64],
     serials: &mut [u32],
     order: &mut [u32],
-    table: &[u16; 1024],
+    table: &Table,
     knit: u32,
     r: usize,
-    cell: descent::Cell,
+    cell: Cell,
     dots: u32,
 )
     requires place_at_asked { PlaceAtAsked r
         (record { pyramid = rows_from r pyramid.now; serials = serials.old; order = order.old; dots = dots })
         cell.row cell.column }
     requires pyramid_len { length pyramid.old ≡ needed r }
-    requires table_value { table.now ≡ places }
     ensures { record {
       pyramid = rows_from r pyramid.exit.now;
       serials = serials.new;
@@ -53,10 +55,9 @@ pub fn place_at(
         })
         (cell.row, cell.column) }
 {
-    let row = cell.row;
-    let column = cell.column;
+    let Cell { row, column } = cell;
     let side = sizes::pow2(r);
-    let p = places::parts_around(table, side, row, column);
+    let p = table.parts_around(side, row, column);
     let cells = sizes::level_start(r);
     let at = p.row + p.column;
     diffusion::place(&mut pyramid[cells..], table, p, knit, r, at, row, column);
@@ -71,7 +72,7 @@ pub fn place_dot(
     pyramid: &mut [i64],
     serials: &mut [u32],
     order: &mut [u32],
-    table: &[u16; 1024],
+    table: &Table,
     knit: u32,
     r: usize,
     dots: u32,
@@ -79,7 +80,6 @@ pub fn place_dot(
     requires dot_asked { DotAsked r
         (record { pyramid = rows_from r pyramid.now; serials = serials.old; order = order.old; dots = dots }) }
     requires pyramid_len { length pyramid.old ≡ needed r }
-    requires table_value { table.now ≡ places }
     ensures { record {
       pyramid = rows_from r pyramid.exit.now;
       serials = serials.new;

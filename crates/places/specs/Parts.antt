@@ -1,6 +1,6 @@
 -- The parts of places: a place is the sum of its row's part and its column's (`place_parts`); and the parts around a
 -- cell (`parts_are`).
-use Rattle.std.specs.Prelude.{◌≡◌, refl, ℕ, zero, suc, ◌+◌, ◌-◌, ◌/◌, ◌≤◌, ◌<◌, min}
+use Rattle.std.specs.Prelude.{◌≡◌, refl, List, ℕ, zero, suc, ◌+◌, ◌-◌, ◌/◌, ◌≤◌, ◌<◌, get_or, min}
 use Rattle.std.proofs.Common.{arith}
 use Rattle.definition.specs.Quarters.{interleaved}
 use Rattle.places.specs.declared.Parts.{Parts}
@@ -10,6 +10,10 @@ pub place_parts : (k a b : ℕ) → interleaved k a b ≡ interleaved k a 0 + in
 unfolding interleaved
 place_parts zero a b = refl
 place_parts (suc k) a b = omega (arith, place_parts k (a / 2) (b / 2))
+
+-- a list of the columns' parts in the places of the cells of a map of side `side`
+pub record ColumnParts (side : ℕ) (columns : List ℕ) : Type 0 where
+  pub is : (b : ℕ) → b < side → get_or columns b 0 ≡ interleaved 8 0 b
 
 -- the parts around cell (row, column) of a map of side `side`, and what is asked for them
 unfoldable pub parts_around : ℕ → ℕ → ℕ → Parts
@@ -27,26 +31,6 @@ pub record AroundAsked (side row column : ℕ) : Type 0 where
   pub most : side ≤ 256
   pub above : row < side
   pub left : column < side
-
--- the rows and columns asked for are below 256
-module _ {side row column : ℕ} (h : AroundAsked side row column) where
-  pub row_few : row < 256
-  row_few = omega (arith, h.most, h.above)
-
-  pub above_few : {x : ℕ} → x ≡ row - 1 → x < 256
-  above_few e = omega (arith, h.most, h.above)
-
-  pub below_few : {x : ℕ} → x ≡ min (row + 1) (side - 1) → x < 256
-  below_few e = omega (arith, h.most, h.above)
-
-  pub column_few : column < 256
-  column_few = omega (arith, h.most, h.left)
-
-  pub left_few : {x : ℕ} → x ≡ column - 1 → x < 256
-  left_few e = omega (arith, h.most, h.left)
-
-  pub right_few : {x : ℕ} → x ≡ min (column + 1) (side - 1) → x < 256
-  right_few e = omega (arith, h.most, h.left)
 
 -- the parts as the code gathers them
 pub parts_are : (side row column : ℕ) {x y u v above here below left middle right : ℕ}

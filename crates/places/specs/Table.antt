@@ -1,5 +1,5 @@
--- The table of places, as the rule has it (`places`, `lent_place`): `table`'s proof computes all 1,024 of them and
--- compares. It is a permutation (`table_once`): its 1,024 numbers are each number below 1,024, once.
+-- The table of places, as the rule has it (`places`, `lent_place`): the proof of `Table::new` computes all 1,024 of
+-- them and compares. It is a permutation (`table_once`): its 1,024 numbers are each number below 1,024, once.
 use Rattle.std.specs.Prelude.{◌≡◌, refl, List, ℕ, ◌+◌, ◌*◌, ◌/◌, ◌%◌, ◌<◌, length, get_or}
 use Rattle.std.proofs.Common.{sym, ap, ◌∙◌, arith}
 use Rattle.definition.specs.Lists.{tabulate}
@@ -25,9 +25,6 @@ lent_place e a b p q =
     let u : (a * 32 + b) / 32 ≡ a = omega arith in
     let v : (a * 32 + b) % 32 ≡ b = omega arith in
     rw (e, get_d_tabulate 1024 (λ i. interleaved 5 (i / 32) (i % 32)) (a * 32 + b) 0 (omega arith), u, v)
-
-pub lent_small : {t : List ℕ} → t ≡ places → (a b : ℕ) → a < 32 → b < 32 → get_or t (a * 32 + b) 0 < 1024
-lent_small e a b p q = omega (arith, lent_place e a b p q, interleaved_lt 5 a b)
 
 -- ---- the table is a permutation
 -- a list has this number in it

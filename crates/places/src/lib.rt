@@ -1,11 +1,11 @@
-// Where the entries of a pyramid by quarters lie within their level (`place`, by the table of `table`), and the parts
-// of places around a cell (`parts_around`).
+// Where the entries of a pyramid by quarters lie within their level (`place` of a `Table`), and the parts of places
+// around a cell (`parts_around`).
 #![tactic(auto)]
 
-ghost use Rattle.std.specs.Prelude.{◌≡◌, ◌+◌, ◌-◌, ◌<◌, min};
+ghost use Rattle.std.specs.Prelude.{◌≡◌, ◌<◌, ◌≤◌};
 ghost use Rattle.definition.specs.Quarters.{interleaved};
 ghost use Rattle.places.specs.Table.{places};
-ghost use Rattle.places.specs.Parts.{parts_around, AroundAsked};
+ghost use Rattle.places.specs.Parts.{parts_around, AroundAsked, ColumnParts};
 
 // The places of 32 by 32 entries, by row then column.
 const PLACES: [u16; 1024] = [
@@ -66,66 +66,10 @@ const PLACES: [u16; 1024] = [
 ];
 
 // The table. A call makes it once and lends it on: a read of the constant itself would write the whole table anew.
-pub fn table() -> [u16; 1024]
-    ensures { result ≡ places }
-{
-    PLACES
-}
-
-// The place of entry (a, b) of 32 by 32.
-fn small_place(table: &[u16; 1024], a: usize, b: usize) -> usize
-    requires { (table.now ≡ places) × (a < 32) × (b < 32) }
-    ensures { result ≡ interleaved 5 a b }
-{
-    table[a * 32 + b] as usize
-}
-
-// The place of entry (a, b) of any level (S 2.5): on levels of more than 32 by 32 entries, each place of (a / 32, b /
-// 32) stands for 1,024.
-pub fn place(table: &[u16; 1024], a: usize, b: usize) -> usize
-    requires { (table.now ≡ places) × (a < 256) × (b < 256) }
-    ensures { result ≡ interleaved 8 a b }
-{
-    let far = small_place(table, a / 32, b / 32);
-    let near = small_place(table, a % 32, b % 32);
-    1024 * far + near
-}
-
-// The row's part of a place: the place of entry (a, 0) of any level.
-pub fn row_part(table: &[u16; 1024], a: usize) -> usize
-    requires { (table.now ≡ places) × (a < 256) }
-    ensures { result ≡ interleaved 8 a 0 }
-{
-    place(table, a, 0)
-}
-
-// The column's part of a place: the place of entry (0, b) of any level.
-pub fn column_part(table: &[u16; 1024], b: usize) -> usize
-    requires { (table.now ≡ places) × (b < 256) }
-    ensures { result ≡ interleaved 8 0 b }
-{
-    place(table, 0, b)
-}
-
-// The row or column before x, or x where it is the first.
-pub fn before(x: usize) -> usize
-    ensures { result ≡ x - 1 }
-{
-    if x == 0 {
-        return 0;
-    }
-    x - 1
-}
-
-// The row or column after x, or x where it is the last of `side`.
-pub fn after(x: usize, side: usize) -> usize
-    requires { x < side }
-    ensures { result ≡ min (x + 1) (side - 1) }
-{
-    if x + 1 == side {
-        return x;
-    }
-    x + 1
+#[derive(Drop)]
+pub struct Table {
+    table: [u16; 1024],
+    ghost is_table: { table ≡ places },
 }
 
 // The parts of places around a cell: of the rows above, here and below, and of the columns left, here and right. The
@@ -141,18 +85,73 @@ pub struct Parts {
     pub right: usize,
 }
 
-// The parts around cell (row, column) of a map of side `side`.
-pub fn parts_around(table: &[u16; 1024], side: usize, row: usize, column: usize) -> Parts
-    requires table_value { table.now ≡ places }
-    requires around_asked { AroundAsked side row column }
-    ensures { result ≡ parts_around side row column }
-{
-    Parts {
-        above: row_part(table, before(row)),
-        row: row_part(table, row),
-        below: row_part(table, after(row, side)),
-        left: column_part(table, before(column)),
-        column: column_part(table, column),
-        right: column_part(table, after(column, side)),
+impl Table {
+    // The table, made.
+    pub fn new() -> Table {
+        Table { table: PLACES }
+    }
+
+    // The place of entry (a, b) of 32 by 32.
+    fn small_place(&self, a: usize, b: usize) -> usize
+        requires { (a < 32) × (b < 32) }
+        ensures { result ≡ interleaved 5 a b }
+    {
+        self.table[a * 32 + b] as usize
+    }
+
+    // The place of entry (a, b) of any level (S 2.5): on levels of more than 32 by 32 entries, each place of (a / 32,
+    // b / 32) stands for 1,024.
+    pub fn place(&self, a: usize, b: usize) -> usize
+        requires { (a < 256) × (b < 256) }
+        ensures { result ≡ interleaved 8 a b }
+    {
+        let far = self.small_place(a / 32, b / 32);
+        let near = self.small_place(a % 32, b % 32);
+        1024 * far + near
+    }
+
+    // The row's part of a place: the place of entry (a, 0) of any level.
+    pub fn row_part(&self, a: usize) -> usize
+        requires { a < 256 }
+        ensures { result ≡ interleaved 8 a 0 }
+    {
+        self.place(a, 0)
+    }
+
+    // The column's part of a place: the place of entry (0, b) of any level.
+    pub fn column_part(&self, b: usize) -> usize
+        requires { b < 256 }
+        ensures { result ≡ interleaved 8 0 b }
+    {
+        self.place(0, b)
+    }
+
+    // The columns' parts in the places of the cells of a map of side `side`, found once for all rows: a cell's place is
+    // its row's part and its column's, added.
+    pub fn column_parts(&self, side: usize) -> [usize; 256]
+        requires { side ≤ 256 }
+        ensures { ColumnParts side result }
+    {
+        let mut columns = [0; 256];
+        for b in 0..side {
+            columns[b] = self.column_part(b);
+        }
+        columns
+    }
+
+    // The parts around cell (row, column) of a map of side `side`.
+    pub fn parts_around(&self, side: usize, row: usize, column: usize) -> Parts
+        requires { AroundAsked side row column }
+        ensures { result ≡ parts_around side row column }
+    {
+        let last = side - 1;
+        Parts {
+            above: self.row_part(row.saturating_sub(1)),
+            row: self.row_part(row),
+            below: self.row_part((row + 1).min(last)),
+            left: self.column_part(column.saturating_sub(1)),
+            column: self.column_part(column),
+            right: self.column_part((column + 1).min(last)),
+        }
     }
 }

@@ -2,65 +2,16 @@
 -- `rest_found`).
 use Rattle.std.specs.Prelude.{◌≡◌, cond, List, ℕ, suc, ◌+◌, ◌*◌, ◌-◌, ◌^◌, ◌≤◌, ◌<◌, ltb, get_or}
 use Rattle.std.proofs.Math.Path.{sym, ap}
-use Rattle.std.proofs.Common.{ap₂, ◌∙◌, arith, mul-le-mul_right, suc-mul, add-one, pow_mono, Fits, lt-ltb, le-ltb}
-use Rattle.std.specs.Int.{w64}
-use Rattle.definition.specs.Answers.{comparison, before_at, after_at, compare_says}
+use Rattle.std.proofs.Common.{ap₂, ◌∙◌, arith, mul-le-mul_right, suc-mul, lt-ltb, le-ltb}
+use Rattle.definition.specs.Answers.{before_at, after_at, stands}
 use Rattle.definition.specs.Pyramid.{cell_count, place_in, row_at, column_at}
 use Rattle.definition.specs.Blocks.{burnt}
 use Rattle.definition.specs.Shelf.{pattern, first_difference}
 use Rattle.definition.specs.declared.CompareAnswer.{CompareAnswer}
-use Rattle.definition.specs.declared.CompareAnswer.TheVariants.{BeforeAt, AfterAt, Same}
+use Rattle.definition.specs.declared.CompareAnswer.TheVariants.{Same}
 use Rattle.integers.specs.Totals.{Total}
-use Rattle.quadtree.specs.Levels.{cells_few, row_place_lem, column_place_lem}
+use Rattle.quadtree.specs.Levels.{row_place_lem, column_place_lem}
 use Rattle.shelf_order.specs.Differences.{Three, less, equal, greater, three, step_less, step_greater, step_equal}
-use Rattle.plate_order.specs.TwoPlates.{PlatesAsked}
-
--- ---- what `differ_at` says
-module _ {x y : ℕ} (row column : ℕ) where
-  pub before_says : x < y
-      → compare_says (BeforeAt row column) ≡ comparison (cond (ltb x y) (before_at row column) (after_at row column))
-  unfolding compare_says
-  before_says h = rw (lt-ltb x y h)
-
-  pub after_says : y ≤ x
-      → compare_says (AfterAt row column) ≡ comparison (cond (ltb x y) (before_at row column) (after_at row column))
-  unfolding compare_says
-  after_says h = rw (le-ltb x y h)
-
--- ---- the numbers of the loops
-module _ {left right r n row : ℕ} (h : PlatesAsked left right r) (e : n ≡ 2 ^ r) (hr : row < n) where
-  pub side_small_lem : n ≤ 256
-  side_small_lem = rw e (pow_mono {i = r} {j = 8} h.powers)
-
-  pub row_fits : Fits w64 (row + 1)
-  row_fits = omega (arith, side_small_lem)
-
-  pub row_narrow : row < 2 ^ 32
-  row_narrow = omega (arith, side_small_lem)
-
-  module _ {column : ℕ} (hc : column < n) where
-    cell_in : (row * n + column < n * n) × (n * n ≤ 65536) × (n * n ≤ left) × (n * n ≤ right)
-    cell_in =
-        let within : row * n + column < n * n = omega (arith, mul-le-mul_right n hr, suc-mul row n) in
-        (within, rw e (cells_few r h.powers), rw e h.left_room, rw e h.right_room)
-
-    pub cell_fits : Fits w64 (row * n + column)
-    cell_fits = omega (arith, cell_in)
-
-    pub rows_fit : Fits w64 (row * n)
-    rows_fit = omega (arith, cell_in)
-
-    pub bytes_fit : Fits w64 ((row * n + column) * 4)
-    bytes_fit = omega (arith, cell_in)
-
-    pub in_left : row * n + column < left
-    in_left = omega (arith, cell_in)
-
-    pub in_right : row * n + column < right
-    in_right = omega (arith, cell_in)
-
-    pub column_narrow : column < 2 ^ 32
-    column_narrow = omega (arith, side_small_lem)
 
 -- ---- the search
 -- nothing differs before place i: what is found from there on is what is found
@@ -69,29 +20,15 @@ pub record Rest (a b : List ℕ) (r i : ℕ) : Type 0 where
       ≡ first_difference r (cell_count r - i) i (pattern a) (pattern b)
 
 module _ (a b : List ℕ) (r : ℕ) where
-  pub rest_none : (n : ℕ) → Rest a b r (0 * n)
-  rest_none n =
-      let z : 0 * n ≡ 0 = omega arith in
-      let w : cell_count r - 0 ≡ cell_count r = omega arith in
-      rw z (record { is = rw w })
-
   module _ (n row : ℕ) where
-    pub rest_start : Rest a b r (row * n) → Rest a b r (row * n + 0)
-    rest_start h = let e : row * n + 0 ≡ row * n = omega arith in rw e h
-
-    pub rest_row : (column : ℕ) → n ≡ column → Rest a b r (row * n + column) → Rest a b r ((row + 1) * n)
-    rest_row column e h =
-        let z : (row + 1) * n ≡ row * n + column = omega (arith, suc-mul row n, add-one row) in
-        rw z h
-
-    pub rest_end : n ≡ 2 ^ r → n ≤ row → Rest a b r (row * n) → {f : CompareAnswer} → f ≡ Same
-        → compare_says f ≡ comparison (first_difference r (cell_count r) 0 (pattern a) (pattern b))
-    unfolding compare_says first_difference
-    rest_end es le h e =
+    pub rest_end : n ≡ 2 ^ r → n ≤ row → Rest a b r (row * n)
+        → stands Same ≡ first_difference r (cell_count r) 0 (pattern a) (pattern b)
+    unfolding stands first_difference
+    rest_end es le h =
         let m : 2 ^ r * 2 ^ r ≤ row * n = rw (← es) (mul-le-mul_right n le) in
         let z : cell_count r - row * n ≡ 0 = omega (arith, m) in
         let none = ap (λ (k : ℕ). first_difference r k (row * n) (pattern a) (pattern b)) z in
-        ap compare_says e ∙ sym (ap comparison (h.is ∙ none))
+        sym (h.is ∙ none)
 
   -- at a cell, where the code has read the marks x and y
   module _ {n row column x y : ℕ} (es : n ≡ 2 ^ r) (hr : row < n) (hc : column < n)
@@ -126,9 +63,9 @@ module _ (a b : List ℕ) (r : ℕ) where
     column_is = rw es (unfold place_in in column_place_lem r row column (rw (← es) hc))
 
     pub rest_found : (x ≡ y → ⊥) → (f : CompareAnswer)
-        → compare_says f ≡ comparison (cond (ltb x y) (before_at row column) (after_at row column))
-        → compare_says f ≡ comparison (first_difference r (cell_count r) 0 (pattern a) (pattern b))
-    rest_found ne f e = e ∙ ap comparison (go (three x y) ∙ sym here)
+        → stands f ≡ cond (ltb x y) (before_at row column) (after_at row column)
+        → stands f ≡ first_difference r (cell_count r) 0 (pattern a) (pattern b)
+    rest_found ne f e = e ∙ go (three x y) ∙ sym here
       where
         go : Three x y → cond (ltb x y) (before_at row column) (after_at row column)
             ≡ first_difference r (suc (cell_count r - suc (row * n + column))) (row * n + column)

@@ -1,25 +1,24 @@
--- The two ways out of `convert`, by what Lower Text has answered on a buffer of 65,536 greys and an output with room
--- for the longest map text: the converted text (`convert_printed`), or the line of the refusal (`convert_refused`).
-use Rattle.std.specs.Prelude.{◌≡◌, refl, List, [], ◌∷◌, ◌++◌, ℕ, ◌*◌, ◌≤◌, drop}
+-- What `convert` prints, by what Lower Text has answered on a buffer of 65,536 greys and an output with room for the
+-- longest map text: the converted text, or the line of the refusal (`convert_answered`).
+use Rattle.std.specs.Prelude.{◌≡◌, refl, List, [], ◌∷◌, ◌++◌, ℕ, ◌*◌, ◌≤◌, drop, Result, Ok, Err}
 use Rattle.std.proofs.Math.Path.{sym, ap}
 use Rattle.std.proofs.Common.{◌∙◌, arith}
 use Rattle.std.proofs.Math.Nat.{suc-ne-zero}
 use Rattle.std.proofs.Math.ListN.{length}
-use Rattle.definition.specs.Answers.{returned, refused, text_says, number_of}
+use Rattle.definition.specs.Answers.{returned, refused, value_says, number_of}
 use Rattle.definition.specs.Lowering.{lowered}
 use Rattle.definition.specs.MapText.{map_text, Reading, accepted, rejected, read_map}
 use Rattle.definition.specs.LowerText.{LowerTextOutcome, text_kept, lower_text_of}
 use Rattle.definition.specs.Plate.{refused_text}
 use Rattle.definition.specs.Convert.{convert_of}
 use Rattle.definition.specs.declared.Refusal.{Refusal}
-use Rattle.definition.specs.declared.TextAnswer.{TextAnswer}
-use Rattle.definition.specs.declared.TextAnswer.TheVariants.{Length, Refused}
 use Rattle.refusals.specs.Powers.{side_positive, side_most}
 use Rattle.grammar.specs.Grammar.{MapOf}
 use Rattle.grammar.proofs.Grammar.{grammar}
 use Rattle.grammar.proofs.LowerText.{lowered_as_long, lower_text_outcome}
 use Rattle.decimals.specs.Writing.{length_decimal}
 use Rattle.decimals.specs.Printed.{Printed}
+use Rattle.program_texts.specs.Promised.{Answered}
 use Rattle.map_text.specs.Written.{MapLent, map_length}
 
 -- the longest map text
@@ -40,14 +39,14 @@ text_most {text} {side} {values} m =
     ))
 
 module _ (input buffer before : List ℕ) (whole : length buffer ≡ 65536) (room : 262148 ≤ length before)
-    {held after : List ℕ} (a : TextAnswer)
-    (promise : record { said = text_says a; greys = held; output = after } ≡ lower_text_of input buffer before) where
+    {held after : List ℕ} (a : Result ℕ Refusal)
+    (promise : record { said = value_says a; greys = held; output = after } ≡ lower_text_of input buffer before) where
   -- a text that the grammar has
   module _ {side : ℕ} {values : List ℕ} (q : read_map input 65536 ≡ accepted side values) where
     map_of : MapOf input (length buffer) side values
     map_of = rw whole ((grammar input 65536 side values).0 q)
 
-    left : ◌≡◌ {A = LowerTextOutcome} (record { said = text_says a; greys = held; output = after })
+    left : ◌≡◌ {A = LowerTextOutcome} (record { said = value_says a; greys = held; output = after })
         (record {
           said = returned (length input ∷ []);
           greys = lowered values ++ drop (side * side) buffer;
@@ -62,11 +61,11 @@ module _ (input buffer before : List ℕ) (whole : length buffer ≡ 65536) (roo
     unfolding convert_of
     is_text = rw (q, convert_of)
 
-    length_printed : {n : ℕ} → a ≡ Length n → Printed (convert_of input) before n after
-    unfolding text_says
+    length_printed : {n : ℕ} → a ≡ Ok n → Printed (convert_of input) before n after
+    unfolding value_says
     length_printed {n} e =
-        let said : text_says (Length n) ≡ returned (length input ∷ []) =
-        ap text_says (sym e) ∙ ap (λ (o : LowerTextOutcome). o.said) left in
+        let said : value_says (Ok n) ≡ returned (length input ∷ []) =
+        ap value_says (sym e) ∙ ap (λ (o : LowerTextOutcome). o.said) left in
         let n_is : n ≡ length input = cc in
         let as_long = lowered_as_long map_of in
         rw is_text
@@ -76,42 +75,44 @@ module _ (input buffer before : List ℕ) (whole : length buffer ≡ 65536) (roo
           written = rw as_long (ap (λ (o : LowerTextOutcome). o.output) left);
         })
 
-    not_refused : {why : Refusal} → a ≡ Refused why → ⊥
-    unfolding text_says
-    not_refused e = suc-ne-zero 0 (cc (ap text_says (sym e) ∙ ap (λ (o : LowerTextOutcome). o.said) left))
+    not_refused : {why : Refusal} → a ≡ Err why → ⊥
+    unfolding value_says
+    not_refused e = suc-ne-zero 0 (cc (ap value_says (sym e) ∙ ap (λ (o : LowerTextOutcome). o.said) left))
 
   -- a text that it hasn't
   module _ {k : ℕ} (q : read_map input 65536 ≡ rejected k) where
-    kept : ◌≡◌ {A = LowerTextOutcome} (record { said = text_says a; greys = held; output = after })
+    kept : ◌≡◌ {A = LowerTextOutcome} (record { said = value_says a; greys = held; output = after })
         (record { said = refused k; greys = buffer; output = before })
     unfolding lower_text_of text_kept
     kept = promise ∙ rw (whole, q, lower_text_of)
 
-    not_converted : {n : ℕ} → a ≡ Length n → ⊥
-    unfolding text_says
-    not_converted e = suc-ne-zero 0 (cc (ap text_says (sym e) ∙ ap (λ (o : LowerTextOutcome). o.said) kept))
+    not_converted : {n : ℕ} → a ≡ Ok n → ⊥
+    unfolding value_says
+    not_converted e = suc-ne-zero 0 (cc (ap value_says (sym e) ∙ ap (λ (o : LowerTextOutcome). o.said) kept))
 
-    refusal_printed : {why : Refusal} → a ≡ Refused why
-        → {last : List ℕ} {n : ℕ} → Printed (refused_text (number_of why)) after n last
-        → Printed (convert_of input) before n last
-    unfolding text_says convert_of
-    refusal_printed {why} e w =
+    refusal_left : {why : Refusal} → a ≡ Err why
+        → (convert_of input ≡ refused_text (number_of why)) × (after ≡ before)
+    unfolding value_says convert_of
+    refusal_left {why} e =
         let said : refused (number_of why) ≡ refused k =
-        ap text_says (sym e) ∙ ap (λ (o : LowerTextOutcome). o.said) kept in
+        ap value_says (sym e) ∙ ap (λ (o : LowerTextOutcome). o.said) kept in
         let k_is : number_of why ≡ k = cc in
-        rw (q, convert_of, ← k_is, ← ap (λ (o : LowerTextOutcome). o.output) kept) w
+        (rw (q, convert_of, k_is), ap (λ (o : LowerTextOutcome). o.output) kept)
 
-  pub convert_printed : {n : ℕ} → a ≡ Length n → Printed (convert_of input) before n after
-  convert_printed {n} e = go (read_map input 65536) refl
-    where
-      go : (o : Reading) → read_map input 65536 ≡ o → Printed (convert_of input) before n after
-      go (accepted side values) q = length_printed q e
-      go (rejected k) q = absurd (not_converted q e)
-
-  pub convert_refused : {why : Refusal} {number : ℕ} → a ≡ Refused why → number ≡ number_of why
-      → {last : List ℕ} {n : ℕ} → Printed (refused_text number) after n last → Printed (convert_of input) before n last
-  convert_refused {why} {number} e en {last} {n} w = go (read_map input 65536) refl
-    where
-      go : (o : Reading) → read_map input 65536 ≡ o → Printed (convert_of input) before n last
-      go (accepted side values) q = absurd (not_refused q e)
-      go (rejected k) q = refusal_printed q e (rw en at w)
+-- an answer that keeps the call's promise
+pub convert_answered : (input buffer before : List ℕ) → length buffer ≡ 65536 → 262148 ≤ length before
+    → {held after : List ℕ} (a : Result ℕ Refusal)
+    → record { said = value_says a; greys = held; output = after } ≡ lower_text_of input buffer before
+    → Answered (convert_of input) before a after
+unfolding Answered
+convert_answered input buffer before whole room {after = after} (Ok n) promise = go (read_map input 65536) refl
+  where
+    go : (o : Reading) → read_map input 65536 ≡ o → Printed (convert_of input) before n after
+    go (accepted side values) q = length_printed input buffer before whole room (Ok n) promise q refl
+    go (rejected k) q = absurd (not_converted input buffer before whole room (Ok n) promise q refl)
+convert_answered input buffer before whole room {after = after} (Err why) promise = go (read_map input 65536) refl
+  where
+    go : (o : Reading) → read_map input 65536 ≡ o
+        → (convert_of input ≡ refused_text (number_of why)) × (after ≡ before)
+    go (accepted side values) q = absurd (not_refused input buffer before whole room (Err why) promise q refl)
+    go (rejected k) q = refusal_left input buffer before whole room (Err why) promise q refl

@@ -1,8 +1,7 @@
--- The drill list of the finished sheet: Drill List isn't refused (`finished_not_refused`), and prints it
--- (`finished_printed`).
-use Rattle.std.specs.Prelude.{◌≡◌, refl, List, ℕ, ◌^◌, ◌≤◌, ◌<◌, length, drop, ℤ}
+-- The drill list of the finished sheet: Drill List isn't refused, and prints it (`finished_listed`).
+use Rattle.std.specs.Prelude.{◌≡◌, refl, List, ℕ, ◌^◌, ◌≤◌, ◌<◌, length, drop, ℤ, Result}
 use Rattle.std.proofs.Common.{ap, ◌∙◌, arith, pow_mono}
-use Rattle.definition.specs.Answers.{text_says}
+use Rattle.definition.specs.Answers.{value_says}
 use Rattle.definition.specs.Pyramid.{needed, cell_count}
 use Rattle.definition.specs.Diffusion.{plain}
 use Rattle.definition.specs.Model.{Halftone}
@@ -14,14 +13,11 @@ use Rattle.definition.specs.ByQuarters.{drill_list_by_quarters}
 use Rattle.definition.specs.Plate.{finished_of}
 use Rattle.definition.specs.declared.Progress.{Progress}
 use Rattle.definition.specs.declared.Refusal.{Refusal}
-use Rattle.definition.specs.declared.TextAnswer.{TextAnswer}
-use Rattle.definition.specs.declared.TextAnswer.TheVariants.{Length, Refused}
 use Rattle.refusals.specs.Powers.{side_pow}
 use Rattle.dots.proofs.Steps.{Sheet}
 use Rattle.guarantee.proofs.Lent.{held_of}
 use Rattle.guarantee.proofs.Listed.{listed_of, lists}
-use Rattle.decimals.specs.Printed.{Printed}
-use Rattle.program_texts.specs.Promised.{text_printed, not_refused_there}
+use Rattle.program_texts.specs.Promised.{Answered, text_answered}
 use Rattle.program_texts.specs.Lengths.{list_length}
 use Rattle.program_texts.specs.Finished.{finished_in, MapAsked, finished_sheet}
 
@@ -65,18 +61,15 @@ module _ (side : ℕ) (greys : List ℕ) {a b c : ℕ} (asked : MapAsked side gr
 
   module _ {progress : Progress} {p₁ : List ℤ} {s₁ o₁ : List ℕ}
       (e : record { progress = progress; pyramid = p₁; serials = s₁; order = o₁ } ≡ finished_in r greys p s o)
-      (answer : TextAnswer) {after : List ℕ}
-      (list : record { said = text_says answer; output = after }
+      (answer : Result ℕ Refusal) {after : List ℕ}
+      (list : record { said = value_says answer; output = after }
       ≡ drill_list_by_quarters progress p₁ s₁ o₁ out) where
-    answered : record { said = text_says answer; output = after } ≡ printed_in (drill_text r sheet) out
+    answered : record { said = value_says answer; output = after } ≡ printed_in (drill_text r sheet) out
     answered =
         list
         ∙ ap (λ (held : Held). listed_from held out) e
         ∙ sheet_listed side asked.lent.power sheet last (drop (needed r) p) (drop (cell_count r) s)
         (drop (cell_count r) o) out list_room
 
-    pub finished_printed : {n : ℕ} → answer ≡ Length n → Printed (drill_text r sheet) out n after
-    finished_printed q = text_printed (drill_text r sheet) out after answer answered list_room q
-
-    pub finished_not_refused : {why : Refusal} {n : ℕ} → answer ≡ Refused why → Printed (drill_text r sheet) out n after
-    finished_not_refused q = absurd (not_refused_there (drill_text r sheet) out after answer answered q)
+    pub finished_listed : Answered (drill_text r sheet) out answer after
+    finished_listed = text_answered (drill_text r sheet) out after answer answered list_room

@@ -1,7 +1,7 @@
--- What `sketch` prints: the lines of its page, written column by column (`totals_wrote`, `cap_wrote`); and the ways out
--- by what Sketch Quote has answered on buffers of 1,024 places, the page (`sketch_printed`) or the line of the refusal
+-- What `sketch` prints: the lines of its page, written column by column (`totals_wrote`, `cap_wrote`); and by what
+-- Sketch Quote has answered on buffers of 1,024 places, the page (`sketch_page_is`) or the line of the refusal
 -- (`sketch_refused`).
-use Rattle.std.specs.Prelude.{◌≡◌, List, [], ◌∷◌, ◌++◌, length, get_or}
+use Rattle.std.specs.Prelude.{◌≡◌, List, [], ◌∷◌, ◌++◌, length, get_or, Result, Ok, Err}
 use Rattle.std.proofs.Math.Path.{refl, sym, ap}
 use Rattle.std.proofs.Common.{◌∙◌, suc-ne-zero, length-take-le, take_at}
 use Prim.Native.Nat.{ℕ, zero, suc, ◌+◌, ◌*◌, ◌/◌, ◌%◌, ◌^◌, ◌≤◌, min}
@@ -30,7 +30,6 @@ use Rattle.definition.specs.Plate.{refused_text}
 use Rattle.definition.specs.Sketch.{cap_line, sketch_page, sketch_of_text}
 use Rattle.definition.specs.declared.Refusal.{Refusal}
 use Rattle.definition.specs.declared.SketchAnswer.{SketchAnswer}
-use Rattle.definition.specs.declared.SketchAnswer.TheVariants.{Quoted, Refused}
 use Rattle.refusals.specs.Powers.{power_of_small}
 use Rattle.grammar.proofs.Sketch.{sketch_none}
 use Rattle.decimals.specs.Writing.{column_text, Wrote, wrote_append, wrote_joined_none, wrote_joined_more}
@@ -114,69 +113,74 @@ module _ (level : ℕ) (text lows highs caps : List ℕ) (l : length lows ≡ 10
               let p = (sketch_none (power_of side) pairs level 1024).0 e in
               quoted side pairs (rw (room, q, c, e, sketch_quote_of)) (rw (q, e, sketch_of_text)) p.level p.enough
 
-  module _ {low high cap : List ℕ} (a : SketchAnswer)
+  module _ {low high cap : List ℕ} (a : Result SketchAnswer Refusal)
       (promise : record { said = sketch_says a; lows = low; highs = high; caps = cap }
       ≡ sketch_quote_of text level lows highs caps) where
-    said : {other : SketchAnswer} {o : SketchOutcome} → a ≡ other → sketch_quote_of text level lows highs caps ≡ o
-        → sketch_says other ≡ o.said
-    said e q = ap sketch_says (sym e) ∙ ap (λ (o : SketchOutcome). o.said) (promise ∙ q)
+    said : {o : SketchOutcome} → sketch_quote_of text level lows highs caps ≡ o → sketch_says a ≡ o.said
+    said q = ap (λ (o : SketchOutcome). o.said) (promise ∙ q)
 
-    module _ {side least greatest : ℕ} (e : a ≡ Quoted side least greatest) where
-      pub level_small : level ≤ 8
-      unfolding sketch_says sketch_kept
-      level_small =
-          elim way [
-            | kept n q p ↦ absurd (suc-ne-zero 0 (cc (said e q)))
-            | quoted side pairs q p k f ↦ omega (arith, power_of_small side)
-          ]
-
-      squares_few : 2 ^ level * 2 ^ level ≤ 1024
-      unfolding sketch_says sketch_kept
-      squares_few = elim way [ kept n q p ↦ absurd (suc-ne-zero 0 (cc (said e q))) | quoted side pairs q p k f ↦ f ]
-
-      -- `squares` is what the code has worked out for their number
-      pub squares_in : {squares : ℕ} → squares ≡ cell_count level → length cap ≡ 1024 → squares ≤ length cap
-      squares_in s long = omega (arith, squares_few)
-
-      pub squares_lent : {squares : ℕ} → squares ≡ cell_count level → length cap ≡ 1024
-          → SquaresLent level (length (take squares cap))
-      squares_lent {squares} s long =
-          let taken = length-take-le squares cap (squares_in s long) in
-          record { level = level_small; whole = taken ∙ s; few = omega (arith, taken, squares_few) }
-
-      pub sketch_printed : {squares : ℕ} → squares ≡ cell_count level → {out after : List ℕ} {n : ℕ}
-          → Printed (sketch_page level least greatest (take squares cap)) out n after
-          → Printed (sketch_of_text level text) out n after
-      unfolding sketch_says sketch_kept sketch_quoted
-      sketch_printed {squares} s w =
-          elim way [
-            | kept n q p ↦ absurd (suc-ne-zero 0 (cc (said e q)))
-            | quoted found pairs q p k f ↦
-                let r = power_of found in
-                let written = caps_of r (highs_of pairs) level in
-                let figures : returned (side ∷ least ∷ greatest ∷ [])
-                ≡ returned (found ∷ total_of (grey_total r (lows_of pairs)) ∷ total_of (grey_total r (highs_of pairs))
-                ∷ [])
-                = said e q in
-                let least_is : least ≡ total_of (grey_total r (lows_of pairs)) = cc in
-                let greatest_is : greatest ≡ total_of (grey_total r (highs_of pairs)) = cc in
-                let caps_are : cap ≡ written ++ drop (2 ^ level * 2 ^ level) caps
-                = ap (λ (o : SketchOutcome). o.caps) (promise ∙ q) in
-                let front : take squares cap ≡ written
-                = rw caps_are (take_at written (drop (2 ^ level * 2 ^ level) caps) squares
-                (length_caps r (highs_of pairs) level ∙ sym s)) in
-                rw p (rw (least_is, greatest_is, front) at w)
-          ]
-
-    pub sketch_refused : {why : Refusal} {number : ℕ} → a ≡ Refused why → number ≡ number_of why
-        → {out after : List ℕ} {n : ℕ} → Printed (refused_text number) out n after
-        → Printed (sketch_of_text level text) out n after
-    unfolding sketch_says sketch_kept sketch_quoted
-    sketch_refused {why} e en w =
+  module _ {low high cap : List ℕ} (figures : SketchAnswer)
+      (promise : record { said = sketch_says (Ok figures); lows = low; highs = high; caps = cap }
+      ≡ sketch_quote_of text level lows highs caps) where
+    pub level_small : level ≤ 8
+    unfolding sketch_says sketch_kept
+    level_small =
         elim way [
-          | kept n q p ↦
-              let number : refused (number_of why) ≡ refused n = said e q in
-              let n_is : number_of why ≡ n = cc in
-              rw p (rw (en, n_is) at w)
-          | quoted found pairs q p k f ↦ absurd (suc-ne-zero 0 (cc (said e q)))
+          | kept n q p ↦ absurd (suc-ne-zero 0 (cc (said (Ok figures) promise q)))
+          | quoted side pairs q p k f ↦ omega (arith, power_of_small side)
         ]
+
+    squares_few : 2 ^ level * 2 ^ level ≤ 1024
+    unfolding sketch_says sketch_kept
+    squares_few =
+        elim way [
+          | kept n q p ↦ absurd (suc-ne-zero 0 (cc (said (Ok figures) promise q)))
+          | quoted side pairs q p k f ↦ f
+        ]
+
+    -- `squares` is what the code has worked out for their number
+    pub squares_in : {squares : ℕ} → squares ≡ cell_count level → length cap ≡ 1024 → squares ≤ length cap
+    squares_in s long = omega (arith, squares_few)
+
+    pub squares_lent : {squares : ℕ} → squares ≡ cell_count level → length cap ≡ 1024
+        → SquaresLent level (length (take squares cap))
+    squares_lent {squares} s long =
+        let taken = length-take-le squares cap (squares_in s long) in
+        record { level = level_small; whole = taken ∙ s; few = omega (arith, taken, squares_few) }
+
+    pub sketch_page_is : {squares : ℕ} → squares ≡ cell_count level
+        → sketch_of_text level text ≡ sketch_page level figures.least figures.greatest (take squares cap)
+    unfolding sketch_says sketch_kept sketch_quoted
+    sketch_page_is {squares} s =
+        elim way [
+          | kept n q p ↦ absurd (suc-ne-zero 0 (cc (said (Ok figures) promise q)))
+          | quoted found pairs q p k f ↦
+              let r = power_of found in
+              let written = caps_of r (highs_of pairs) level in
+              let figures_are : returned (figures.side ∷ figures.least ∷ figures.greatest ∷ [])
+              ≡ returned (found ∷ total_of (grey_total r (lows_of pairs)) ∷ total_of (grey_total r (highs_of pairs))
+              ∷ [])
+              = said (Ok figures) promise q in
+              let least_is : figures.least ≡ total_of (grey_total r (lows_of pairs)) = cc in
+              let greatest_is : figures.greatest ≡ total_of (grey_total r (highs_of pairs)) = cc in
+              let caps_are : cap ≡ written ++ drop (2 ^ level * 2 ^ level) caps
+              = ap (λ (o : SketchOutcome). o.caps) (promise ∙ q) in
+              let front : take squares cap ≡ written
+              = rw caps_are (take_at written (drop (2 ^ level * 2 ^ level) caps) squares
+              (length_caps r (highs_of pairs) level ∙ sym s)) in
+              rw (least_is, greatest_is, front) p
+        ]
+
+  pub sketch_refused : {low high cap : List ℕ} (why : Refusal)
+      → record { said = sketch_says (Err why); lows = low; highs = high; caps = cap }
+      ≡ sketch_quote_of text level lows highs caps
+      → sketch_of_text level text ≡ refused_text (number_of why)
+  unfolding sketch_says sketch_kept sketch_quoted
+  sketch_refused why promise =
+      elim way [
+        | kept n q p ↦
+            let number : refused (number_of why) ≡ refused n = said (Err why) promise q in
+            let n_is : number_of why ≡ n = cc in
+            rw n_is p
+        | quoted found pairs q p k f ↦ absurd (suc-ne-zero 0 (cc (said (Err why) promise q)))
+      ]

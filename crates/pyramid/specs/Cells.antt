@@ -1,23 +1,20 @@
--- The cells filled from the greys, row after row (`one_more`, `one_row`, `all_rows`).
-use Rattle.std.specs.Prelude.{◌≡◌, List, ℕ, ◌+◌, ◌*◌, ◌/◌, ◌%◌, ◌^◌, ◌≤◌, ◌<◌, length, get_or, drop, set, ℤ, pos}
+-- The cells filled from the greys, row after row (`one_more`, `all_rows`).
+use Rattle.std.specs.Prelude.{◌≡◌, List, ℕ, ◌+◌, ◌*◌, ◌/◌, ◌%◌, ◌^◌, ◌≤◌, ◌<◌, length, get_or, set, ℤ, pos}
 use Rattle.std.proofs.Math.Path.{refl, sym}
 use Rattle.std.proofs.Common.{ap₂, ◌∙◌, arith, length-set, pow_mono, Fits, to_z, of_z}
 use Rattle.std.proofs.Math.Nat.{mul-le-mul_right}
-use Rattle.std.proofs.Math.ListN.{get_or-append}
 use Rattle.std.specs.Int.Signed.{mag}
 use Rattle.std.specs.Int.{w64}
-use Rattle.definition.specs.Lists.{tabulate}
 use Rattle.definition.specs.Pyramid.{cell_count, place_in, row_at, column_at}
 use Rattle.definition.specs.Blocks.{grey_at}
 use Rattle.definition.specs.Quarters.{interleaved, quarter_level}
-use Rattle.integers.specs.Fill.{filled}
-use Rattle.integers.specs.Lists.{length_tabulate, get_d_tabulate}
 use Rattle.integers.specs.Machine.{back64}
 use Rattle.quadtree.specs.Levels.{cell_lt, cells_few, row_place_lem, column_place_lem}
 use Rattle.layouts.specs.Filling.{Filling, none_filled, one_filled, all_filled, place_in_lem}
 use Rattle.layouts.specs.Interleaved.{interleaved_lt}
 use Rattle.places.specs.Parts.{place_parts}
-use Rattle.pyramid.specs.PyramidPart.{residual_of, residual_at, ColumnParts, RowAsked, MoreFilled, CellsAsked}
+use Rattle.places.specs.Parts.{ColumnParts}
+use Rattle.pyramid.specs.PyramidPart.{residual_of, residual_at, RowAsked, MoreFilled, CellsAsked}
 
 -- ---- `side` is what the code has worked out
 pub side_few : {r side : ℕ} → r ≤ 8 → side ≡ 2 ^ r → side ≤ 256
@@ -28,19 +25,6 @@ line_few h e lt = omega (arith, side_few h e)
 
 pub below_side : {n side a : ℕ} → side ≡ n → a < n → a < side
 below_side e lt = omega arith
-
--- ---- the columns' parts: one of those found, and all found
-found : (n : ℕ) (before : List ℕ) (b : ℕ) → b < n
-    → get_or (filled (interleaved 8 0) n before) b 0 ≡ interleaved 8 0 b
-unfolding filled
-found n before b lt =
-    let parts = tabulate n (interleaved 8 0) in
-    let among : b < length parts = omega (arith, length_tabulate 0 n (interleaved 8 0)) in
-    get_or-append parts (drop n before) 0 b among ∙ get_d_tabulate n (interleaved 8 0) b 0 lt
-
-pub columns_found : {side n : ℕ} (before : List ℕ) {columns : List ℕ} → side ≤ n
-    → columns ≡ filled (interleaved 8 0) n before → ColumnParts side columns
-columns_found {n = n} before ge e = record { is = λ b lt. rw e (found n before b (omega arith)) }
 
 -- ---- a cell of a row
 module _ {part : ℕ} {columns : List ℕ} {greys first row r side : ℕ} (h : RowAsked part columns greys first row r)
@@ -65,9 +49,6 @@ module _ {part : ℕ} {columns : List ℕ} {greys first row r side : ℕ} (h : R
 
     pub column_few : column < 256
     column_few = line_few h.most es lt
-
-    pub column_scaled : Fits w64 (column * 8)
-    column_scaled = omega (arith, column_few)
 
     place_is : first + get_or columns column 0 ≡ interleaved 8 row column
     place_is = rw (h.begins, h.across.is column across) (sym (place_parts 8 row column))
@@ -147,12 +128,6 @@ module _ {r side : ℕ} (es : side ≡ 2 ^ r) where
 
   module _ (greys : List ℕ) (row : ℕ) {part before : List ℤ}
       (done : Filling r (residual_of greys) part (row * side) before) where
-    pub one_row : {now : List ℤ} → MoreFilled r greys (row * 2 ^ r) (row * 2 ^ r + 2 ^ r) before now
-        → Filling r (residual_of greys) part ((row + 1) * side) now
-    one_row more =
-        let e : (row + 1) * 2 ^ r ≡ row * 2 ^ r + 2 ^ r = omega arith in
-        rw (es, e) (more.more part (rw es at done))
-
     pub all_rows : side ≤ row → before ≡ quarter_level r (residual_at r greys)
     unfolding grey_at place_in
     all_rows ge =

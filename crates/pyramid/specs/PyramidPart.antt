@@ -5,6 +5,7 @@ use Rattle.definition.specs.Pyramid.{cell_count, needed, start, level_of, pyrami
 use Rattle.definition.specs.Blocks.{grey_at}
 use Rattle.definition.specs.Quarters.{interleaved}
 use Rattle.layouts.specs.Filling.{Filling}
+use Rattle.places.specs.Parts.{ColumnParts}
 
 -- the residual of a cell at the start, by its number and by its row and column, and the pyramid that a map starts with,
 -- row after row
@@ -63,10 +64,6 @@ pub record CellsAsked (part : List ℤ) (greys r : ℕ) : Type 0 where
   pub most : r ≤ 8
   pub whole : length part ≡ cell_count r
   pub enough : cell_count r ≤ greys
-
--- a list of the columns' parts in the places of the cells of a map of side `side`
-pub record ColumnParts (side : ℕ) (columns : List ℕ) : Type 0 where
-  pub is : (b : ℕ) → b < side → get_or columns b 0 ≡ interleaved 8 0 b
 
 -- the lengths `part` and `greys` of the same, the columns' parts in the places of cells, and a row whose part is
 -- `first`

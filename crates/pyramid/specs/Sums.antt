@@ -1,6 +1,6 @@
 -- One level filled from the next finer one, which lies behind it (`filled_level`): the four below the entry at place i
 -- lie side by side (`four_are`).
-use Rattle.std.specs.Prelude.{◌≡◌, List, ◌++◌, ℕ, ◌+◌, ◌*◌, ◌-◌, ◌^◌, ◌≤◌, ◌<◌, length, get_or, drop, ℤ, pos}
+use Rattle.std.specs.Prelude.{◌≡◌, List, ◌++◌, ℕ, ◌+◌, ◌*◌, ◌-◌, ◌^◌, ◌≤◌, ◌<◌, get_or, drop, ℤ, pos}
 use Rattle.std.proofs.Math.Path.{refl, ap₂}
 use Rattle.std.proofs.Common.{sym, ap, ◌∙◌, arith, get_or-drop, drop-drop}
 use Rattle.std.proofs.Math.IntN.{◌+ℤ◌}
@@ -39,11 +39,6 @@ module _ (part : List ℤ) (size i : ℕ) where
 
 pub asked_size : {part : List ℤ} {n size : ℕ} → size ≡ n → SumsAsked part n → SumsAsked part size
 asked_size e h = rw e h
-
--- a place of the first level is one of the part's, however far it is filled
-pub in_filled : (part : List ℤ) (size : ℕ) → SumsAsked part size → (f : ℕ → ℤ) (n : ℕ) → n < size
-    → n < length (filled f n part)
-in_filled part size h f n lt = omega (arith, h.whole, length_filled f n part (omega (arith, h.whole)))
 
 -- what is stored in the first level is not read for it
 module _ (part : List ℤ) (size : ℕ) (h : SumsAsked part size) (f : ℕ → ℤ) (n : ℕ) (le : n ≤ size) where

@@ -6,32 +6,17 @@ ghost use Rattle.std.specs.Prelude.{◌≡◌, ◌++◌, ◌+◌, ◌*◌, ◌^�
 ghost use Rattle.definition.specs.Pyramid.{start, cell_count};
 ghost use Rattle.definition.specs.Quarters.{quarter_level, quarters_from};
 ghost use Rattle.layouts.specs.Sums.{four_from, coarser_from, quarters_over};
-ghost use Rattle.places.specs.Table.{places};
 ghost use Rattle.pyramid.specs.PyramidPart.{residual_at, four_at, fresh_pyramid};
 ghost use Rattle.pyramid.specs.PyramidPart.{FourAsked, SumsAsked, Whole, SmallCells, CellsAsked, FillAsked};
-ghost use Rattle.pyramid.specs.PyramidPart.{ColumnParts, RowAsked, MoreFilled};
+ghost use Rattle.pyramid.specs.PyramidPart.{RowAsked, MoreFilled};
+
+use places::Table;
 
 // A cell's residual at the start: 256 x grey (S 3.9).
 fn residual(grey: u8) -> i64
     ensures { result ≡ pos (256 * grey) }
 {
     256 * (grey as i64)
-}
-
-// The columns' parts in the places of the cells of a map of side `side`, found once for all rows: a cell's place is its
-// row's part and its column's, added.
-fn column_parts(table: &[u16; 1024], side: usize) -> [usize; 256]
-    requires side_bound { side ≤ 256 }
-    requires table_value { table.now ≡ places }
-    ensures { ColumnParts side result }
-{
-    let mut columns = [0; 256];
-    let mut b = 0;
-    while b < side {
-        columns[b] = places::column_part(table, b);
-        b += 1;
-    }
-    columns
 }
 
 // Fills one row of level r, which is the whole part, with the residuals of its greys. `first` is the row's part in the
@@ -48,29 +33,21 @@ fn fill_row(
     ensures { MoreFilled r greys.now (row * 2 ^ r) (row * 2 ^ r + 2 ^ r) part.old part.new }
 {
     let side = sizes::pow2(r);
-    let mut column = 0;
-    while column < side {
-        let z = residual(greys[row * side + column]);
-        let at = first + columns[column];
-        part[at] = z;
-        column += 1;
+    for column in 0..side {
+        part[first + columns[column]] = residual(greys[row * side + column]);
     }
 }
 
 // Fills level r, which is the whole part, with the residuals of the greys, each at the place of its cell: row after
 // row.
-fn fill_cells(part: &mut [i64], table: &[u16; 1024], greys: &[u8], r: usize)
-    requires cells_asked { CellsAsked part.old (length greys.now) r }
-    requires table_value { table.now ≡ places }
+fn fill_cells(part: &mut [i64], table: &Table, greys: &[u8], r: usize)
+    requires { CellsAsked part.old (length greys.now) r }
     ensures { part.new ≡ quarter_level r (residual_at r greys.now) }
 {
     let side = sizes::pow2(r);
-    let columns = column_parts(table, side);
-    let mut row = 0;
-    while row < side {
-        let first = places::row_part(table, row);
-        fill_row(part, &columns, greys, first, row, r);
-        row += 1;
+    let columns = table.column_parts(side);
+    for row in 0..side {
+        fill_row(part, &columns, greys, table.row_part(row), row, r);
     }
 }
 
@@ -101,11 +78,8 @@ fn fill_level(part: &mut [i64], k: usize)
         ≡ coarser_from k (drop (cell_count k) part.old) ++ drop (cell_count k) part.old }
 {
     let size = sizes::cell_count(k);
-    let mut i = 0;
-    while i < size {
-        let sum = sum_below(part, size, i);
-        part[i] = sum;
-        i += 1;
+    for i in 0..size {
+        part[i] = sum_below(part, size, i);
     }
 }
 
@@ -123,9 +97,8 @@ fn sum_up(part: &mut [i64], k: usize)
 }
 
 // Fills a pyramid of power r (S 2.4), of just the needed length, from the greys.
-pub fn fill_pyramid(part: &mut [i64], table: &[u16; 1024], greys: &[u8], r: usize)
-    requires fill_asked { FillAsked part.old (length greys.now) r }
-    requires table_value { table.now ≡ places }
+pub fn fill_pyramid(part: &mut [i64], table: &Table, greys: &[u8], r: usize)
+    requires { FillAsked part.old (length greys.now) r }
     ensures { part.new ≡ quarters_from r (fresh_pyramid r greys.now) }
 {
     let off = sizes::level_start(r);

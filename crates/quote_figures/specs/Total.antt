@@ -6,19 +6,7 @@ use Rattle.definition.specs.Pyramid.{cell_number}
 use Rattle.definition.specs.Blocks.{block_side, grey_at, grey_sum, grey_total, total_of}
 use Rattle.quadtree.specs.Areas.{block_most}
 use Rattle.quadtree.specs.Levels.{block_side_lem, cells_few}
-use Rattle.blocks.specs.Blocks.{BlockAsked}
 use Rattle.quote_figures.specs.MapLent.{MapLent}
-
-pub whole_map : {r lent : ℕ} → MapLent r lent → BlockAsked lent r 0 0 0
-whole_map h =
-    record {
-      power = h.power;
-      powers = h.powers;
-      level = omega arith;
-      above = omega arith;
-      before = omega arith;
-      room = h.room;
-    }
 
 pub total_is : (r : ℕ) (greys : List ℕ) {sum n : ℕ} → sum ≡ grey_sum r greys 0 0 0 → n ≡ total_of sum
     → n ≡ total_of (grey_total r greys)

@@ -19,16 +19,14 @@ pub fn total_dots(r: usize, greys: &[u8]) -> u64
 }
 
 // The cap of a square of side s with a grey sum (S 8.3).
+#[tactic(auto, unfolding(definition::specs::QuotePage::quote_cap))]
 pub fn quote_cap(s: u64, grey: u64) -> u64
     requires { (s ≤ 256) × (grey < 2 ^ 32) }
     ensures { result ≡ quote_cap s grey }
 {
     let square = s * s;
     let quotient = (3 * grey + 764 + 1020 * s) / 765;
-    if quotient < square {
-        return quotient;
-    }
-    square
+    quotient.min(square)
 }
 
 // The cap of the square with number i of level k, by row then column.
@@ -50,9 +48,7 @@ pub fn put_caps(greys: &[u8], r: usize, k: usize, caps: &mut [u32])
     ensures { caps.new ≡ caps_of r greys.now k ++ drop (2 ^ k * 2 ^ k) caps.old }
 {
     let count = sizes::cell_count(k);
-    let mut i = 0;
-    while i < count {
-        caps[i] = block_cap(greys, r, k, i);
-        i += 1;
+    for (i, cap) in caps[..count].iter_mut().enumerate() {
+        *cap = block_cap(greys, r, k, i);
     }
 }

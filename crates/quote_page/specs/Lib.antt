@@ -1,4 +1,3 @@
 pub mod Lines
 pub mod Page
-pub mod Checks
 pub mod WaysOut

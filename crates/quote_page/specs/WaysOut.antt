@@ -1,24 +1,21 @@
 -- The ways out of Quote Page: refused with nothing changed (`page_refused`), and the page written (`page_written`).
-use Rattle.std.specs.Prelude.{◌≡◌, List, ℕ, ◌≤◌, ◌<◌, ltb, eqb, length, get_or}
+use Rattle.std.specs.Prelude.{◌≡◌, List, ℕ, ◌≤◌, ◌<◌, ltb, eqb, length, get_or, Result, Ok, Err}
 use Rattle.std.proofs.Math.Path.{sym}
 use Rattle.std.proofs.Common.{◌∙◌, arith, lt-ltb, ltb-false, Fits}
 use Rattle.std.proofs.Math.Decide.{dec_lt}
 use Rattle.std.proofs.Math.Nat.{zero-add}
 use Rattle.std.proofs.lemmas.Bool.{eqb-false}
 use Rattle.std.specs.Int.{w8}
-use Rattle.definition.specs.Answers.{text_says}
+use Rattle.definition.specs.Answers.{value_says}
 use Rattle.definition.specs.Pyramid.{cell_count}
 use Rattle.definition.specs.Refusals.{power_of, lowest}
 use Rattle.definition.specs.Text.{text_into}
 use Rattle.definition.specs.QuotePage.{quote_text, quote_page_refusal, quote_page_of}
 use Rattle.definition.specs.declared.Refusal.{Refusal}
-use Rattle.definition.specs.declared.TextAnswer.TheVariants.{Length, Refused}
 use Rattle.refusals.specs.Powers.{power_small}
 use Rattle.refusals.specs.Lowest.{lowest_none}
 use Rattle.refusals.specs.Numbers.{number_positive}
 use Rattle.checks.specs.Checks.{checked, passed_none, failed_number}
-use Rattle.checks.specs.declared.Check.{Check}
-use Rattle.checks.specs.declared.Check.TheVariants.{Passed, Failed}
 use Rattle.decimals.specs.Writing.{Wrote, sets_front}
 use Rattle.quote_page.specs.Page.{PageAsked, page_length, page_length_lem}
 
@@ -54,32 +51,30 @@ none_refused r g s k page output e =
     }
 
 module _ (side : ℕ) (g : List ℕ) (bytes : (i : ℕ) → Fits w8 (get_or g i 0)) (s : List ℕ) (k : ℕ) (output : List ℕ)
-    {r : ℕ}
-    (er : r ≡ power_of side) (check : Check)
-    (e : checked check ≡ quote_page_refusal r (length g) (length s) k (page_length k) (length output)) where
+    {r : ℕ} (er : r ≡ power_of side) where
   abbrev page : List ℕ
   page = quote_text r g s k
 
-  -- what the check found is what the definition says
-  refusal_is : checked check ≡ quote_page_refusal r (length g) (length s) k (length page) (length output)
-  refusal_is =
-      e
-      ∙ same_refusal r (length g) (length s) k (page_length k) (length page) (length output)
-      (λ level. sym (page_length_lem g s (power_small side er) level (λ i. omega (arith, bytes i))))
+  abbrev refusal : ℕ
+  refusal = quote_page_refusal r (length g) (length s) k (page_length k) (length output)
 
-  outcome_is : {n : ℕ} → quote_page_refusal r (length g) (length s) k (length page) (length output) ≡ n
-      → quote_page_of side g s k output ≡ text_into n page output
+  -- what the check finds is what the definition says
+  outcome_is : {n : ℕ} → refusal ≡ n → quote_page_of side g s k output ≡ text_into n page output
   unfolding quote_page_of
-  outcome_is z = rw (← er, z)
+  outcome_is z =
+      let same =
+      same_refusal r (length g) (length s) k (page_length k) (length page) (length output)
+      (λ level. sym (page_length_lem g s (power_small side er) level (λ i. omega (arith, bytes i)))) in
+      rw (← er, sym same ∙ z)
 
-  pub page_refused : {why : Refusal} → check ≡ Failed why
-      → record { said = text_says (Refused why); output = output } ≡ quote_page_of side g s k output
-  unfolding text_into text_says
-  page_refused {why} failed = sym (outcome_is (failed_number check refusal_is why failed) ∙ rw (← number_positive why))
+  pub page_refused : (why : Refusal) → checked (Err why) ≡ refusal → {a : Result ℕ Refusal} → a ≡ Err why
+      → record { said = value_says a; output = output } ≡ quote_page_of side g s k output
+  unfolding text_into value_says
+  page_refused why e ea = rw ea (sym (outcome_is (failed_number why e) ∙ rw (← number_positive why)))
 
-  module _ (passed : check ≡ Passed) where
-    lent : Lent r (length g) (length s) k (length page) (length output)
-    lent = none_refused r (length g) (length s) k (length page) (length output) (passed_none check refusal_is passed)
+  module _ (e : checked (Ok tt) ≡ refusal) where
+    lent : Lent r (length g) (length s) k (page_length k) (length output)
+    lent = none_refused r (length g) (length s) k (page_length k) (length output) (passed_none e)
 
     pub page_asked : PageAsked g s r k
     page_asked =
@@ -93,8 +88,9 @@ module _ (side : ℕ) (g : List ℕ) (bytes : (i : ℕ) → Fits w8 (get_or g i 
         }
 
     pub page_written : {n : ℕ} {after : List ℕ} → Wrote output 0 page n after
-        → record { said = text_says (Length n); output = after } ≡ quote_page_of side g s k output
-    unfolding text_into text_says
+        → record { said = value_says (Ok n); output = after } ≡ quote_page_of side g s k output
+    unfolding text_into value_says
     page_written w =
-        sym (outcome_is (passed_none check refusal_is passed)
-        ∙ rw (w.stored, sets_front page output lent.room, w.place, zero-add (length page)))
+        let long = page_length_lem g s (power_small side er) lent.level (λ i. omega (arith, bytes i)) in
+        sym (outcome_is (passed_none e)
+        ∙ rw (w.stored, sets_front page output (omega (arith, lent.room, long)), w.place, zero-add (length page)))

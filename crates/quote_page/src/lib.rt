@@ -5,15 +5,14 @@
 
 ghost use Rattle.std.specs.Prelude.{◌≡◌, ◌^◌, ◌<◌, ◌≤◌};
 ghost use Rattle.definition.specs.Lists.{joined};
-ghost use Rattle.definition.specs.Answers.{text_says};
+ghost use Rattle.definition.specs.Answers.{value_says};
 ghost use Rattle.definition.specs.QuotePage.{columns, aligned_line, quote_line, quote_text, quote_page_refusal};
 ghost use Rattle.definition.specs.QuotePage.{quote_page_of};
 ghost use Rattle.decimals.specs.Writing.{Wrote};
 ghost use Rattle.checks.specs.Checks.{checked};
 ghost use Rattle.quote_page.specs.Page.{PageAsked, page_length};
 
-use checks::Check;
-use definition::{Refusal, TextAnswer};
+use definition::Refusal;
 
 // A line of five figures in columns (S 6.5).
 fn put_line(
@@ -28,11 +27,11 @@ fn put_line(
     requires { at ≤ 2 ^ 61 }
     ensures { Wrote out.old at (aligned_line (columns row column grey dots cap)) result out.new }
 {
-    let second = decimals::put_column(out, at, 3, row, 32);
-    let third = decimals::put_column(out, second, 3, column, 32);
-    let fourth = decimals::put_column(out, third, 8, grey, 32);
-    let fifth = decimals::put_column(out, fourth, 5, dots, 32);
-    decimals::put_column(out, fifth, 5, cap, 10)
+    let second = decimals::put_column(out, at, 3, row, b' ');
+    let third = decimals::put_column(out, second, 3, column, b' ');
+    let fourth = decimals::put_column(out, third, 8, grey, b' ');
+    let fifth = decimals::put_column(out, fourth, 5, dots, b' ');
+    decimals::put_column(out, fifth, 5, cap, b'\n')
 }
 
 // The line of the block (row, column) of level k.
@@ -71,12 +70,9 @@ fn put_row(
     ensures { Wrote out.old from (joined (2 ^ k) (quote_line r greys.now serials.now k row))
         result out.new }
 {
-    let count = sizes::pow2(k);
     let mut at = from;
-    let mut column = 0;
-    while column < count {
+    for column in 0..sizes::pow2(k) {
         at = put_block(out, at, greys, serials, r, k, row, column);
-        column += 1;
     }
     at
 }
@@ -86,39 +82,38 @@ fn put_page(out: &mut [u8], greys: &[u8], serials: &[u32], r: usize, k: usize) -
     requires { PageAsked greys.now serials.now r k }
     ensures { Wrote out.old 0 (quote_text r greys.now serials.now k) result out.new }
 {
-    let count = sizes::pow2(k);
     let mut at = 0;
-    let mut row = 0;
-    while row < count {
+    for row in 0..sizes::pow2(k) {
         at = put_row(out, at, greys, serials, r, k, row);
-        row += 1;
     }
     at
 }
 
 // The refusals 1, 2, 4, 6, 8 (S 5.2), for lengths lent.
-fn check_quote(r: usize, greys: usize, serials: usize, k: usize, out: usize) -> Check
+#[tactic(auto, unfolding(checks::specs::Checks::checked, definition::specs::Answers::number_of, // the number it says
+definition::specs::Refusals::lowest, definition::specs::QuotePage::quote_page_refusal))]
+fn check_quote(r: usize, greys: usize, serials: usize, k: usize, out: usize) -> Result<(), Refusal>
     requires { r ≤ 8 }
     ensures { checked result ≡ quote_page_refusal r greys serials k (page_length k) out }
 {
     if r == 0 {
-        return Check::Failed(Refusal::SideUnknown);
+        return Err(Refusal::SideUnknown);
     }
     let cells = sizes::cell_count(r);
     if greys < cells {
-        return Check::Failed(Refusal::GreysShort);
+        return Err(Refusal::GreysShort);
     }
     if serials < cells {
-        return Check::Failed(Refusal::SheetShort);
+        return Err(Refusal::SheetShort);
     }
     if r < k {
-        return Check::Failed(Refusal::BlockUnknown);
+        return Err(Refusal::BlockUnknown);
     }
     let page = 29 * sizes::cell_count(k);
     if out < page {
-        return Check::Failed(Refusal::OutputShort);
+        return Err(Refusal::OutputShort);
     }
-    Check::Passed
+    Ok(())
 }
 
 // Quote Page (S 8.4): the page of a level, or a refusal with nothing written. It reads each cell once.
@@ -128,17 +123,15 @@ pub fn quote_page(
     serials: &[u32],
     level: u32,
     out: &mut [u8],
-) -> TextAnswer
+) -> Result<usize, Refusal>
     ensures { record {
-      said = text_says result;
+      said = value_says result;
       output = out.new;
     }
         ≡ quote_page_of side greys.now serials.now level out.old }
 {
     let r = sizes::power_of(side);
     let k = level as usize;
-    match check_quote(r, greys.len(), serials.len(), k, out.len()) {
-        Check::Failed(why) => TextAnswer::Refused(why),
-        Check::Passed => TextAnswer::Length(put_page(out, greys, serials, r, k)),
-    }
+    check_quote(r, greys.len(), serials.len(), k, out.len())?;
+    Ok(put_page(out, greys, serials, r, k))
 }

@@ -1,10 +1,11 @@
 -- Relay's check (`relay_sound`, `relay_unsound`), and its two ways out: refused, with nothing changed (`refused_is`),
 -- and the second pyramid written (`relaid_is`).
 use Rattle.std.specs.Prelude.{◌≡◌, refl, Bool, true, false, cond, not, ◌||◌, List, ◌++◌, ltb, eqb, length, drop, ℤ}
+use Rattle.std.specs.Prelude.{Result, Ok, Err}
 use Rattle.std.proofs.Common.{sym, ◌∙◌, arith, lt-ltb, le-ltb}
 use Prim.Native.Nat.{ℕ, suc, ◌-◌, ◌<◌, min}
 use Rattle.std.proofs.Math.Decide.{dec_lt}
-use Rattle.definition.specs.Answers.{relay_says, number_of}
+use Rattle.definition.specs.Answers.{done_says, number_of}
 use Rattle.definition.specs.Pyramid.{needed, cell_count}
 use Rattle.definition.specs.Refusals.{power_of, lowest}
 use Rattle.definition.specs.Sound.{is_sound}
@@ -14,12 +15,9 @@ use Rattle.definition.specs.ByQuarters.{relay_refusal, relay_of}
 use Rattle.definition.specs.declared.Progress.{Progress}
 use Rattle.definition.specs.declared.Refusal.{Refusal}
 use Rattle.definition.specs.declared.Refusal.TheVariants.{SheetUnsound}
-use Rattle.definition.specs.declared.RelayAnswer.TheVariants.{Relaid, Refused}
 use Rattle.refusals.specs.Powers.{power_small}
 use Rattle.refusals.specs.Numbers.{number_positive}
 use Rattle.checks.specs.Checks.{checked, passed_none, failed_number}
-use Rattle.checks.specs.declared.Check.{Check}
-use Rattle.checks.specs.declared.Check.TheVariants.{Passed, Failed}
 use Rattle.sheet.specs.Sheets.{SheetLent, sheet_lent, shown_rows, lengths_failed, lengths_passed, is_sound_lem}
 use Rattle.sheet.specs.Sheets.{is_unsound}
 use Rattle.relay.specs.Laying.{LevelsAsked}
@@ -54,24 +52,26 @@ relay_rows r knit p q s o sound =
 
 -- ---- the check; `lent` is the shorter length
 module _ (r knit dots : ℕ) (p : List ℤ) (s o : List ℕ) (second : ℕ) {lent : ℕ}
-    (el : lent ≡ min (length p) second) (lengths : Check)
-    (e : checked lengths ≡ advance_refusal r knit lent (length s) (length o) true) where
+    (el : lent ≡ min (length p) second) where
   abbrev sound : Bool
   sound = is_sound r (sheet_in r dots p s o)
 
   abbrev refusal : ℕ
   refusal = relay_refusal r knit (length p) second (length s) (length o) (is_sound r (sheet_in r dots p s o))
 
+  abbrev first : ℕ
+  first = advance_refusal r knit lent (length s) (length o) true
+
   as_shorter : advance_refusal r knit lent (length s) (length o) sound ≡ refusal
   as_shorter = rw el (sym (relay_rows r knit (length p) second (length s) (length o) sound))
 
-  pub relay_failed : {why : Refusal} → lengths ≡ Failed why → checked (Failed why) ≡ refusal
-  relay_failed failed = lengths_failed r knit lent (length s) (length o) lengths e sound failed ∙ as_shorter
+  pub relay_failed : (why : Refusal) → checked (Err why) ≡ first → checked (Err why) ≡ refusal
+  relay_failed why e = lengths_failed r knit lent (length s) (length o) sound why e ∙ as_shorter
 
-  module _ (passed : lengths ≡ Passed) where
+  module _ (e : checked (Ok tt) ≡ first) where
     pub relay_lent : SheetLent r (length p) (length s) (length o)
     relay_lent =
-        let h = lengths_passed r knit lent (length s) (length o) lengths e passed in
+        let h = lengths_passed r knit lent (length s) (length o) e in
         record {
           power = h.power;
           pyramid_long = omega (arith, el, h.pyramid_long);
@@ -80,37 +80,39 @@ module _ (r knit dots : ℕ) (p : List ℤ) (s o : List ℕ) (second : ℕ) {len
         }
 
     module _ {b : Bool} (eb : b ≡ is_sound r (sheet_in r dots (shown_rows true r p) s o)) where
-      pub relay_sound : b ≡ true → checked Passed ≡ refusal
+      pub relay_sound : b ≡ true → checked (Ok tt) ≡ refusal
       unfolding shown_rows
-      relay_sound yes' = is_sound_lem r knit lent (length s) (length o) lengths e passed sound eb yes' ∙ as_shorter
+      relay_sound yes' = is_sound_lem r knit lent (length s) (length o) e sound eb yes' ∙ as_shorter
 
-      pub relay_unsound : b ≡ false → checked (Failed SheetUnsound) ≡ refusal
+      pub relay_unsound : b ≡ false → checked (Err SheetUnsound) ≡ refusal
       unfolding shown_rows
-      relay_unsound no' = is_unsound r knit lent (length s) (length o) lengths e passed sound eb no' ∙ as_shorter
+      relay_unsound no' = is_unsound r knit lent (length s) (length o) e sound eb no' ∙ as_shorter
 
 -- ---- the call
 module _ (progress : Progress) (p : List ℤ) (s o : List ℕ) (second : List ℤ)
-    {r : ℕ} (er : r ≡ power_of progress.side) (check : Check)
-    (e : checked check
-    ≡ relay_refusal r progress.knit (length p) (length second) (length s) (length o)
-    (is_sound r (sheet_in r progress.dots p s o))) where
+    {r : ℕ} (er : r ≡ power_of progress.side) where
+  abbrev lent_refusal : ℕ
+  lent_refusal =
+      relay_refusal r progress.knit (length p) (length second) (length s) (length o)
+      (is_sound r (sheet_in r progress.dots p s o))
+
   abbrev refusal_of : ℕ
   refusal_of =
       let k = power_of progress.side in
       relay_refusal k progress.knit (length p) (length second) (length s) (length o)
       (is_sound k (sheet_in k progress.dots p s o))
 
-  pub refused_is : {why : Refusal} → check ≡ Failed why
-      → record { said = relay_says (Refused why); second = second } ≡ relay_of progress p s o second
-  unfolding relay_of relay_says
-  refused_is {why} failed =
-      let n : refusal_of ≡ suc (number_of why - 1) = rw (← er) (failed_number check e why failed) in
-      rw (n, relay_of, ← number_positive why)
+  pub refused_is : (why : Refusal) {a : Result (Unit {0}) Refusal} → checked (Err why) ≡ lent_refusal → a ≡ Err why
+      → record { said = done_says a; second = second } ≡ relay_of progress p s o second
+  unfolding relay_of done_says
+  refused_is why e ea =
+      let n : refusal_of ≡ suc (number_of why - 1) = rw (← er) (failed_number why e) in
+      rw (ea, n, relay_of, ← number_positive why)
 
-  module _ (passed : check ≡ Passed) where
+  module _ (e : checked (Ok tt) ≡ lent_refusal) where
     pub relay_asked : LevelsAsked (length second) (length p) r
     relay_asked =
-        let none = passed_none check e passed in
+        let none = passed_none e in
         let rows = relay_rows r progress.knit (length p) (length second) (length s) (length o) _ in
         let lent = (sheet_lent r progress.knit (min (length p) (length second)) (length s) (length o) _
         (sym rows ∙ none)).0 in
@@ -121,8 +123,8 @@ module _ (progress : Progress) (p : List ℤ) (s o : List ℕ) (second : List �
         }
 
     pub relaid_is : {second' : List ℤ} → second' ≡ quarters_from r p ++ drop (needed r) second
-        → record { said = relay_says Relaid; second = second' } ≡ relay_of progress p s o second
-    unfolding relay_of relay_says
+        → record { said = done_says {A = Unit {0}} (Ok tt); second = second' } ≡ relay_of progress p s o second
+    unfolding relay_of done_says
     relaid_is q =
-        let z : refusal_of ≡ 0 = rw (← er) (passed_none check e passed) in
+        let z : refusal_of ≡ 0 = rw (← er) (passed_none e) in
         rw (q, er, z, relay_of)

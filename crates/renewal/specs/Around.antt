@@ -20,6 +20,7 @@ use Rattle.layouts.specs.Interleaved.{interleaved_lt, interleaved_any, row_inter
 use Rattle.layouts.specs.Renewed.{quarters_renewed, Chosen, rows_renewed}
 use Rattle.places.specs.declared.Parts.{Parts}
 use Rattle.places.specs.Parts.{parts_around, place_parts}
+use Rattle.renewal.specs.declared.Four.{Four}
 use Rattle.renewal.specs.OverPlaces.{either_of, chosen_of, at_corners, over, made_up, four_made_up}
 use Rattle.renewal.specs.OverPlaces.{Corners, Rising, RenewAsked}
 use Rattle.renewal.specs.Chosen.{start_four, start_one, over_four, corners_up}
@@ -275,8 +276,8 @@ module _ {pyramid : List ℤ} {r : ℕ} {parts : Parts} {row column : ℕ} (h : 
             se_is = corner low right (omega (arith, h.above)) (omega (arith, h.left)) ec below_is right_is;
           }
 
-      pub corners_over : Corners (r - 1) (over nw) (over ne) (over sw) (over se)
-      corners_over =
+      over_are : Corners (r - 1) (over nw) (over ne) (over sw) (over se)
+      over_are =
           let n : r ≡ suc (r - 1) = omega (arith, h.some) in
           let c : Corners (suc (r - 1)) nw ne sw se = rw n at corners_are in
           corners_up (r - 1) c
@@ -319,12 +320,21 @@ module _ {pyramid : List ℤ} {r : ℕ} {parts : Parts} {row column : ℕ} (h : 
           drop_all : length pyramid ≡ start (suc (suc (r - 1))) → drop (start (suc (suc (r - 1)))) pyramid ≡ []
           drop_all l = ap (λ (k : ℕ). drop k pyramid) (sym l) ∙ drop-length pyramid
 
-      pub renewed_around : {z : List ℤ} → z ≡ four_made_up (r - 1) (over nw) (over ne) (over sw) (over se) pyramid
+      renewed_corners : {z : List ℤ} → z ≡ four_made_up (r - 1) (over nw) (over ne) (over sw) (over se) pyramid
           → rows_from r z ≡ renewed r (is_near row column) (rows_from r pyramid)
-      renewed_around ez =
+      renewed_corners ez =
           ap (rows_from r) (ez ∙ renewed_all)
           ∙ rows_renewed r chosen (at_corners top low left right) pyramid
           (corners_chosen r top low left right (omega (arith, h.above)) (omega (arith, h.above))
           (omega (arith, h.left)) (omega (arith, h.left)))
           (h.whole.long ∙ ap start (add-one r))
           ∙ renewed_near r row column (rows_from r pyramid) h.above h.left
+
+      -- the four that the code finds over the corners
+      module _ {q : Four} (eq : q ≡ record { nw = over nw; ne = over ne; sw = over sw; se = over se }) where
+        pub corners_over : Corners (r - 1) q.nw q.ne q.sw q.se
+        corners_over = rw eq over_are
+
+        pub renewed_around : {z : List ℤ} → z ≡ four_made_up (r - 1) q.nw q.ne q.sw q.se pyramid
+            → rows_from r z ≡ renewed r (is_near row column) (rows_from r pyramid)
+        renewed_around ez = renewed_corners (rw eq at ez)

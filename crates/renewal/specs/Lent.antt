@@ -1,6 +1,6 @@
 -- The renewal by itself: which pyramids it is made on (`then_small`, `made`), and that it leaves the others
 -- (`left_alone`).
-use Rattle.std.specs.Prelude.{◌≡◌, refl, Bool, true, not, ◌&&◌, ℕ, zero, suc, ◌+◌, ◌-◌, ◌*◌, ◌^◌, ◌≤◌, ◌<◌, T, leb, ltb}
+use Rattle.std.specs.Prelude.{◌≡◌, Bool, true, not, ◌&&◌, ℕ, zero, suc, ◌+◌, ◌-◌, ◌*◌, ◌^◌, ◌≤◌, ◌<◌, T, leb, ltb}
 use Rattle.std.specs.Prelude.{eqb, length, take, ℤ, pos, negsuc, neg_ℤ}
 use Rattle.std.proofs.Math.Path.{sym, ap, ap₂}
 use Rattle.std.proofs.Common.{◌∙◌, arith, add-one, length-take-le, get_or-take, pow_mono, SFits, to_z, of_z, to_z-of_z}
@@ -8,7 +8,7 @@ use Rattle.std.proofs.Math.Bool.{false}
 use mathlib.Core.List.{List, ◌++◌}
 use Rattle.std.proofs.Math.Decide.{ℕ_discrete, dec_lt}
 use Rattle.std.proofs.Math.ListN.{get_or, drop, get_or-eq_default}
-use Rattle.std.specs.Int.Signed.{le_z, lt_z}
+use Rattle.std.specs.Int.Signed.{le_z}
 use Rattle.std.specs.Int.{w64}
 use Rattle.definition.specs.Pyramid.{start, needed, place_in, row_at, column_at, entry}
 use Rattle.definition.specs.Quarters.{interleaved, row_of, column_of, quarter_entry, rows_from, as_rows, as_quarters}
@@ -16,8 +16,11 @@ use Rattle.definition.specs.ByQuarters.{renewal_by_quarters}
 use Rattle.definition.specs.Refusals.{power_of}
 use Rattle.definition.specs.Renewal.{is_near, renewed, is_small, entries_small, renewable, renewal_of}
 use Rattle.integers.specs.Linear.{zz, ints}
-use Rattle.integers.specs.Tests.{tests, T_true, T_and, and_T, T_four, four_T, same_test, all_to_at, all_to_all}
-use Rattle.integers.specs.Loops.{Every, held, failed}
+use Rattle.integers.specs.Tests.{tests, T_true, T_and, and_T, T_four, four_T, same_test}
+use Rattle.integers.specs.Tests.{all_to_none, all_to_suc, all_to_at, all_to_all}
+use Rattle.integers.specs.Loops.{held, failed}
+use Rattle.std.specs.List.{list_all}
+use Rattle.std.proofs.lemmas.List.Folds.{list_all_more}
 use Rattle.refusals.specs.Powers.{power_small, side_pow}
 use Rattle.quadtree.specs.Levels.{start_thrice, start_suc, start_mono, place_lt, place_row_column, row_lt, column_lt}
 use Rattle.layouts.specs.Interleaved.{interleaved_lt, interleaved_of, row_of_lt, column_of_lt}
@@ -36,25 +39,32 @@ module _ (z : ℤ) (fits : SFits w64 z) where
   abbrev most : Bool
   most = le_z z (pos (2 ^ 40))
 
-  pub too_low : lt_z (to_z w64 (of_z w64 z)) (negsuc 1099511627775) ≡ true → false ≡ is_small z
+  abbrev not_below : Bool
+  not_below = le_z (negsuc 1099511627775) (to_z w64 (of_z w64 z))
+
+  pub too_low : not_below ≡ false → not_below ≡ is_small z
   unfolding is_small
   too_low e =
       let low = rw (to_z-of_z fits) at e in
-      same_test false (least && most) (λ t. absurd t) (λ t. let u = (T_and least most t).0 in absurd (omega ints))
+      e ∙ same_test false (least && most) (λ t. absurd t)
+      (λ t. let u = (T_and least most t).0 in absurd (omega ints))
 
-  pub not_low : lt_z (to_z w64 (of_z w64 z)) (negsuc 1099511627775) ≡ false
-      → le_z (to_z w64 (of_z w64 z)) (pos 1099511627776) ≡ is_small z
+  pub not_low : not_below ≡ true → le_z (to_z w64 (of_z w64 z)) (pos 1099511627776) ≡ is_small z
   unfolding is_small
   not_low e =
       let high = rw (to_z-of_z fits) at e in
       rw (to_z-of_z fits)
       (same_test most (least && most) (λ t. and_T least most (simp zz (omega ints)) t) (λ t. (T_and least most t).1))
 
--- the whole test, entry by entry
-pub small_every : (n : ℕ) (pyramid : List ℤ)
-    → Every (entries_small n pyramid) (λ i. is_small (get_or pyramid i (pos 0))) n
+-- the whole test, of the entries that it reads
+take_small : (n : ℕ) (l : List ℤ) → n ≤ length l → list_all is_small (take n l) ≡ entries_small n l
 unfolding entries_small
-small_every n pyramid = record { is = refl }
+take_small zero l h = sym (all_to_none (λ i. is_small (get_or l i (pos 0))))
+take_small (suc n) l h =
+    let more : list_all is_small (take (n + 1) l) ≡ (list_all is_small (take n l) && is_small (get_or l n (pos 0))) =
+    list_all_more is_small l n (pos 0) (omega arith) in
+    rw add-one at more
+    ∙ rw (take_small n l (omega arith)) (sym (all_to_suc n (λ i. is_small (get_or l i (pos 0)))))
 
 within_small : (z : ℤ) → T (is_small z) → Within (2 ^ 40) z
 unfolding is_small
@@ -63,10 +73,6 @@ within_small z t =
     let v = u.0 in
     let w = u.1 in
     record { low = simp zz (omega ints); high = simp zz (omega ints) }
-
--- the code reads an entry as a word
-pub small_read : {b : Bool} {z : ℤ} → SFits w64 z → b ≡ is_small (to_z w64 (of_z w64 z)) → b ≡ is_small z
-small_read f e = rw (to_z-of_z f) at e
 
 -- ---- the test reads a pyramid in either layout
 -- what holds at every place of every level holds at every place
@@ -180,8 +186,9 @@ module _ (side row column : ℕ) (pyramid : List ℤ) where
     off_column le = unfit (λ h. omega (arith, h.left))
 
     pub then_small : (p ≡ 0 → ⊥) → {n : ℕ} → n ≡ needed p → n ≤ length pyramid → row < side → column < side → {b : Bool}
-        → b ≡ entries_small n pyramid → b ≡ renewable side row column pyramid
-    then_small some {n} en long above left {b} e =
+        → b ≡ list_all is_small (take n pyramid) → b ≡ renewable side row column pyramid
+    then_small some {n} en long above left {b} eb =
+        let e : b ≡ entries_small n pyramid = eb ∙ take_small n pyramid long in
         let en' : n ≡ needed r = en ∙ ap needed ep in
         same_test b (renewable side row column pyramid)
         (λ t. fits_all (record {

@@ -1,11 +1,11 @@
--- Four entries of a level renewed (`four_renewed_lem`); one carried up (`carried`).
-use Rattle.std.specs.Prelude.{◌≡◌, List, ℕ, ◌+◌, ◌*◌, ◌^◌, ◌≤◌, ◌<◌, length, set, ℤ, ◌+ℤ◌, ◌-ℤ◌}
+-- Four entries of a level renewed (`place_asked`); one carried up (`carried`).
+use Rattle.std.specs.Prelude.{◌≡◌, List, ℕ, ◌+◌, ◌*◌, ◌^◌, ◌≤◌, ◌<◌, set, ℤ, ◌+ℤ◌, ◌-ℤ◌}
 use Rattle.std.proofs.Common.{sym, ap, ◌∙◌, arith, SFits, to_z, of_z, to_z-of_z}
 use Rattle.std.specs.Int.{w64}
 use Rattle.integers.specs.Machine.{words, machine}
 use Rattle.pyramid.specs.PyramidPart.{four_at, Within}
 use Rattle.pyramid.specs.Four.{within_four}
-use Rattle.renewal.specs.OverPlaces.{at, below, over, AtAsked, FourPlaces, four_renewed, CarryAsked}
+use Rattle.renewal.specs.OverPlaces.{at, below, over, AtAsked, FourPlaces, CarryAsked}
 use Rattle.renewal.specs.Places.{below_changed}
 
 -- ---- four of a level
@@ -23,26 +23,6 @@ module _ {p : List ℤ} {nw ne sw se : ℕ} (h : FourPlaces p nw ne sw se) where
               fourth = h.small (4 * x + 1 + 2 + 1) (omega (arith, h.apart));
             };
       }
-
-  pub places_few : (nw ≤ 21845) × (ne ≤ 21845) × (sw ≤ 21845) × (se ≤ 21845)
-  places_few = (
-    omega (arith, h.few, h.nw_in),
-    omega (arith, h.few, h.ne_in),
-    omega (arith, h.few, h.sw_in),
-    omega (arith, h.few, h.se_in),
-  )
-
-  pub places_in : (nw < length p) × (ne < length p) × (sw < length p) × (se < length p)
-  places_in = (
-    omega (arith, h.room, h.nw_in),
-    omega (arith, h.room, h.ne_in),
-    omega (arith, h.room, h.sw_in),
-    omega (arith, h.room, h.se_in),
-  )
-
-  pub four_renewed_lem : {a b c d : ℤ} → a ≡ below p nw → b ≡ below p ne → c ≡ below p sw → d ≡ below p se
-      → set (set (set (set p nw a) ne b) sw c) se d ≡ four_renewed p nw ne sw se
-  four_renewed_lem ea eb ec ed = rw (ea, eb, ec, ed)
 
 -- ---- one carried up: the numbers as words, and what they come to
 within_read : (bound : ℕ) (z : ℤ) → bound ≤ 2 ^ 62 → Within bound z → to_z w64 (of_z w64 z) ≡ z

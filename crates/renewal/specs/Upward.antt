@@ -1,6 +1,6 @@
 -- The ways up: four places from level to level until they are one (`Climbing`, `climbed`), and then that one to the top
 -- (`Carrying`, `carried_up`).
-use Rattle.std.specs.Prelude.{◌≡◌, refl, Bool, List, length, set, ℤ}
+use Rattle.std.specs.Prelude.{◌≡◌, Bool, List, length, set, ℤ}
 use Rattle.std.proofs.Common.{sym, ap, ◌∙◌, le-mul_of_pos_right, mul-pos, pow_pos, length-set}
 use Rattle.std.proofs.Math.Path.{ap₂}
 use Prim.Native.Nat.{ℕ, suc, ◌+◌, ◌*◌, ◌-◌, ◌/◌, ◌^◌, ◌≤◌, ◌<◌}
@@ -13,6 +13,7 @@ use Rattle.quadtree.specs.Levels.{start_thrice, start_suc, start_mono, quadruple
 use Rattle.layouts.specs.Interleaved.{interleaved_lt}
 use Rattle.pyramid.specs.PyramidPart.{four_at, Within}
 use Rattle.pyramid.specs.Four.{within_four, within_mono}
+use Rattle.renewal.specs.declared.Four.{Four}
 use Rattle.renewal.specs.OverPlaces.{chosen_of, at, below, over, made, made_up, four_made_up, four_renewed}
 use Rattle.renewal.specs.OverPlaces.{AtAsked, FourPlaces, CarryAsked, Corners, Rising, InLevel}
 use Rattle.renewal.specs.Chosen.{start_four, start_one, over_four, corners_up, nw_at, ne_at, sw_at, se_at}
@@ -125,14 +126,7 @@ pub record Carrying (p : List ℤ) (level place : ℕ) (z : List ℤ) (k i : ℕ
 pub place_asked : {p : List ℤ} {k i : ℕ} → Rising p k → InLevel k i → AtAsked p i
 place_asked {i = i} h l = at_asked h i l.to
 
-pub carry_begins : {p : List ℤ} {level place : ℕ} {sum : ℤ} → Rising p level → InLevel level place
-    → sum ≡ below p place → Carrying p level place p level place sum
-carry_begins h l e = record { rising = h; inside = l; sum_is = e; left = refl; long = refl }
-
 module _ {p z : List ℤ} {level place k i : ℕ} {sum : ℤ} (g : Carrying p level place z k i sum) where
-  pub carry_long : length z ≡ length p
-  carry_long = g.long
-
   sum_here : Within (2 ^ 58) sum
   sum_here = rw g.sum_is (sum_few g.rising i)
 
@@ -160,7 +154,7 @@ module _ {p z : List ℤ} {level place k i : ℕ} {sum : ℤ} (g : Carrying p le
           sum_small = sum_here;
         }
 
-    pub carry_on : {y : List ℤ} {next : ℤ} → (y ≡ set z i sum) × (next ≡ below (set z i sum) (over i))
+    carry_on : {y : List ℤ} {next : ℤ} → (y ≡ set z i sum) × (next ≡ below (set z i sum) (over i))
         → Carrying p level place y (k - 1) (over i) next
     carry_on {y} q =
         let m = k - 1 in
@@ -178,6 +172,11 @@ module _ {p z : List ℤ} {level place k i : ℕ} {sum : ℤ} (g : Carrying p le
           left = rw stored (made_on m z i i i i inside inside inside inside ∙ left);
           long = rw q.0 (length-set z i sum ∙ g.long);
         }
+
+    -- as the code counts and finds them
+    pub carried_on : {y : List ℤ} {next : ℤ} {m j : ℕ} → m ≡ k - 1 → j ≡ over i
+        → (y ≡ set z i sum) × (next ≡ below (set z i sum) (over i)) → Carrying p level place y m j next
+    carried_on em ej q = rw (em, ej) (carry_on q)
 
   -- at the top the last sum is stored
   module _ (none : k ≤ 0) where
@@ -198,14 +197,7 @@ pub record Climbing (p : List ℤ) (level a b c d : ℕ) (z : List ℤ) (k nw ne
   pub left : four_made_up k nw ne sw se z ≡ four_made_up level a b c d p
   pub long : length z ≡ length p
 
-pub climb_begins : {p : List ℤ} {level a b c d : ℕ} → Rising p level → Corners level a b c d
-    → Climbing p level a b c d p level a b c d
-climb_begins h l = record { rising = h; corners = l; left = refl; long = refl }
-
 module _ {p z : List ℤ} {level a b c d k nw ne sw se : ℕ} (g : Climbing p level a b c d z k nw ne sw se) where
-  pub climb_long : length z ≡ length p
-  climb_long = g.long
-
   module _ (apart : nw ≡ se → ⊥) where
     -- what has not joined is below the top
     pub climb_some : 1 ≤ k
@@ -248,7 +240,7 @@ module _ {p z : List ℤ} {level a b c d k nw ne sw se : ℕ} (g : Climbing p le
           se_in = ((se_at h).from, (se_at h).to);
         }
 
-    pub climb_on : {y : List ℤ} → y ≡ four_renewed z nw ne sw se
+    climb_on : {y : List ℤ} → y ≡ four_renewed z nw ne sw se
         → Climbing p level a b c d y (k - 1) (over nw) (over ne) (over sw) (over se)
     climb_on {y} q =
         let m = k - 1 in
@@ -264,6 +256,11 @@ module _ {p z : List ℤ} {level a b c d k nw ne sw se : ℕ} (g : Climbing p le
           left = rw stored (made_on m z nw ne sw se (nw_at h) (ne_at h) (sw_at h) (se_at h) ∙ left);
           long = rw stored (made_long (suc m) _ z (room_here rising) ∙ g.long);
         }
+
+    pub climbed_on : {y : List ℤ} {q : Four} → y ≡ four_renewed z nw ne sw se
+        → q ≡ record { nw = over nw; ne = over ne; sw = over sw; se = over se }
+        → Climbing p level a b c d y (k - 1) q.nw q.ne q.sw q.se
+    climbed_on e eq = rw eq (climb_on e)
 
   -- joined
   pub climb_rising : Rising z k

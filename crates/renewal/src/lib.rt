@@ -11,15 +11,49 @@
 // The pyramid lies by quarters: over the entry at place i of the whole pyramid is the one at (i - 1) / 4.
 #![tactic(auto)]
 
-ghost use Rattle.std.specs.Prelude.{◌≡◌, ◌≤◌, ◌<◌, length, set};
+ghost use Rattle.std.specs.Prelude.{◌≡◌, ◌<◌, length, set};
+ghost use Rattle.std.specs.List.{list_all};
 ghost use Rattle.definition.specs.Refusals.{power_of};
-ghost use Rattle.definition.specs.Renewal.{is_near, renewed, is_small, entries_small, renewable};
+ghost use Rattle.definition.specs.Renewal.{is_near, renewed, is_small, renewable};
 ghost use Rattle.definition.specs.Quarters.{rows_from};
 ghost use Rattle.definition.specs.ByQuarters.{renewal_by_quarters};
 ghost use Rattle.renewal.specs.OverPlaces.{at, below, over, four_made_up, four_renewed};
 ghost use Rattle.renewal.specs.OverPlaces.{AtAsked, FourPlaces, CarryAsked, Rising, InLevel, Corners, RenewAsked};
 
-use places::Parts;
+use places::{Parts, Table};
+
+// The place over place i.
+fn over(i: usize) -> usize
+    requires { 0 < i }
+    ensures { result ≡ over i }
+{
+    (i - 1) / 4
+}
+
+// Four places of one level, by where they lie: north west, north east, south west, south east.
+#[derive(Clone, Copy)]
+struct Four {
+    nw: usize,
+    ne: usize,
+    sw: usize,
+    se: usize,
+}
+
+impl Four {
+    // The places over these.
+    fn up(self) -> Four
+        requires { (0 < self.nw) × (0 < self.ne) × (0 < self.sw) × (0 < self.se) }
+        ensures { result
+            ≡ record { nw = over self.nw; ne = over self.ne; sw = over self.sw; se = over self.se } }
+    {
+        Four {
+            nw: over(self.nw),
+            ne: over(self.ne),
+            sw: over(self.sw),
+            se: over(self.se),
+        }
+    }
+}
 
 // The sum of the four entries below the one at place i.
 fn four_below(pyramid: &[i64], i: usize) -> i64
@@ -35,10 +69,7 @@ fn entry(pyramid: &[i64], i: usize) -> i64
     requires { i < length pyramid.now }
     ensures { result ≡ at pyramid.now i }
 {
-    if i < pyramid.len() {
-        return pyramid[i];
-    }
-    0
+    pyramid.get(i).copied().unwrap_or(0)
 }
 
 // What `four_below` gives, where some of the four have just been stored: the four are read one by one.
@@ -56,20 +87,19 @@ fn four_apart(pyramid: &[i64], i: usize) -> i64
 }
 
 // Renews the entries at four places of one level, of which some may be the same: each becomes the sum of the four below
-// it, as the report's section 3.1 defines it. They are named by where they lie: north west, north east, south west,
-// south east. All are added up before one is stored, so that no sum waits for a store.
-fn renew_four(pyramid: &mut [i64], nw: usize, ne: usize, sw: usize, se: usize)
-    requires { FourPlaces pyramid.old nw ne sw se }
-    ensures { pyramid.new ≡ four_renewed pyramid.old nw ne sw se }
+// it, as the report's section 3.1 defines it. All are added up before one is stored, so that no sum waits for a store.
+fn renew_four(pyramid: &mut [i64], at: Four)
+    requires { FourPlaces pyramid.old at.nw at.ne at.sw at.se }
+    ensures { pyramid.new ≡ four_renewed pyramid.old at.nw at.ne at.sw at.se }
 {
-    let first = four_below(pyramid, nw);
-    let second = four_below(pyramid, ne);
-    let third = four_below(pyramid, sw);
-    let fourth = four_below(pyramid, se);
-    pyramid[nw] = first;
-    pyramid[ne] = second;
-    pyramid[sw] = third;
-    pyramid[se] = fourth;
+    let nw = four_below(pyramid, at.nw);
+    let ne = four_below(pyramid, at.ne);
+    let sw = four_below(pyramid, at.sw);
+    let se = four_below(pyramid, at.se);
+    pyramid[at.nw] = nw;
+    pyramid[at.ne] = ne;
+    pyramid[at.sw] = sw;
+    pyramid[at.se] = se;
 }
 
 // Stores an entry's new sum, and returns that of the entry over it: the sum of its four as they were, less what the
@@ -80,7 +110,7 @@ fn carry(pyramid: &mut [i64], i: usize, sum: i64) -> i64
     ensures { (pyramid.new ≡ set pyramid.old i sum)
         × (result ≡ below (set pyramid.old i sum) (over i)) }
 {
-    let four = four_below(pyramid, (i - 1) / 4);
+    let four = four_below(pyramid, over(i));
     let old = pyramid[i];
     pyramid[i] = sum;
     four - old + sum
@@ -91,37 +121,29 @@ fn carry_up(pyramid: &mut [i64], level: usize, place: usize)
     requires { Rising pyramid.old level × InLevel level place }
     ensures { pyramid.new ≡ four_made_up level place place place place pyramid.old }
 {
-    let mut k = level;
     let mut i = place;
     let mut sum = four_apart(pyramid, i);
-    while 0 < k {
+    for _up in 0..level {
         sum = carry(pyramid, i, sum);
-        i = (i - 1) / 4;
-        k -= 1;
+        i = over(i);
     }
     pyramid[0] = sum;
 }
 
 // Renews four entries of a level, in two rows and two columns, and every entry over them, up to the top: four paths of
 // the report, level by level, and one path from where they are one entry on.
-fn renew_up(pyramid: &mut [i64], level: usize, a: usize, b: usize, c: usize, d: usize)
-    requires { Rising pyramid.old level × Corners level a b c d }
-    ensures { pyramid.new ≡ four_made_up level a b c d pyramid.old }
+fn renew_up(pyramid: &mut [i64], level: usize, places: Four)
+    requires { Rising pyramid.old level × Corners level places.nw places.ne places.sw places.se }
+    ensures { pyramid.new ≡ four_made_up level places.nw places.ne places.sw places.se pyramid.old }
 {
     let mut k = level;
-    let mut nw = a;
-    let mut ne = b;
-    let mut sw = c;
-    let mut se = d;
-    while nw != se {
-        renew_four(pyramid, nw, ne, sw, se);
-        nw = (nw - 1) / 4;
-        ne = (ne - 1) / 4;
-        sw = (sw - 1) / 4;
-        se = (se - 1) / 4;
+    let mut at = places;
+    while at.nw != at.se {
+        renew_four(pyramid, at);
+        at = at.up();
         k -= 1;
     }
-    carry_up(pyramid, k, nw);
+    carry_up(pyramid, k, at.nw);
 }
 
 // Renews the coarser sums over a cell and its neighbours (S 3.8), in a pyramid of just the needed length. The parts are
@@ -131,18 +153,13 @@ pub fn renew(pyramid: &mut [i64], r: usize, p: Parts, row: usize, column: usize)
     ensures { rows_from r pyramid.new ≡ renewed r (is_near row column) (rows_from r pyramid.old) }
 {
     let cells = sizes::level_start(r);
-    let nw = cells + p.above + p.left;
-    let ne = cells + p.above + p.right;
-    let sw = cells + p.below + p.left;
-    let se = cells + p.below + p.right;
-    renew_up(
-        pyramid,
-        r - 1,
-        (nw - 1) / 4,
-        (ne - 1) / 4,
-        (sw - 1) / 4,
-        (se - 1) / 4,
-    );
+    let corners = Four {
+        nw: cells + p.above + p.left,
+        ne: cells + p.above + p.right,
+        sw: cells + p.below + p.left,
+        se: cells + p.below + p.right,
+    };
+    renew_up(pyramid, r - 1, corners.up());
 }
 
 // -2^40 and 2^40: a pyramid may be lent with entries from the one to the other.
@@ -154,25 +171,14 @@ const MOST: i64 = 1099511627776;
 fn is_small(entry: i64) -> bool
     ensures { result ≡ is_small entry }
 {
-    if entry < LEAST {
-        return false;
-    }
-    entry <= MOST
+    LEAST <= entry && entry <= MOST
 }
 
-// Whether the first `count` entries are.
-fn entries_small(pyramid: &[i64], count: usize) -> bool
-    requires { count ≤ length pyramid.now }
-    ensures { result ≡ entries_small count pyramid.now }
+// Whether all of these entries are.
+fn all_small(entries: &[i64]) -> bool
+    ensures { result ≡ list_all is_small entries.now }
 {
-    let mut i = 0;
-    while i < count {
-        if !is_small(pyramid[i]) {
-            return false;
-        }
-        i += 1;
-    }
-    true
+    entries.iter().all(|entry| is_small(*entry))
 }
 
 // Whether the renewal can be made around this cell (S 12.3), r being the side's power.
@@ -180,20 +186,11 @@ fn is_renewable(side: u32, r: usize, row: u32, column: u32, pyramid: &[i64]) -> 
     requires { r ≡ power_of side }
     ensures { result ≡ renewable side row column pyramid.now }
 {
-    if r == 0 {
-        return false;
-    }
     let needed = sizes::needed(r);
-    if pyramid.len() < needed {
+    if r == 0 || pyramid.len() < needed || side <= row || side <= column {
         return false;
     }
-    if side <= row {
-        return false;
-    }
-    if side <= column {
-        return false;
-    }
-    entries_small(pyramid, needed)
+    all_small(&pyramid[..needed])
 }
 
 // The renewal by itself (S 12.3), for any numbers and any pyramid: whether it was made.
@@ -205,10 +202,9 @@ pub fn renew_lent(side: u32, row: u32, column: u32, pyramid: &mut [i64]) -> bool
         return false;
     }
     let needed = sizes::needed(r);
-    let table = places::table();
     let x = row as usize;
     let y = column as usize;
-    let p = places::parts_around(&table, sizes::pow2(r), x, y);
+    let p = Table::new().parts_around(sizes::pow2(r), x, y);
     renew(&mut pyramid[..needed], r, p, x, y);
     true
 }

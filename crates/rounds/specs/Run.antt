@@ -1,11 +1,11 @@
 -- The run: rounds until four in a row have made no hole (`Going`, `goes_on`, `over`).
 use Rattle.std.specs.Prelude.{◌≡◌, refl, cond, List, ℕ, suc, ◌+◌, ◌*◌, ◌-◌, ◌≤◌, ◌<◌, eqb, length, ℤ, ◌+ℤ◌}
-use Rattle.std.proofs.Common.{sym, ◌∙◌, arith, add-one, eq-eqb, ne_eqb}
+use Rattle.std.proofs.Common.{sym, ◌∙◌, arith, add-one}
 use Rattle.std.proofs.Math.Nat.{sub-zero}
 use Rattle.std.proofs.Math.IntN.{pos}
 use Rattle.std.specs.Int.{w64}
 use mir.Val as word
-use Rattle.definition.specs.Pyramid.{one_dot, needed}
+use Rattle.definition.specs.Pyramid.{one_dot}
 use Rattle.definition.specs.Quarters.{rows_from}
 use Rattle.definition.specs.Diffusion.{kernel_of}
 use Rattle.definition.specs.Model.{Halftone, top_of}
@@ -16,13 +16,6 @@ use Rattle.shares.specs.Kernels.{knit_fit}
 use Rattle.head_order.proofs.Rounds.{rounds_over, state_fuel, state_on, rounds_next}
 use Rattle.head_order.proofs.RoundState.{State}
 use Rattle.macroblock.specs.FourBlocks.{LargeSheet}
-
--- ---- the rounds in a row without a hole
-pub one_more_idle : (idle before after : ℕ) → after ≡ before → idle + 1 ≡ cond (eqb after before) (suc idle) 0
-one_more_idle idle before after e = rw (eq-eqb after before e, add-one idle) refl
-
-pub none_idle : (idle before after : ℕ) → (after ≡ before → ⊥) → 0 ≡ cond (eqb after before) (suc idle) 0
-none_idle idle before after ne = rw (ne_eqb after before ne) refl
 
 -- ---- the run
 -- t rounds have been made, the last `idle` of them without a hole: the rounds left lead to where all of them lead from
@@ -74,21 +67,6 @@ module _ (knit r : ℕ) (p₀ : List ℤ) (s₀ o₀ : List ℕ)
   module _ (p : List ℤ) (s o : List ℕ) (dots idle t : ℕ) (g : Going knit r p₀ s₀ o₀ p s o dots idle t) where
     abbrev sheet_now : Halftone
     sheet_now = record { pyramid = rows_from r p; serials = s; order = o; dots = dots }
-
-    pub same_pyramid : length p ≡ length p₀
-    same_pyramid = g.long
-
-    pub same_serials : length s ≡ length s₀
-    same_serials = g.state.sheet.sized.serials ∙ sym h.sheet.sized.serials
-
-    pub same_order : length o ≡ length o₀
-    same_order = g.state.sheet.sized.order ∙ sym h.sheet.sized.order
-
-    pub still_long : length p₀ ≡ needed r → length p ≡ needed r
-    still_long e = g.long ∙ e
-
-    pub large_now : LargeSheet r sheet_now
-    large_now = record { least = h.least; most = h.most; sheet = g.state.sheet }
 
     -- four in a row
     pub over : 4 ≤ idle → sheet_now ≡ rounds (kernel_of knit) r (macroblocks r) (most_rounds r) 0 0 first

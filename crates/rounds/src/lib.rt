@@ -7,9 +7,10 @@ ghost use Rattle.definition.specs.Pyramid.{needed};
 ghost use Rattle.definition.specs.Quarters.{rows_from};
 ghost use Rattle.definition.specs.Diffusion.{kernel_of};
 ghost use Rattle.heads.specs.TwoHeads.{across, work_all, macroblocks, rounds, most_rounds};
-ghost use Rattle.places.specs.Table.{places};
 ghost use Rattle.macroblock.specs.FourBlocks.{LargeSheet};
 ghost use Rattle.rounds.specs.Offsets.{AcrossAsked};
+
+use places::Table;
 
 // How many macroblocks lie side by side on a map of power r, from an offset of 0 or 1 blocks on (S 13.1).
 fn across(r: usize, offset: usize) -> usize
@@ -24,7 +25,7 @@ fn round(
     pyramid: &mut [i64],
     serials: &mut [u32],
     order: &mut [u32],
-    table: &[u16; 1024],
+    table: &Table,
     knit: u32,
     r: usize,
     t: usize,
@@ -33,7 +34,6 @@ fn round(
     requires large_sheet { LargeSheet r
         (record { pyramid = rows_from r pyramid.now; serials = serials.old; order = order.old; dots = dots }) }
     requires pyramid_len { length pyramid.old ≡ needed r }
-    requires table_value { table.now ≡ places }
     ensures { record {
       pyramid = rows_from r pyramid.exit.now;
       serials = serials.new;
@@ -55,12 +55,10 @@ fn round(
     let columns = across(r, column);
     let count = rows * columns;
     let mut after = dots;
-    let mut i = 0;
-    while i < count {
+    for i in 0..count {
         let a = row + 2 * (i / columns);
         let b = column + 2 * (i % columns);
         after = macroblock::work(pyramid, serials, order, table, knit, r, a, b, after);
-        i += 1;
     }
     after
 }
@@ -74,18 +72,18 @@ fn idle_after(idle: usize, before: u32, after: u32) -> usize
 }
 
 // Makes rounds on a sheet without dots, until four in a row have made none (S 13.4), and returns the dots made.
+// It is `idle` that ends the loop, and not the number t of rounds, so it is no `for`.
 pub fn run(
     pyramid: &mut [i64],
     serials: &mut [u32],
     order: &mut [u32],
-    table: &[u16; 1024],
+    table: &Table,
     knit: u32,
     r: usize,
 ) -> u32
     requires large_sheet { LargeSheet r
         (record { pyramid = rows_from r pyramid.now; serials = serials.old; order = order.old; dots = 0 }) }
     requires pyramid_len { length pyramid.old ≡ needed r }
-    requires table_value { table.now ≡ places }
     ensures { record {
       pyramid = rows_from r pyramid.exit.now;
       serials = serials.new;

@@ -1,27 +1,45 @@
--- Storing nine sums one by one, as far as there are places (`SumsLeft`, `sums_whole`).
-use Rattle.std.specs.Prelude.{◌≡◌, refl, List, ℕ, ◌+◌, ◌≤◌, ◌<◌, length, get_or, drop, set}
-use Rattle.std.proofs.Common.{sym, ◌∙◌, add-one, arith, length-set, drop_of_length-le, drop-cons}
-use Rattle.std.proofs.lemmas.List.Edits.{sets}
+-- Numbers stored one by one in the first places, as far as there are places, are so many of them copied
+-- (`sets_copied`).
+use Rattle.std.specs.Prelude.{◌≡◌, refl, List, [], ◌∷◌, ◌++◌, ℕ, suc, ◌+◌, ◌≤◌, min, length, take, drop, set}
+use Rattle.std.proofs.Common.{sym, ap, ◌∙◌, arith, add-zero, zero-add, length-take-le, take_all, take-append-drop}
+use Rattle.std.proofs.Common.{length-set, drop_of_length-le}
+use Rattle.std.proofs.Math.Seq.{set_out}
+use Rattle.std.proofs.Math.Decide.{dec_le}
+use Rattle.std.proofs.lemmas.List.Edits.{sets, sets-eq}
 
--- sum i is next, and what is left to store leaves the places as the whole does
-pub record SumsLeft (nine before : List ℕ) (i : ℕ) (sums : List ℕ) : Type 0 where
-  pub most : i ≤ 9
-  pub kept : length sums ≡ length before
-  pub rest : sets before 0 nine ≡ sets sums i (drop i nine)
+-- past the end nothing is stored
+sets_out : (xs l : List ℕ) (i : ℕ) → length l ≤ i → sets l i xs ≡ l
+sets_out [] l i h = refl
+sets_out (x ∷ xs) l i h = rw (set_out l i x h) (sets_out xs l (suc i) (omega arith))
 
-pub sums_whole : (nine before : List ℕ) → SumsLeft nine before 0 before
-sums_whole nine before = record { most = omega arith; kept = refl; rest = refl }
+sets_both : (xs ys l : List ℕ) (i : ℕ) → sets l i (xs ++ ys) ≡ sets (sets l i xs) (i + length xs) ys
+sets_both [] ys l i = rw (add-zero i)
+sets_both (x ∷ xs) ys l i =
+    let e : suc i + length xs ≡ i + suc (length xs) = omega arith in
+    sets_both xs ys (set l i x) (suc i) ∙ ap (λ (n : ℕ). sets (sets (set l i x) (suc i) xs) n ys) e
 
-module _ {nine before : List ℕ} {i : ℕ} {sums : List ℕ} (l : SumsLeft nine before i sums) (are_nine : length nine ≡ 9)
+length_sets : (xs l : List ℕ) (i : ℕ) → length (sets l i xs) ≡ length l
+length_sets [] l i = refl
+length_sets (x ∷ xs) l i = length_sets xs (set l i x) (suc i) ∙ length-set l i x
+
+pub sets_copied : (xs l : List ℕ) {n : ℕ} → n ≡ min (length l) (length xs) → take n xs ++ drop n l ≡ sets l 0 xs
+sets_copied xs l {n} e = sym (parts ∙ past ∙ front)
   where
-    pub sums_less : {stored : List ℕ} → i < 9 → stored ≡ set sums i (get_or nine i 0)
-        → SumsLeft nine before (i + 1) stored
-    sums_less h e =
-        record {
-          most = omega arith;
-          kept = rw (e, length-set) l.kept;
-          rest = l.rest ∙ rw (drop-cons nine i 0 (omega arith), e, add-one i);
-        }
+    long : length (take n xs) ≡ n
+    long = length-take-le n xs (omega arith)
 
-    pub sums_none : 9 ≤ i → sums ≡ sets before 0 nine
-    sums_none h = let past : length nine ≤ i = omega arith in sym (l.rest ∙ rw (drop_of_length-le nine past))
+    parts : sets l 0 xs ≡ sets (sets l 0 (take n xs)) n (drop n xs)
+    parts =
+        ap (sets l 0) (sym (take-append-drop n xs)) ∙ sets_both (take n xs) (drop n xs) l 0
+        ∙ ap (λ (m : ℕ). sets (sets l 0 (take n xs)) m (drop n xs)) (zero-add (length (take n xs)) ∙ long)
+
+    past : sets (sets l 0 (take n xs)) n (drop n xs) ≡ sets l 0 (take n xs)
+    past =
+        elim (dec_le (length xs) n) [
+          | yes h ↦ rw (drop_of_length-le xs h)
+          | no h ↦ sets_out (drop n xs) (sets l 0 (take n xs)) n (omega (arith, length_sets (take n xs) l 0))
+        ]
+
+    front : sets l 0 (take n xs) ≡ take n xs ++ drop n l
+    front =
+        sets-eq (take n xs) l 0 (omega (arith, long)) ∙ ap (λ (m : ℕ). take n xs ++ drop m l) (zero-add _ ∙ long)

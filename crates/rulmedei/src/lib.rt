@@ -10,7 +10,7 @@
 
 ghost use Rattle.std.specs.Prelude.{◌≡◌, set};
 ghost use Rattle.std.proofs.lemmas.List.Edits.{sets};
-ghost use Rattle.definition.specs.Answers.{checkpoint_says, text_says, compare_says};
+ghost use Rattle.definition.specs.Answers.{done_says, value_says};
 ghost use Rattle.definition.specs.Lowering.{lowered};
 ghost use Rattle.definition.specs.MapText.{map_text_of};
 ghost use Rattle.definition.specs.LowerText.{lower_text_of};
@@ -25,10 +25,25 @@ ghost use Rattle.rulmedei.specs.Codes.{lower_text_code, sketch_code, two_heads_c
 ghost use Rattle.rulmedei.specs.Codes.{greys_code, text_code, compare_code, shelf_code, relay_code, renew_code};
 
 use definition::{
-    AdvanceStatus, CheckpointStatus, Checkpoints, CompareAnswer, LevelsStatus, LoadStatus,
-    MapTextAnswer, Progress, RelayAnswer, SampleAnswer, ShelfAnswer, SketchAnswer, TallyAnswer,
-    TextAnswer, TwoHeadsStatus,
+    AdvanceStatus, Checkpoints, CompareAnswer, Progress, Refusal, SketchAnswer, TwoHeadsAnswer,
 };
+
+// The record of a call that has none to give.
+const NO_RECORD: Progress = Progress {
+    side: 0,
+    dots: 0,
+    knit: 0,
+};
+
+// The code of a call that did its work, or that refuses: 0, or the number of the refusal.
+fn code<T: Drop>(answer: Result<T, Refusal>) -> u32
+    ensures { result ≡ code_of (done_says answer) }
+{
+    match answer {
+        Ok(_) => 0,
+        Err(why) => checks::number_of(why),
+    }
+}
 
 // Load for C (S 16.1, S 7.1, S 7.2). The record is written to `progress_side`, `progress_dots` and `progress_knit`.
 #[unsafe(no_mangle)]
@@ -55,16 +70,12 @@ pub extern "C" fn rulmedei_load(
         ≡ load_code side knit
         greys.now pyramid.old serials.old order.old }
 {
-    let answer = load::load(side, knit, greys, pyramid, serials, order);
-    let progress = answer.progress;
+    let loaded = load::load(side, knit, greys, pyramid, serials, order);
+    let progress = loaded.unwrap_or(NO_RECORD);
     *progress_side = progress.side;
     *progress_dots = progress.dots;
     *progress_knit = progress.knit;
-    let status = answer.status;
-    match status {
-        LoadStatus::Loaded => 0,
-        LoadStatus::Refused(why) => checks::number_of(why),
-    }
+    code(loaded)
 }
 
 // Advance for C (S 16.1, S 7.3, S 7.4), with the record (side, dots, knit). The holes afterwards are written to
@@ -92,31 +103,21 @@ pub extern "C" fn rulmedei_advance(
         ≡ advance_code side dots knit budget
         pyramid.old serials.old order.old }
 {
-    let answer = advance::advance(
-        Progress { side, dots, knit },
-        budget,
-        pyramid,
-        serials,
-        order,
-    );
-    let progress = answer.progress;
-    *after = progress.dots;
-    *made = answer.made;
-    let status = answer.status;
-    match status {
-        AdvanceStatus::Finished => 0,
-        AdvanceStatus::More => 100,
-        AdvanceStatus::Refused(why) => checks::number_of(why),
-    }
-}
-
-// The code of a call on names.
-fn status_code(status: CheckpointStatus) -> u32
-    ensures { result ≡ code_of (checkpoint_says status) }
-{
-    match status {
-        CheckpointStatus::Done => 0,
-        CheckpointStatus::Refused(why) => checks::number_of(why),
+    let record = Progress { side, dots, knit };
+    match advance::advance(record, budget, pyramid, serials, order) {
+        Ok(answer) => {
+            *after = answer.progress.dots;
+            *made = answer.made;
+            match answer.status {
+                AdvanceStatus::Finished => 0,
+                AdvanceStatus::More => 100,
+            }
+        }
+        Err(why) => {
+            *after = dots;
+            *made = 0;
+            checks::number_of(why)
+        }
     }
 }
 
@@ -133,12 +134,12 @@ pub extern "C" fn rulmedei_keep(
     ensures { record { code = result; kept = kept.new } ≡ keep_code side dots knit kept.old name }
 {
     let given = Progress { side, dots, knit };
-    let answer = checkpoints::keep(given, Checkpoints { kept: *kept }, name);
-    let checkpoints = answer.checkpoints;
-    let after = checkpoints.kept;
+    let value = Checkpoints { kept: *kept };
+    let kept_or_not = checkpoints::keep(given, value, name);
+    let with = kept_or_not.unwrap_or(value);
+    let after = with.kept;
     *kept = after;
-    let status = answer.status;
-    status_code(status)
+    code(kept_or_not)
 }
 
 // Restore for C (S 16.1, S 10.2, S 10.3), with the record (side, dots, knit). The holes afterwards are written to
@@ -167,7 +168,7 @@ pub extern "C" fn rulmedei_restore(
         greys.now pyramid.old serials.old order.old }
 {
     let before = Progress { side, dots, knit };
-    let answer = checkpoints::restore(
+    let restored = checkpoints::restore(
         before,
         Checkpoints { kept: *kept },
         name,
@@ -176,10 +177,9 @@ pub extern "C" fn rulmedei_restore(
         serials,
         order,
     );
-    let progress = answer.progress;
+    let progress = restored.unwrap_or(before);
     *after = progress.dots;
-    let status = answer.status;
-    status_code(status)
+    code(restored)
 }
 
 // Tally for C (S 16.1, S 8.1). The holes of the square are written to `dots`, 0 where it refuses.
@@ -198,37 +198,17 @@ pub extern "C" fn rulmedei_tally(
     }
         ≡ tally_code side serials.now level row column }
 {
-    match survey::tally(side, serials, level, row, column) {
-        TallyAnswer::Dots(n) => {
-            *dots = n;
-            0
-        }
-        TallyAnswer::Refused(why) => {
-            *dots = 0;
-            checks::number_of(why)
-        }
-    }
-}
-
-// Stores a sum, if there is the place.
-fn put_sum(sums: &mut [u64], i: usize, sum: u64)
-    ensures { sums.new ≡ set sums.old i sum }
-{
-    if i < sums.len() {
-        sums[i] = sum;
-        return;
-    }
+    let counted = survey::tally(side, serials, level, row, column);
+    *dots = counted.unwrap_or(0);
+    code(counted)
 }
 
 // Stores nine sums in the first places, as far as there are places.
 fn put_sums(nine: [u64; 9], sums: &mut [u64])
     ensures { sums.new ≡ sets sums.old 0 nine }
 {
-    let mut i = 0;
-    while i < 9 {
-        put_sum(sums, i, nine[i]);
-        i += 1;
-    }
+    let count = sums.len().min(9);
+    sums[..count].copy_from_slice(&nine[..count]);
 }
 
 // Levels for C (S 16.1, S 8.2). The nine sums are written to the first places of `sums`, as far as there are places;
@@ -241,14 +221,9 @@ pub extern "C" fn rulmedei_levels(side: u32, greys: &[u8], serials: &[u32], sums
     }
         ≡ levels_code side greys.now serials.now sums.old }
 {
-    let answer = survey::levels(side, greys, serials);
-    let nine = answer.sums;
-    put_sums(nine, sums);
-    let status = answer.status;
-    match status {
-        LevelsStatus::Summed => 0,
-        LevelsStatus::Refused(why) => checks::number_of(why),
-    }
+    let summed = survey::levels(side, greys, serials);
+    put_sums(summed.unwrap_or([0; 9]), sums);
+    code(summed)
 }
 
 // Map Text for C (S 16.1, S 9.1). The side is written to `side`, 0 where it refuses.
@@ -261,32 +236,17 @@ pub extern "C" fn rulmedei_map_text(text: &[u8], greys: &mut [u8], side: &mut u3
     }
         ≡ greys_code (map_text_of text.now greys.old) }
 {
-    match map_text::map_text(text, greys) {
-        MapTextAnswer::Side(n) => {
-            *side = n;
-            0
-        }
-        MapTextAnswer::Refused(why) => {
-            *side = 0;
-            checks::number_of(why)
-        }
-    }
+    let read = map_text::map_text(text, greys);
+    *side = read.unwrap_or(0);
+    code(read)
 }
 
 // The code of a call that writes a text. The text's length is written to `length`, 0 where it refuses.
-fn text_code(answer: TextAnswer, length: &mut usize) -> u32
-    ensures { (result ≡ code_of (text_says answer)) × (length.new ≡ value_of (text_says answer)) }
+fn text_code(answer: Result<usize, Refusal>, length: &mut usize) -> u32
+    ensures { (result ≡ code_of (value_says answer)) × (length.new ≡ value_of (value_says answer)) }
 {
-    match answer {
-        TextAnswer::Length(n) => {
-            *length = n;
-            0
-        }
-        TextAnswer::Refused(why) => {
-            *length = 0;
-            checks::number_of(why)
-        }
-    }
+    *length = answer.unwrap_or(0);
+    code(answer)
 }
 
 // Lower Text for C (S 16.1, S 9.2). The text's length is written to `length`, 0 where it refuses.
@@ -348,6 +308,13 @@ pub extern "C" fn rulmedei_quote_page(
     text_code(answer, length)
 }
 
+// The figures of a sketch that is refused.
+const NO_FIGURES: SketchAnswer = SketchAnswer {
+    side: 0,
+    least: 0,
+    greatest: 0,
+};
+
 // Sketch Quote for C (S 16.1, S 9.4). The side, the least and the greatest total are written to `side_read`, `least`
 // and `greatest`, 0 where it refuses.
 #[unsafe(no_mangle)]
@@ -373,19 +340,20 @@ pub extern "C" fn rulmedei_sketch_quote(
         ≡ sketch_code
         (sketch_quote_of text.now level lows.old highs.old caps.old) }
 {
-    *side_read = 0;
-    *least = 0;
-    *greatest = 0;
-    match sketch_quote::sketch_quote(text, level, lows, highs, caps) {
-        SketchAnswer::Quoted(n, low, high) => {
-            *side_read = n;
-            *least = low;
-            *greatest = high;
-            0
-        }
-        SketchAnswer::Refused(why) => checks::number_of(why),
-    }
+    let quoted = sketch_quote::sketch_quote(text, level, lows, highs, caps);
+    let figures = quoted.unwrap_or(NO_FIGURES);
+    *side_read = figures.side;
+    *least = figures.least;
+    *greatest = figures.greatest;
+    code(quoted)
 }
+
+// The answer of a Two Heads that refuses.
+const NO_RUN: TwoHeadsAnswer = TwoHeadsAnswer {
+    progress: NO_RECORD,
+    made: 0,
+    debt: 0,
+};
 
 // Two Heads for C (S 16.1, S 13.5). The record is written to `progress_side`, `progress_dots` and `progress_knit`, the
 // holes to `made` and the debt that is left to `debt`, all 0 where it refuses.
@@ -418,18 +386,13 @@ pub extern "C" fn rulmedei_two_heads(
         greys.now pyramid.old serials.old order.old }
 {
     let ran = laser::two_heads(side, knit, greys, pyramid, serials, order);
-    let after = ran.progress;
-    *progress_side = after.side;
-    *progress_dots = after.dots;
-    *progress_knit = after.knit;
-    *made = ran.made;
-    let left = ran.debt;
-    *debt = left;
-    let status = ran.status;
-    match status {
-        TwoHeadsStatus::Stopped => 0,
-        TwoHeadsStatus::Refused(why) => checks::number_of(why),
-    }
+    let run = ran.unwrap_or(NO_RUN);
+    *progress_side = run.progress.side;
+    *progress_dots = run.progress.dots;
+    *progress_knit = run.progress.knit;
+    *made = run.made;
+    *debt = run.debt;
+    code(ran)
 }
 
 // The sample for C (S 16.1, S 12.1). The state reached is written to `state`, 0 where it refuses.
@@ -442,16 +405,9 @@ pub extern "C" fn rulmedei_sample(seed: u32, side: u32, greys: &mut [u8], state:
     }
         ≡ greys_code (sample_of seed side greys.old) }
 {
-    match sample_map::sample(seed, side, greys) {
-        SampleAnswer::State(n) => {
-            *state = n;
-            0
-        }
-        SampleAnswer::Refused(why) => {
-            *state = 0;
-            checks::number_of(why)
-        }
-    }
+    let reached = sample_map::sample(seed, side, greys);
+    *state = reached.unwrap_or(0);
+    code(reached)
 }
 
 // Compare for C (S 16.1, S 11.1). The row and column of the cell that it names are written to `row` and `column`, 0 and
@@ -470,20 +426,20 @@ pub extern "C" fn rulmedei_compare(
     *row = 0;
     *column = 0;
     match compare::compare(side, left, right) {
-        CompareAnswer::Before => 102,
-        CompareAnswer::BeforeAt(a, b) => {
+        Ok(CompareAnswer::Before) => 102,
+        Ok(CompareAnswer::BeforeAt(a, b)) => {
             *row = a;
             *column = b;
             103
         }
-        CompareAnswer::Same => 104,
-        CompareAnswer::AfterAt(a, b) => {
+        Ok(CompareAnswer::Same) => 104,
+        Ok(CompareAnswer::AfterAt(a, b)) => {
             *row = a;
             *column = b;
             105
         }
-        CompareAnswer::After => 106,
-        CompareAnswer::Refused(why) => checks::number_of(why),
+        Ok(CompareAnswer::After) => 106,
+        Err(why) => checks::number_of(why),
     }
 }
 
@@ -493,10 +449,8 @@ pub extern "C" fn rulmedei_shelf(side: u32, n: u32, plates: &[u32], list: &mut [
     ensures { record { code = result; list = list.new }
         ≡ shelf_code (shelf_of side n plates.now list.old) }
 {
-    match shelf::shelf(side, n, plates, list) {
-        ShelfAnswer::Sorted => 0,
-        ShelfAnswer::Refused(why) => checks::number_of(why),
-    }
+    let sorted = shelf::shelf(side, n, plates, list);
+    code(sorted)
 }
 
 // Relay for C (S 16.1, S 12.2), with the record (side, dots, knit). The pyramid is written by quarters into `second`.
@@ -516,10 +470,8 @@ pub extern "C" fn rulmedei_relay(
         pyramid.now serials.now order.now second.old) }
 {
     let older = Progress { side, dots, knit };
-    match relay::relay(older, pyramid, serials, order, second) {
-        RelayAnswer::Relaid => 0,
-        RelayAnswer::Refused(why) => checks::number_of(why),
-    }
+    let relaid = relay::relay(older, pyramid, serials, order, second);
+    code(relaid)
 }
 
 // The lowering of greys by itself, for C (S 16.1, S 12.4): it refuses nothing.

@@ -6,81 +6,53 @@
 // pyramid, and what is added there and what is taken away before the call.
 #![tactic(auto)]
 
-use case_io::{limit, next};
+use case_io::Numbers;
 use definition::Progress;
 use program_input::read_full;
 use std::io;
 use std::io::Write;
 
-// The record after a call, and the place behind the call.
-#[derive(Clone, Copy)]
-struct Called {
-    progress: Progress,
-    at: usize,
-}
-
-// Reads a call, makes it, and writes its answer.
+// Reads a call, makes it, writes its answer, and returns the record after it.
 fn run_call<W: Write>(
     out: &mut W,
-    text: &[u8],
-    last: Called,
-    pyramid: &mut [i64],
-    serials: &mut [u32],
-    order: &mut [u32],
-) -> io::Result<Called> {
-    let b = next(text, last.at);
-    let p = next(text, b.at);
-    let s = next(text, p.at);
-    let o = next(text, s.at);
-    let entry = next(text, o.at);
-    let plus = next(text, entry.at);
-    let minus = next(text, plus.at);
-    let budget = b.value;
-    let place = entry.value as usize;
-    case_io::shift_entry(pyramid, place, plus.value, minus.value);
-    let answer = case_io::advance_on(
-        last.progress,
-        budget,
-        p.value,
-        s.value,
-        o.value,
-        pyramid,
-        serials,
-        order,
-    );
-    case_io::print_call(out, budget, answer)?;
-    Ok(Called {
-        progress: answer.progress,
-        at: minus.at,
-    })
-}
-
-// Reads the calls, makes them one after another, and returns the place behind the last.
-fn run_calls<W: Write>(
-    out: &mut W,
-    text: &[u8],
-    from: usize,
+    numbers: &mut Numbers,
     progress: Progress,
     pyramid: &mut [i64],
     serials: &mut [u32],
     order: &mut [u32],
-) -> io::Result<usize> {
-    let count = next(text, from);
-    let mut last = Called {
-        progress,
-        at: count.at,
-    };
-    for _ in 0..count.value {
-        last = run_call(out, text, last, pyramid, serials, order)?;
-    }
-    Ok(last.at)
+) -> io::Result<Progress> {
+    let budget = numbers.next();
+    let p = numbers.next();
+    let s = numbers.next();
+    let o = numbers.next();
+    let place = numbers.next() as usize;
+    let plus = numbers.next();
+    let minus = numbers.next();
+    case_io::shift_entry(pyramid, place, plus, minus);
+    let answer = case_io::advance_on(progress, budget, p, s, o, pyramid, serials, order);
+    case_io::print_call(out, progress, budget, answer)
 }
 
-// Reads what follows a case's first four numbers, on the whole parts, and returns the place behind the case.
+// Reads the calls, and makes them one after another.
+fn run_calls<W: Write>(
+    out: &mut W,
+    numbers: &mut Numbers,
+    first: Progress,
+    pyramid: &mut [i64],
+    serials: &mut [u32],
+    order: &mut [u32],
+) -> io::Result<()> {
+    let mut progress = first;
+    for _ in 0..numbers.next() {
+        progress = run_call(out, numbers, progress, pyramid, serials, order)?;
+    }
+    Ok(())
+}
+
+// Reads what follows a case's first four numbers, on the whole parts, and writes its answers.
 fn run<W: Write>(
     out: &mut W,
-    text: &[u8],
-    from: usize,
+    numbers: &mut Numbers,
     side: u32,
     knit: u32,
     seed: u32,
@@ -89,23 +61,21 @@ fn run<W: Write>(
     pyramid: &mut [i64],
     serials: &mut [u32],
     order: &mut [u32],
-) -> io::Result<usize> {
-    let calls = case_io::make_greys(text, from, seed, side, greys);
-    let answer = load::load(side, knit, greys, pyramid, serials, order);
-    case_io::print_load(out, answer)?;
-    let end = run_calls(out, text, calls, answer.progress, pyramid, serials, order)?;
-    case_io::write_places(out, n, pyramid, serials, order)?;
-    Ok(end)
+) -> io::Result<()> {
+    case_io::make_greys(numbers, seed, side, greys);
+    let loaded = load::load(side, knit, greys, pyramid, serials, order);
+    let first = case_io::print_load(out, loaded)?;
+    run_calls(out, numbers, first, pyramid, serials, order)?;
+    case_io::write_places(out, n, pyramid, serials, order)
 }
 
-// Reads a case from a place on, writes its answers, and returns the place behind it.
-fn run_case<W: Write>(out: &mut W, text: &[u8], from: usize) -> io::Result<usize> {
-    let side = next(text, from);
-    let knit = next(text, side.at);
-    let seed = next(text, knit.at);
-    let spare = next(text, seed.at);
-    let n = limit(side.value, 256);
-    let more = limit(spare.value, 100);
+// Reads a case, and writes its answers.
+fn run_case<W: Write>(out: &mut W, numbers: &mut Numbers) -> io::Result<()> {
+    let side = numbers.next();
+    let knit = numbers.next();
+    let seed = numbers.next();
+    let more = numbers.limit(100);
+    let n = case_io::limit(side, 256);
     let cells = case_io::cells_of(n);
     let pyramid_whole = case_io::pyramid_of(n) + more;
     let sheet_whole = cells + more;
@@ -115,11 +85,10 @@ fn run_case<W: Write>(out: &mut W, text: &[u8], from: usize) -> io::Result<usize
     let mut order = [9u32; 65700];
     run(
         out,
-        text,
-        spare.at,
-        side.value,
-        knit.value,
-        seed.value,
+        numbers,
+        side,
+        knit,
+        seed,
         n,
         &mut greys[..cells],
         &mut pyramid[..pyramid_whole],
@@ -130,11 +99,10 @@ fn run_case<W: Write>(out: &mut W, text: &[u8], from: usize) -> io::Result<usize
 
 // Runs every case of a text.
 fn run_cases<W: Write>(out: &mut W, text: &[u8]) -> io::Result<()> {
-    let count = next(text, 0);
-    let mut at = count.at;
-    for number in 1..=count.value {
+    let mut numbers = Numbers::new(text);
+    for number in 1..=numbers.next() {
         case_io::print_case(out, number)?;
-        at = run_case(out, text, at)?;
+        run_case(out, &mut numbers)?;
     }
     Ok(())
 }

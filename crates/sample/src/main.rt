@@ -13,7 +13,7 @@ fn run<W: Write>(out: &mut W) -> io::Result<()>
     ensures { OnOk result (Appends (W.contents out.old) (W.contents out.new) sample_text) }
 {
     let text = program_texts::sample_text();
-    out.write_all(&text.bytes[..text.length])
+    out.write_all(text.as_bytes())
 }
 
 fn main(rt: HostRuntime) -> io::Result<()> {

@@ -1,8 +1,8 @@
--- What a loop that fills greys by a run of the generator leaves after n turns (`Sampled`, `sampled_all`).
-use Rattle.std.specs.Prelude.{◌≡◌, refl, List, ◌++◌, ℕ, ◌+◌, ◌≤◌, ◌<◌, length, set, drop}
-use Rattle.std.proofs.Common.{ap, ◌∙◌, arith}
+-- What a loop that fills greys by a run of the generator leaves after n turns (`Sampled`, `sampled_more`).
+use Rattle.std.specs.Prelude.{◌≡◌, refl, List, ◌++◌, ℕ, ◌+◌, ◌<◌, length, set, drop}
+use Rattle.std.proofs.Common.{ap, ◌∙◌}
 use Rattle.definition.specs.Sample.{next_state, grey_of, sample_greys, state_after}
-use Rattle.integers.specs.Fill.{front_store, length_front}
+use Rattle.integers.specs.Fill.{front_store}
 use Rattle.sample_runs.specs.Runs.{greys_in_turn, state_in_turn, length_greys}
 
 -- after n steps from a seed on: the state reached, and the greys in the first n places
@@ -27,13 +27,3 @@ sampled_more {seed} {n} {state} {before} s h {next} {grey} en eg =
           ∙ front_store (sample_greys n seed) before grey (length_greys n seed) h
           ∙ rw (greys_in_turn n 1 seed, ← s.reached, ← en, ← eg);
     }
-
--- all of them, once the loop's count is not below the number asked for
-pub sampled_all : {seed n count state : ℕ} {before greys : List ℕ} → n ≤ count → count ≤ n
-    → Sampled seed n before state greys → Sampled seed count before state greys
-sampled_all {n = n} {count = count} h k s = let e : n ≡ count = omega arith in rw e at s
-
-pub length_sampled : {seed n state : ℕ} {before greys : List ℕ} → n ≤ length before → Sampled seed n before state greys
-    → length greys ≡ length before
-length_sampled {seed} {n} {before = before} h s =
-    ap length s.stored ∙ length_front (sample_greys n seed) before (length_greys n seed) h

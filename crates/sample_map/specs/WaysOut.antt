@@ -1,39 +1,39 @@
 -- The two ways out of the sample: refused, with nothing changed (`refused_is`), and filled (`sampled_is`).
-use Rattle.std.specs.Prelude.{◌≡◌, List, length}
+use Rattle.std.specs.Prelude.{◌≡◌, ◌++◌, List, length, drop, Result, Ok, Err}
 use Prim.Native.Nat.{ℕ, suc, ◌-◌, ◌≤◌}
-use Rattle.std.proofs.Common.{arith}
-use Rattle.definition.specs.Answers.{sample_says, number_of}
+use Rattle.std.proofs.Common.{arith, take, length-take}
+use Rattle.definition.specs.Answers.{value_says, number_of}
 use Rattle.definition.specs.Pyramid.{cell_count}
 use Rattle.definition.specs.Refusals.{power_of, greys_refusal}
-use Rattle.definition.specs.Sample.{sample_of}
+use Rattle.definition.specs.Sample.{sample_of, sample_greys, state_after}
 use Rattle.definition.specs.declared.Refusal.{Refusal}
-use Rattle.definition.specs.declared.SampleAnswer.TheVariants.{State, Refused}
 use Rattle.refusals.specs.Lowest.{greys_none}
 use Rattle.refusals.specs.Numbers.{number_positive}
 use Rattle.checks.specs.Checks.{checked, passed_none, failed_number}
-use Rattle.checks.specs.declared.Check.{Check}
-use Rattle.checks.specs.declared.Check.TheVariants.{Passed, Failed}
 use Rattle.sample_runs.proofs.InTurn.{accepted_is}
-use Rattle.sample_map.specs.Filled.{Sampled}
 
-module _ (seed side : ℕ) {r : ℕ} (er : r ≡ power_of side) (greys : List ℕ) (check : Check)
-    (e : checked check ≡ greys_refusal r (length greys)) where
-  pub refused_is : {why : Refusal} → check ≡ Failed why
-      → record { said = sample_says (Refused why); greys = greys } ≡ sample_of seed side greys
-  unfolding sample_of sample_says
-  refused_is {why} failed =
+module _ (seed side : ℕ) {r : ℕ} (er : r ≡ power_of side) (greys : List ℕ) where
+  pub refused_is : (why : Refusal) {a : Result ℕ Refusal} → checked (Err why) ≡ greys_refusal r (length greys)
+      → a ≡ Err why
+      → record { said = value_says a; greys = greys } ≡ sample_of seed side greys
+  unfolding sample_of value_says
+  refused_is why e ea =
       let n : greys_refusal (power_of side) (length greys)
-      ≡ suc (number_of why - 1) = rw (← er) (failed_number check e why failed) in
-      rw (n, sample_of, ← number_positive why)
+      ≡ suc (number_of why - 1) = rw (← er) (failed_number why e) in
+      rw (ea, n, sample_of, ← number_positive why)
 
-  module _ (passed : check ≡ Passed) {cells : ℕ} (ec : cells ≡ cell_count r) where
+  module _ (e : checked (Ok tt) ≡ greys_refusal r (length greys)) {cells : ℕ} (ec : cells ≡ cell_count r) where
     none : greys_refusal (power_of side) (length greys) ≡ 0
-    none = rw (← er) (passed_none check e passed)
+    none = rw (← er) (passed_none e)
 
     pub room : cells ≤ length greys
-    room = omega (arith, ec, (greys_none r (length greys)).0 (passed_none check e passed))
+    room = omega (arith, ec, (greys_none r (length greys)).0 (passed_none e))
 
-    pub sampled_is : {state : ℕ} {after : List ℕ} → Sampled seed cells greys state after
-        → record { said = sample_says (State state); greys = after } ≡ sample_of seed side greys
-    unfolding sample_says
-    sampled_is s = rw (s.reached, s.stored, ec, er, accepted_is seed side greys none)
+    pub front_length : cells ≡ length (take cells greys)
+    front_length = omega (arith, length-take cells greys, room)
+
+    pub sampled_is : {state : ℕ} {front : List ℕ} → state ≡ state_after (length (take cells greys)) seed
+        → front ≡ sample_greys (length (take cells greys)) seed
+        → record { said = value_says (Ok state); greys = front ++ drop cells greys } ≡ sample_of seed side greys
+    unfolding value_says
+    sampled_is reached stored = rw (reached, stored, ← front_length, ec, er, accepted_is seed side greys none)

@@ -1,7 +1,7 @@
 -- The checks of a sheet: its lengths (`lengths_first`), then whether it is sound (`then_sound`, `quarters_sound`).
 use Rattle.std.proofs.Math.Path.{◌≡◌, refl, sym, ap}
 use Rattle.std.proofs.Common.{◌∙◌, arith, length-take-le}
-use Rattle.std.specs.Prelude.{Bool, not, List, ltb, eqb, length, ℤ}
+use Rattle.std.specs.Prelude.{Bool, not, List, ltb, eqb, length, ℤ, Result, Ok, Err}
 use Rattle.std.proofs.Math.Bool.{true, false, cond}
 use Prim.Native.Nat.{ℕ, suc, ◌-◌, ◌≤◌, ◌<◌}
 use Rattle.std.proofs.Math.ListN.{take}
@@ -17,8 +17,6 @@ use Rattle.definition.specs.declared.Refusal.TheVariants.{SheetUnsound}
 use Rattle.refusals.specs.Lowest.{lowest_none}
 use Rattle.refusals.specs.Numbers.{number_positive}
 use Rattle.checks.specs.Checks.{checked, passed_none, failed_number}
-use Rattle.checks.specs.declared.Check.{Check}
-use Rattle.checks.specs.declared.Check.TheVariants.{Passed, Failed}
 use Rattle.layouts.specs.Lent.{rows_taken, rows_take}
 use Rattle.sound.specs.OnePlace.{SoundAsked, in_rows}
 
@@ -89,13 +87,13 @@ pub record SheetAsked (r dots : ℕ) (p : List ℤ) (s o : List ℕ) : Type 0 wh
   pub lent : SheetLent r (length p) (length s) (length o)
   pub sound : is_sound r (sheet_in r dots (as_rows r p) s o) ≡ true
 
-pub sheet_asked : {r : ℕ} (knit : ℕ) → r ≤ 8 → (dots : ℕ) (p : List ℤ) (s o : List ℕ) (check : Check)
-    → checked check
+pub sheet_asked : {r : ℕ} (knit : ℕ) → r ≤ 8 → (dots : ℕ) (p : List ℤ) (s o : List ℕ)
+    → checked (Ok tt)
     ≡ advance_refusal r knit (length p) (length s) (length o) (is_sound r (sheet_in r dots (as_rows r p) s o))
-    → check ≡ Passed → SheetAsked r dots p s o
-sheet_asked {r} knit small dots p s o check e passed =
+    → SheetAsked r dots p s o
+sheet_asked {r} knit small dots p s o e =
     let sound = is_sound r (sheet_in r dots (as_rows r p) s o) in
-    let q = sheet_lent r knit (length p) (length s) (length o) sound (passed_none check e passed) in
+    let q = sheet_lent r knit (length p) (length s) (length o) sound (passed_none e) in
     record { small = small; lent = q.0; sound = q.2 }
 
 -- ---- the test of a sheet; n and c are what the code has worked out for the needed length and the number of cells
@@ -141,19 +139,18 @@ module _ {r : ℕ} (small : r ≤ 8) (p : List ℤ) (s o : List ℕ)
   sound_is rows dots eb = eb ∙ rw (part_rows rows, ec)
 
 -- ---- the code's way: side, knit and lengths are checked first, then whether the sheet is sound
-module _ (r knit p s o : ℕ) (lengths : Check)
-    (e : checked lengths ≡ advance_refusal r knit p s o true) where
-  pub lengths_failed : (sound : Bool) {why : Refusal} → lengths ≡ Failed why
-      → checked (Failed why) ≡ advance_refusal r knit p s o sound
+module _ (r knit p s o : ℕ) where
+  pub lengths_failed : (sound : Bool) (why : Refusal) → checked (Err why) ≡ advance_refusal r knit p s o true
+      → checked (Err why) ≡ advance_refusal r knit p s o sound
   unfolding checked
-  lengths_failed sound {why} failed =
-      let number = failed_number lengths e why failed in
+  lengths_failed sound why e =
+      let number = failed_number why e in
       number_positive why ∙ sym (lengths_first r knit p s o (number_of why - 1) number sound)
 
-  module _ (passed : lengths ≡ Passed) where
+  module _ (e : checked (Ok tt) ≡ advance_refusal r knit p s o true) where
     lent_and_known : SheetLent r p s o × (knit ≤ 1)
     lent_and_known =
-        let q = sheet_lent r knit p s o true (passed_none lengths e passed) in
+        let q = sheet_lent r knit p s o true (passed_none e) in
         (q.0, q.1)
 
     pub lengths_passed : SheetLent r p s o
@@ -163,25 +160,25 @@ module _ (r knit p s o : ℕ) (lengths : Check)
     then = then_sound r knit p s o lengths_passed lent_and_known.1
 
     module _ {b : Bool} (sound : Bool) (eb : b ≡ sound) where
-      pub is_sound_lem : b ≡ true → checked Passed ≡ advance_refusal r knit p s o sound
+      pub is_sound_lem : b ≡ true → checked (Ok tt) ≡ advance_refusal r knit p s o sound
       unfolding checked
       is_sound_lem yes' = sym (rw (← eb, yes') (then true))
 
-      pub is_unsound : b ≡ false → checked (Failed SheetUnsound) ≡ advance_refusal r knit p s o sound
+      pub is_unsound : b ≡ false → checked (Err SheetUnsound) ≡ advance_refusal r knit p s o sound
       unfolding checked number_of
       is_unsound no' = sym (rw (← eb, no') (then false))
 
 -- the same of a pyramid p by quarters
-module _ (r knit dots : ℕ) (p : List ℤ) (s o : List ℕ) (lengths : Check)
-    (e : checked lengths ≡ advance_refusal r knit (length p) (length s) (length o) true) (passed : lengths ≡ Passed)
+module _ (r knit dots : ℕ) (p : List ℤ) (s o : List ℕ)
+    (e : checked (Ok tt) ≡ advance_refusal r knit (length p) (length s) (length o) true)
     {b : Bool} (eb : b ≡ is_sound r (sheet_in r dots (shown_rows false r p) s o)) where
   abbrev refusal : ℕ
   refusal = advance_refusal r knit (length p) (length s) (length o) (is_sound r (sheet_in r dots (as_rows r p) s o))
 
-  pub quarters_sound : b ≡ true → checked Passed ≡ refusal
+  pub quarters_sound : b ≡ true → checked (Ok tt) ≡ refusal
   unfolding shown_rows
-  quarters_sound yes' = is_sound_lem r knit (length p) (length s) (length o) lengths e passed _ eb yes'
+  quarters_sound yes' = is_sound_lem r knit (length p) (length s) (length o) e _ eb yes'
 
-  pub quarters_unsound : b ≡ false → checked (Failed SheetUnsound) ≡ refusal
+  pub quarters_unsound : b ≡ false → checked (Err SheetUnsound) ≡ refusal
   unfolding shown_rows
-  quarters_unsound no' = is_unsound r knit (length p) (length s) (length o) lengths e passed _ eb no'
+  quarters_unsound no' = is_unsound r knit (length p) (length s) (length o) e _ eb no'

@@ -6,36 +6,41 @@ ghost use Rattle.std.specs.Prelude.{◌≡◌, true, ◌≤◌, length};
 ghost use Rattle.definition.specs.Sound.{is_sound};
 ghost use Rattle.definition.specs.Advance.{sheet_in, advance_refusal};
 ghost use Rattle.definition.specs.Quarters.{as_rows};
-ghost use Rattle.places.specs.Table.{places};
 ghost use Rattle.checks.specs.Checks.{checked};
 ghost use Rattle.sheet.specs.Sheets.{SheetLent, shown_rows};
 
-use checks::Check;
 use definition::Refusal;
+use places::Table;
 
 // Refusals 1, 11, 3, 4 (S 5.2), from the side's power, the knit and the lengths lent.
-pub fn check_lengths(r: usize, knit: u32, pyramid: usize, serials: usize, order: usize) -> Check
+pub fn check_lengths(
+    r: usize,
+    knit: u32,
+    pyramid: usize,
+    serials: usize,
+    order: usize,
+) -> Result<(), Refusal>
     requires { r ≤ 8 }
     ensures { checked result ≡ advance_refusal r knit pyramid serials order true }
 {
     let cells = sizes::cell_count(r);
     let needed = sizes::needed(r);
     if r == 0 {
-        return Check::Failed(Refusal::SideUnknown);
+        return Err(Refusal::SideUnknown);
     }
     if 1 < knit {
-        return Check::Failed(Refusal::KnitUnknown);
+        return Err(Refusal::KnitUnknown);
     }
     if pyramid < needed {
-        return Check::Failed(Refusal::PyramidShort);
+        return Err(Refusal::PyramidShort);
     }
     if serials < cells {
-        return Check::Failed(Refusal::SheetShort);
+        return Err(Refusal::SheetShort);
     }
     if order < cells {
-        return Check::Failed(Refusal::SheetShort);
+        return Err(Refusal::SheetShort);
     }
-    Check::Passed
+    Ok(())
 }
 
 // Whether the sheet that lies in these buffers is sound, its pyramid lying row after row or by quarters.
@@ -43,13 +48,12 @@ pub fn sound_lent(
     r: usize,
     dots: u32,
     rows: bool,
-    table: &[u16; 1024],
+    table: &Table,
     pyramid: &[i64],
     serials: &[u32],
     order: &[u32],
 ) -> bool
-    requires r_bound { (r ≤ 8) × SheetLent r (length pyramid.now) (length serials.now) (length order.now) }
-    requires table_value { table.now ≡ places }
+    requires { (r ≤ 8) × SheetLent r (length pyramid.now) (length serials.now) (length order.now) }
     ensures { result
         ≡ is_sound r
         (sheet_in r dots (shown_rows rows r pyramid.now) serials.now order.now) }
@@ -72,25 +76,20 @@ pub fn check_sheet(
     r: usize,
     dots: u32,
     knit: u32,
-    table: &[u16; 1024],
+    table: &Table,
     pyramid: &[i64],
     serials: &[u32],
     order: &[u32],
-) -> Check
-    requires r_bound { r ≤ 8 }
-    requires table_value { table.now ≡ places }
+) -> Result<(), Refusal>
+    requires { r ≤ 8 }
     ensures { checked result
         ≡ advance_refusal r knit
         (length pyramid.now) (length serials.now) (length order.now)
         (is_sound r (sheet_in r dots (as_rows r pyramid.now) serials.now order.now)) }
 {
-    match check_lengths(r, knit, pyramid.len(), serials.len(), order.len()) {
-        Check::Failed(why) => Check::Failed(why),
-        Check::Passed => {
-            if sound_lent(r, dots, false, table, pyramid, serials, order) {
-                return Check::Passed;
-            }
-            Check::Failed(Refusal::SheetUnsound)
-        }
+    check_lengths(r, knit, pyramid.len(), serials.len(), order.len())?;
+    if sound_lent(r, dots, false, table, pyramid, serials, order) {
+        return Ok(());
     }
+    Err(Refusal::SheetUnsound)
 }

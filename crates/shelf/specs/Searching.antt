@@ -1,13 +1,12 @@
--- The search by halves for a plate's place (`Searching`, `left_half`, `right_half`, `search_end`).
+-- The search by halves for a plate's place (`Searching`, `left_half`, `right_half`).
 use Rattle.std.specs.Prelude.{◌≡◌, refl, Bool, true, false, List, ℕ, ◌+◌, ◌-◌, ◌/◌, ◌≤◌, ◌<◌, length, get_or}
-use Rattle.std.proofs.Common.{sym, ap, ◌∙◌, true≢false, arith, mul-le-mul_right, suc-mul, get_or-take, Fits}
+use Rattle.std.proofs.Common.{sym, ap, ◌∙◌, true≢false, arith, mul-le-mul_right, suc-mul, get_or-take}
 use Rattle.std.proofs.Math.Decide.{ℕ_discrete}
-use Rattle.std.specs.Int.{w64}
 use Rattle.definition.specs.Pyramid.{cell_count}
 use Rattle.definition.specs.Shelf.{is_before, in_order}
 use Rattle.shelf_order.proofs.Insertion.{each_at, stands, in_order_length, in_order_below, in_order_pairs}
 use Rattle.shelf_order.proofs.Insertion.{before_at_place, before_onwards}
-use Rattle.shelf.specs.PlatesLent.{PairAsked, PlaceAsked, PlaceFor}
+use Rattle.shelf.specs.PlatesLent.{PairAsked, PlaceAsked}
 
 -- ---- the search
 -- it has the places from low to high − 1 left: plate n comes before none on their left and before all on their right
@@ -16,19 +15,6 @@ pub record Searching (plates list : List ℕ) (r n low high : ℕ) : Type 0 wher
   pub most : high ≤ n
   pub none : (i : ℕ) → i < low → before_at_place r plates n list i ≡ false
   pub all : (i : ℕ) → high ≤ i → i < n → before_at_place r plates n list i ≡ true
-
-pub search_start : (plates list : List ℕ) (r n : ℕ) → Searching plates list r n 0 n
-search_start plates list r n =
-    record {
-      rises = omega arith;
-      most = omega arith;
-      none = λ i h. absurd (omega arith);
-      all = λ i h k. absurd (omega arith);
-    }
-
-pub search_end : {plates list : List ℕ} {r n low high : ℕ} → Searching plates list r n low high → high ≤ low
-    → PlaceFor plates list r n low
-search_end {low = low} s h = record { most = omega (arith, s.most); none = s.none; next = λ k. s.all low h k }
 
 module _ {plates list : List ℕ} {r n : ℕ} (h : PlaceAsked plates list r n) where
   -- the list up to n is the list in order
@@ -99,9 +85,6 @@ module _ {plates list : List ℕ} {r n : ℕ} (h : PlaceAsked plates list r n) w
 
   -- the middle that the code takes
   module _ {low high : ℕ} (s : Searching plates list r n low high) (lt : low < high) where
-    pub middle_fits : Fits w64 n → Fits w64 (get_or list (low + (high - low) / 2) 0)
-    middle_fits fits = omega (arith, place_below (low + (high - low) / 2) (omega (arith, s.most)))
-
     pub middle_asked : PairAsked (length plates) r n (get_or list (low + (high - low) / 2) 0)
     middle_asked = on_shelf (low + (high - low) / 2) (omega (arith, s.most))
 

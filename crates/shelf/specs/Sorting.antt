@@ -1,16 +1,15 @@
--- The list with a plate put at its place, and plate after plate (`Sorting`, `sort_next`, `sort_end`).
+-- The list with a plate put at its place, and plate after plate (`Sorting`, `sort_next`).
 use Rattle.std.specs.Prelude.{◌≡◌, refl, ℕ, suc, ◌+◌, ◌-◌, ◌≤◌, ◌<◌, length}
 use Rattle.std.proofs.Math.Path.{sym, ap, ap₂}
 use Rattle.std.proofs.Common.{◌∙◌, arith, mul-le-mul_right, suc-mul, add-one, length-append, length-drop}
-use Rattle.std.proofs.Common.{take-append-drop, take_at, take-add, drop-drop}
+use Rattle.std.proofs.Common.{take_at, take-add, drop-drop}
 use mathlib.Core.List.{List, ◌∷◌, ◌++◌, append_assoc}
 use Rattle.std.proofs.Math.ListN.{take, drop}
 use Rattle.std.proofs.Math.Seq.{length-take-le, drop_at, take-take}
 use Rattle.definition.specs.Pyramid.{cell_count}
 use Rattle.definition.specs.Shelf.{in_order}
 use Rattle.shelf_order.proofs.Insertion.{in_order_length, insert_at}
-use Rattle.shelf.specs.PlatesLent.{PlaceAsked, PlaceFor, PutAsked, SortAsked}
-use Rattle.shelf.specs.Putting.{carried, carried_is}
+use Rattle.shelf.specs.PlatesLent.{PlaceAsked, PlaceFor, SortAsked}
 use Rattle.shelf.specs.Searching.{before_place}
 
 -- ---- plate n put at its place
@@ -57,18 +56,13 @@ module _ {plates list₀ list : List ℕ} {r n i : ℕ} (h : SortAsked (length p
         sorted = s.sorted;
       }
 
-  pub put_asked : {p : ℕ} → PlaceFor plates list r i p → PutAsked (length list) p i
-  put_asked w = record { most = w.most; room = omega (arith, h.places, s.long) }
-
-  pub sort_next : {p : ℕ} → PlaceFor plates list r i p → {after : List ℕ} → after ≡ carried (i - p) p i list
+  pub sort_next : {p : ℕ} → PlaceFor plates list r i p → {after : List ℕ}
+      → after ≡ take p list ++ i ∷ (take (i - p) (drop p list) ++ drop (i + 1) list)
       → Sorting plates list₀ after r n (i + 1)
   sort_next {p} w {after} e =
-      let d : p + (i - p) ≡ i = omega (arith, w.most) in
       let rows = take p list ++ i ∷ take (i - p) (drop p list) in
       let is : after ≡ rows ++ drop (i + 1) list
-      = e ∙ carried_is (i - p) p i list (omega (arith, d, h.places, s.long))
-      ∙ ap (λ (k : ℕ). take p list ++ i ∷ (take (i - p) (drop p list) ++ drop (k + 1) list)) d
-      ∙ sym (append_assoc (take p list) (i ∷ take (i - p) (drop p list)) (drop (i + 1) list)) in
+      = e ∙ sym (append_assoc (take p list) (i ∷ take (i - p) (drop p list)) (drop (i + 1) list)) in
       let ys = in_order r plates (i + 1) in
       let zs = drop (i + 1) list in
       let front : rows ≡ ys = put_is place_asked p w ∙ ap (in_order r plates) (sym (add-one i)) in
@@ -84,10 +78,3 @@ module _ {plates list₀ list : List ℕ} {r n i : ℕ} (h : SortAsked (length p
         sorted = ap (take (i + 1)) whole ∙ take_at ys zs (i + 1) count;
         rest = ap (drop (i + 1)) whole ∙ drop_at ys zs (i + 1) count ∙ one_more;
       }
-
-pub sort_end : {plates list₀ list : List ℕ} {r n i : ℕ} → Sorting plates list₀ list r n i → n ≤ i
-    → list ≡ in_order r plates n ++ drop n list₀
-sort_end {plates} {list₀} {list} {r} {n} {i} s h =
-    let e : i ≡ n = omega (arith, s.most) in
-    sym (take-append-drop i list) ∙ ap₂ ◌++◌ s.sorted s.rest
-    ∙ ap (λ (k : ℕ). in_order r plates k ++ drop k list₀) e

@@ -6,22 +6,29 @@
 // Compare; and the numbers of the shelf, where any are lent.
 #![tactic(auto)]
 
-use case_io::{end_line, end_refused, field_u32, fields_u32, limit, next};
-use definition::{CompareAnswer, ShelfAnswer};
+use case_io::{Numbers, end_line, end_refused, field, fields};
+use definition::{CompareAnswer, Refusal};
 use program_input::read_full;
 use std::io;
 use std::io::Write;
 
 // Ends a line with a cell.
 fn end_cell<W: Write>(out: &mut W, row: u32, column: u32) -> io::Result<()> {
-    field_u32(out, row)?;
-    field_u32(out, column)?;
+    field(out, row)?;
+    field(out, column)?;
     end_line(out)
 }
 
-fn print_compare<W: Write>(out: &mut W, answer: CompareAnswer) -> io::Result<()> {
+fn print_compare<W: Write>(out: &mut W, answer: Result<CompareAnswer, Refusal>) -> io::Result<()> {
     out.write_all(b"compare")?;
     match answer {
+        Ok(stands) => print_stands(out, stands),
+        Err(why) => end_refused(out, why),
+    }
+}
+
+fn print_stands<W: Write>(out: &mut W, stands: CompareAnswer) -> io::Result<()> {
+    match stands {
         CompareAnswer::Before => out.write_all(b",before\n"),
         CompareAnswer::BeforeAt(row, column) => {
             out.write_all(b",before")?;
@@ -33,27 +40,15 @@ fn print_compare<W: Write>(out: &mut W, answer: CompareAnswer) -> io::Result<()>
             end_cell(out, row, column)
         }
         CompareAnswer::After => out.write_all(b",after\n"),
-        CompareAnswer::Refused(why) => end_refused(out, why),
     }
 }
 
-fn print_shelf<W: Write>(out: &mut W, answer: ShelfAnswer) -> io::Result<()> {
+fn print_shelf<W: Write>(out: &mut W, answer: Result<(), Refusal>) -> io::Result<()> {
     out.write_all(b"shelf")?;
     match answer {
-        ShelfAnswer::Sorted => end_line(out),
-        ShelfAnswer::Refused(why) => end_refused(out, why),
+        Ok(()) => end_line(out),
+        Err(why) => end_refused(out, why),
     }
-}
-
-// Reads a number for each place, and returns the place behind the last.
-fn read_numbers(text: &[u8], from: usize, numbers: &mut [u32]) -> usize {
-    let mut at = from;
-    for number in numbers.iter_mut() {
-        let n = next(text, at);
-        *number = n.value;
-        at = n.at;
-    }
-    at
 }
 
 // Compares the two parts of a shelf, puts the shelf in order, and writes the answers and the list.
@@ -65,50 +60,47 @@ fn sort<W: Write>(
     middle: u32,
     list: &mut [u32],
 ) -> io::Result<()> {
-    let parted = limit(middle, plates.len());
+    let parted = case_io::limit(middle, plates.len());
     print_compare(
         out,
         compare::compare(side, &plates[..parted], &plates[parted..]),
     )?;
     print_shelf(out, shelf::shelf(side, n, plates, list))?;
     out.write_all(b"list")?;
-    fields_u32(out, list)
+    fields(out, list)
 }
 
-// Reads a shelf of the places lent, has it sorted, and returns the place behind it.
+// Reads a shelf of the places lent, and has it sorted.
 fn run<W: Write>(
     out: &mut W,
-    text: &[u8],
-    from: usize,
+    numbers: &mut Numbers,
     side: u32,
     n: u32,
     middle: u32,
     plates: &mut [u32],
     list: &mut [u32],
-) -> io::Result<usize> {
-    let end = read_numbers(text, from, plates);
-    sort(out, side, n, plates, middle, list)?;
-    Ok(end)
+) -> io::Result<()> {
+    for plate in plates.iter_mut() {
+        *plate = numbers.next();
+    }
+    sort(out, side, n, plates, middle, list)
 }
 
-// Reads a case from a place on, writes its answers, and returns the place behind it.
-fn run_case<W: Write>(out: &mut W, text: &[u8], from: usize) -> io::Result<usize> {
-    let side = next(text, from);
-    let n = next(text, side.at);
-    let p = next(text, n.at);
-    let l = next(text, p.at);
-    let middle = next(text, l.at);
-    let plates_lent = limit(p.value, 5000);
-    let list_lent = limit(l.value, 300);
+// Reads a case, and writes its answers.
+fn run_case<W: Write>(out: &mut W, numbers: &mut Numbers) -> io::Result<()> {
+    let side = numbers.next();
+    let n = numbers.next();
+    let plates_lent = numbers.limit(5000);
+    let list_lent = numbers.limit(300);
+    let middle = numbers.next();
     let mut plates = [0u32; 5000];
     let mut list = [9u32; 300];
     run(
         out,
-        text,
-        middle.at,
-        side.value,
-        n.value,
-        middle.value,
+        numbers,
+        side,
+        n,
+        middle,
         &mut plates[..plates_lent],
         &mut list[..list_lent],
     )
@@ -116,11 +108,10 @@ fn run_case<W: Write>(out: &mut W, text: &[u8], from: usize) -> io::Result<usize
 
 // Runs every case of a text.
 fn run_cases<W: Write>(out: &mut W, text: &[u8]) -> io::Result<()> {
-    let count = next(text, 0);
-    let mut at = count.at;
-    for number in 1..=count.value {
+    let mut numbers = Numbers::new(text);
+    for number in 1..=numbers.next() {
         case_io::print_case(out, number)?;
-        at = run_case(out, text, at)?;
+        run_case(out, &mut numbers)?;
     }
     Ok(())
 }

@@ -1,11 +1,11 @@
 -- Powers of two by shifting (`shifted`), and where a level begins (`shifted_start`).
 use Rattle.std.specs.Prelude.{◌≡◌, refl, ℕ, zero, suc, ◌*◌, ◌-◌, ◌/◌, ◌%◌, ◌^◌, ◌≤◌}
 use Rattle.std.proofs.Math.Path.{ap}
-use Rattle.std.proofs.Common.{◌∙◌, arith, one-mul, pow_pos, shl_exact}
+use Rattle.std.proofs.Common.{◌∙◌, arith, one-mul, shl_exact}
 use Rattle.std.proofs.Math.Nat.{pow-succ'}
 use Rattle.definition.specs.Pyramid.{start}
 
-pub shifted : (k : ℕ) → k ≤ 18 → 1 * 2 ^ k % 2 ^ 64 ≡ 2 ^ k
+shifted : (k : ℕ) → k ≤ 18 → 1 * 2 ^ k % 2 ^ 64 ≡ 2 ^ k
 shifted k h = shl_exact {a = 1} 1 k 64 (omega arith) (omega arith) ∙ one-mul (2 ^ k)
 
 even_power : (k : ℕ) → 2 ^ (2 * k) ≡ 4 ^ k
@@ -17,9 +17,6 @@ even_power (suc k) =
 module _ (k : ℕ) (h : k ≤ 9) where
   shifted_twice : 1 * 2 ^ (2 * k) % 2 ^ 64 ≡ 4 ^ k
   shifted_twice = shifted (2 * k) (omega arith) ∙ even_power k
-
-  pub shifted_some : 1 ≤ 1 * 2 ^ (2 * k) % 2 ^ 64
-  shifted_some = omega (arith, shifted (2 * k) (omega arith), pow_pos (2 * k))
 
   pub shifted_start : (1 * 2 ^ (2 * k) % 2 ^ 64 - 1) / 3 ≡ start k
   unfolding start

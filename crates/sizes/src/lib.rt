@@ -1,12 +1,18 @@
 // Sides, powers of two, level starts and lengths: the numbers that every call works with (`power_of`, `pow2`,
-// `cell_count`, `level_start`, `needed`).
+// `cell_count`, `level_start`, `needed`), and what a dot is worth (`DOT`).
 #![tactic(auto)]
 
-ghost use Rattle.std.specs.Prelude.{◌≡◌, ◌^◌, ◌≤◌, min};
+ghost use Rattle.std.specs.Prelude.{◌≡◌, ◌^◌, ◌≤◌};
 ghost use Rattle.definition.specs.Pyramid.{cell_count, needed, start};
 ghost use Rattle.definition.specs.Refusals.{power_of};
 
+// What one dot is worth, and half of that, from which on a dot is due: the 0.5 at which report 265, section 3.2, stops.
+pub const DOT: i64 = 65280;
+
+pub const HALF_DOT: i64 = DOT / 2;
+
 // The power of a side (S 2.1): 1 to 8, or 0 if the side isn't one of the eight.
+#[tactic(auto, unfolding(definition::specs::Refusals::power_of, definition::specs::Refusals::power_up_to))]
 pub fn power_of(side: u32) -> usize
     ensures { result ≡ power_of side }
 {
@@ -54,14 +60,4 @@ pub fn needed(r: usize) -> usize
     ensures { result ≡ needed r }
 {
     level_start(r + 1)
-}
-
-// The shorter of two lengths.
-pub fn shorter(a: usize, b: usize) -> usize
-    ensures { result ≡ min a b }
-{
-    if a < b {
-        return a;
-    }
-    b
 }

@@ -1,6 +1,8 @@
 -- The ways out of Sketch Quote: a first line that is refused (`first_refused`), a sketch that is (`sketch_refused`),
 -- and one stored with its figures (`sketch_quoted_lem`).
 use Rattle.std.specs.Prelude.{◌≡◌, refl, true, List, ◌++◌, ℕ, suc, ◌*◌, ◌-◌, ◌^◌, ◌≤◌, ◌<◌, min, length, take, drop}
+use Rattle.std.specs.Prelude.{Bool, Result, Ok, Err}
+use Rattle.std.specs.Prelude as Std
 use Rattle.std.proofs.Math.Path.{sym}
 use Rattle.std.proofs.Common.{ap, ◌∙◌, arith, suc-ne-zero, take_at}
 use Rattle.std.proofs.Math.Option.{Option, some, none}
@@ -21,7 +23,6 @@ use Rattle.definition.specs.SketchQuote.{
 }
 use Rattle.definition.specs.declared.Refusal.{Refusal}
 use Rattle.definition.specs.declared.SketchAnswer.{SketchAnswer}
-use Rattle.definition.specs.declared.SketchAnswer.TheVariants.{Quoted, Refused}
 use Rattle.refusals.specs.Numbers.{number_positive}
 use Rattle.refusals.specs.Powers.{power_of_small, cell_count_side}
 use Rattle.grammar.specs.Lines.{repeated_line_ends_no_digits}
@@ -29,14 +30,11 @@ use Rattle.grammar.proofs.MapText.{values_low}
 use Rattle.grammar.specs.Sketch.{Apart}
 use Rattle.grammar.proofs.Sketch.{read_apart, sketch_none}
 use Rattle.checks.specs.Checks.{checked, passed_none, failed_number}
-use Rattle.checks.specs.declared.Check.{Check}
 use Rattle.decimals.specs.Writing.{sets_front}
 use Rattle.text_cells.specs.Cells.{CellsRead}
 use Rattle.text_cells.specs.Found.{numbers_from, cells_stored}
 use Rattle.text_cells.specs.FirstLine.{GoodSide, LineSays, line_good, line_refused}
-use Rattle.text_cells.specs.declared.Cells.{Cells}
 use Rattle.text_cells.specs.declared.FirstLine.{FirstLine}
-use Rattle.text_cells.specs.declared.FirstLine.TheVariants as Line
 use Rattle.text_cells.specs.Ends.{pairs_sketch}
 use Rattle.sketch_quote.specs.Checks.{sketch_check}
 
@@ -51,24 +49,23 @@ pub record FiguresAsked (r k lows highs caps : ℕ) : Type 0 where
 
 -- the answer has both totals, and the caps are written
 pub record FiguresPut (side r k : ℕ) (lows highs caps : List ℕ) (answer : SketchAnswer) (after : List ℕ) : Type 0 where
-  pub says : answer ≡ Quoted side (total_of (grey_total r lows)) (total_of (grey_total r highs))
+  pub says : answer
+      ≡ record { side = side; least = total_of (grey_total r lows); greatest = total_of (grey_total r highs) }
   pub written : after ≡ caps_of r highs k ++ drop (2 ^ k * 2 ^ k) caps
 
 -- ---- the first line, refused; `room` is what the code has worked out
-pub first_refused : (text : List ℕ) (k : ℕ) (lows highs caps : List ℕ) {room : ℕ}
-    → room ≡ min (length lows) (length highs) → (line : FirstLine) → LineSays text room line
-    → {why : Refusal} → line ≡ Line.Refused why
-    → record { said = sketch_says (Refused why); lows = lows; highs = highs; caps = caps }
-    ≡ sketch_quote_of text k lows highs caps
-unfolding sketch_quote_of sketch_kept sketch_says
-first_refused text k lows highs caps {room} e line says refused =
-    rw (← e, line_refused text room line says refused sketch_ends, sketch_quote_of)
+module _ (text : List ℕ) (lows highs : List ℕ) {room : ℕ} (e : room ≡ min (length lows) (length highs)) where
+  pub first_refused : (k : ℕ) (caps : List ℕ) (why : Refusal) → LineSays text room (Err why)
+      → {a : Result SketchAnswer Refusal} → a ≡ Err why
+      → record { said = sketch_says a; lows = lows; highs = highs; caps = caps }
+      ≡ sketch_quote_of text k lows highs caps
+  unfolding sketch_quote_of sketch_kept sketch_says
+  first_refused k caps why says ea = rw (ea, ← e, line_refused text room why says sketch_ends, sketch_quote_of)
 
--- a good one
-pub first_good : (text : List ℕ) (lows highs : List ℕ) {room : ℕ} → room ≡ min (length lows) (length highs)
-    → (line : FirstLine) → LineSays text room line → {side from : ℕ} → line ≡ Line.Side side from
-    → GoodSide text (min (length lows) (length highs)) side from
-first_good text lows highs {room} e line says good = rw (← e) (line_good text room line says good)
+  -- a good one
+  pub first_good : (line : FirstLine) → LineSays text room (Ok line)
+      → GoodSide text (min (length lows) (length highs)) line.side line.next
+  first_good line says = rw (← e) (line_good text room line says)
 
 -- with the bound 240 the same pairs are read, where none of their numbers is too high
 low_again : (text : List ℕ) (from side : ℕ) → 0 < side → (pairs : List ℕ)
@@ -121,18 +118,20 @@ module _ {text : List ℕ} (k : ℕ) (lows highs caps : List ℕ) {side from : �
   unfolding sketch_quote_of
   pairs_quoted pairs e f = rw (read_pairs pairs e, f, sketch_quote_of)
 
-  -- `check` is what the code has found
-  module _ {r : ℕ} (er : r ≡ power_of side) (check : Check)
-      (h : checked check ≡ sketch_check text from side r k (length caps)) where
-    found : checked check ≡ sketch_check text from side (power_of side) k (length caps)
-    found = rw (← er) h
+  -- what the check says
+  module _ {r : ℕ} (er : r ≡ power_of side) where
+    abbrev refusal : ℕ
+    refusal = sketch_check text from side r k (length caps)
 
-    kept : (why : Refusal) → check ≡ Check.Failed why
+    same_refusal : sketch_check text from side (power_of side) k (length caps) ≡ refusal
+    same_refusal = rw er
+
+    kept : (why : Refusal) → checked (Err why) ≡ refusal
         → sketch_quote_of text k lows highs caps ≡ sketch_kept (suc (number_of why - 1)) lows highs caps
-    kept why failed = go (values_of 255 (sketch_ends side) (drop from text)) refl
+    kept why h = go (values_of 255 (sketch_ends side) (drop from text)) refl
       where
         number : sketch_check text from side (power_of side) k (length caps) ≡ suc (number_of why - 1)
-        number = failed_number check found why failed
+        number = same_refusal ∙ failed_number why h
 
         go : (o : Option (List ℕ)) → values_of 255 (sketch_ends side) (drop from text) ≡ o
             → sketch_quote_of text k lows highs caps ≡ sketch_kept (suc (number_of why - 1)) lows highs caps
@@ -142,11 +141,11 @@ module _ {text : List ℕ} (k : ℕ) (lows highs caps : List ℕ) {side from : �
         go (some pairs) e =
             pairs_kept pairs (number_of why - 1) e (sym (check_pairs (power_of side) pairs e) ∙ number)
 
-    pub sketch_refused : {why : Refusal} → check ≡ Check.Failed why
-        → record { said = sketch_says (Refused why); lows = lows; highs = highs; caps = caps }
+    pub sketch_refused : (why : Refusal) → checked (Err why) ≡ refusal → {a : Result SketchAnswer Refusal} → a ≡ Err why
+        → record { said = sketch_says a; lows = lows; highs = highs; caps = caps }
         ≡ sketch_quote_of text k lows highs caps
     unfolding sketch_kept sketch_says
-    sketch_refused {why} failed = sym (kept why failed ∙ rw (← number_positive why))
+    sketch_refused why h ea = rw ea (sym (kept why h ∙ rw (← number_positive why)))
 
     -- the pairs that are there, where nothing is refused
     record There : Type 0 where
@@ -157,12 +156,12 @@ module _ {text : List ℕ} (k : ℕ) (lows highs caps : List ℕ) {side from : �
       level : k ≤ power_of side
       enough : 2 ^ k * 2 ^ k ≤ length caps
 
-    module _ (passed : check ≡ Check.Passed) where
+    module _ (h : checked (Ok tt) ≡ refusal) where
       there : There
       there = go (values_of 255 (sketch_ends side) (drop from text)) refl
         where
           number : sketch_check text from side (power_of side) k (length caps) ≡ 0
-          number = passed_none check found passed
+          number = same_refusal ∙ passed_none h
 
           go : (o : Option (List ℕ)) → values_of 255 (sketch_ends side) (drop from text) ≡ o → There
           go none e = absurd (suc-ne-zero 6 (sym (check_none (power_of side) e) ∙ number))
@@ -185,7 +184,7 @@ module _ {text : List ℕ} (k : ℕ) (lows highs caps : List ℕ) {side from : �
       high = highs_of there.pairs
 
       -- what the run that stores has left
-      module _ {all : Cells} {lows_after highs_after : List ℕ}
+      module _ {all : Std.Option Bool} {lows_after highs_after : List ℕ}
           (stored : CellsRead text from side true 240 lows highs all lows_after highs_after) where
         lows_are : lows_after ≡ low ++ drop (length low) lows
         lows_are =
@@ -220,7 +219,7 @@ module _ {text : List ℕ} (k : ℕ) (lows highs caps : List ℕ) {side from : �
         pub sketch_quoted_lem : {answer : SketchAnswer} {caps_after : List ℕ}
             → FiguresPut side r k (take (side * side) lows_after) (take (side * side) highs_after) caps answer
             caps_after
-            → record { said = sketch_says answer; lows = lows_after; highs = highs_after; caps = caps_after }
+            → record { said = sketch_says (Ok answer); lows = lows_after; highs = highs_after; caps = caps_after }
             ≡ sketch_quote_of text k lows highs caps
         unfolding sketch_quoted sketch_says
         sketch_quoted_lem w =

@@ -11,30 +11,35 @@ ghost use Rattle.text_cells.specs.FirstLine.{GoodSide};
 ghost use Rattle.sketch_quote.specs.Checks.{sketch_check};
 ghost use Rattle.sketch_quote.specs.WaysOut.{FiguresAsked, FiguresPut};
 
-use checks::Check;
 use definition::{Refusal, SketchAnswer};
-use text_cells::FirstLine;
 
 // The refusals behind a good first line, for a level k and so many places for caps: 7, 12, 13, 6, 8 (S 5.2).
-fn check_sketch(text: &[u8], from: usize, side: usize, r: usize, k: usize, caps: usize) -> Check
+#[tactic(auto, using(crate::specs::Checks::not_there), unfolding(checks::specs::Checks::checked))]
+fn check_sketch(
+    text: &[u8],
+    from: usize,
+    side: usize,
+    r: usize,
+    k: usize,
+    caps: usize,
+) -> Result<(), Refusal>
     requires { CellsAsked side 240 × (r ≤ 8) }
     ensures { checked result ≡ sketch_check text.now from side r k caps }
 {
-    let found = text_cells::find_cells(text, from, side, true, 240);
-    if !found.all {
-        return Check::Failed(text_cells::why_not(text, from, side, true));
-    }
-    if !found.rise {
-        return Check::Failed(Refusal::PairFalls);
+    let Some(rise) = text_cells::find_cells(text, from, side, true, 240) else {
+        return Err(text_cells::why_not(text, from, side, true));
+    };
+    if !rise {
+        return Err(Refusal::PairFalls);
     }
     if r < k {
-        return Check::Failed(Refusal::BlockUnknown);
+        return Err(Refusal::BlockUnknown);
     }
     let squares = sizes::cell_count(k);
     if caps < squares {
-        return Check::Failed(Refusal::OutputShort);
+        return Err(Refusal::OutputShort);
     }
-    Check::Passed
+    Ok(())
 }
 
 // The answer for the lows and highs of a map's cells, and the caps of level k.
@@ -52,7 +57,11 @@ fn put_figures(
     let least = quote_figures::total_dots(r, lows) as u32;
     let greatest = quote_figures::total_dots(r, highs) as u32;
     quote_figures::put_caps(highs, r, k, caps);
-    SketchAnswer::Quoted(side, least, greatest)
+    SketchAnswer {
+        side,
+        least,
+        greatest,
+    }
 }
 
 // The sketch behind a first line that says a good side: tested, then stored, with its figures.
@@ -64,22 +73,17 @@ fn quote_cells(
     lows: &mut [u8],
     highs: &mut [u8],
     caps: &mut [u32],
-) -> SketchAnswer
+) -> Result<SketchAnswer, Refusal>
     requires { GoodSide text.now (min (length lows.old) (length highs.old)) side from }
     ensures { record { said = sketch_says result; lows = lows.new; highs = highs.new; caps = caps.new }
         ≡ sketch_quote_of text.now level lows.old highs.old caps.old }
 {
     let n = side as usize;
-    let cells = n * n;
     let r = sizes::power_of(side);
     let k = level as usize;
-    match check_sketch(text, from, n, r, k, caps.len()) {
-        Check::Failed(why) => SketchAnswer::Refused(why),
-        Check::Passed => {
-            text_cells::read_cells(text, from, n, true, 240, lows, highs);
-            put_figures(side, r, k, &lows[..cells], &highs[..cells], caps)
-        }
-    }
+    check_sketch(text, from, n, r, k, caps.len())?;
+    text_cells::read_cells(text, from, n, true, 240, lows, highs);
+    Ok(put_figures(side, r, k, &lows[..n * n], &highs[..n * n], caps))
 }
 
 // Sketch Quote (S 9.4): totals and caps of a sketch (S 6.3), or a refusal with nothing written.
@@ -89,13 +93,10 @@ pub fn sketch_quote(
     lows: &mut [u8],
     highs: &mut [u8],
     caps: &mut [u32],
-) -> SketchAnswer
+) -> Result<SketchAnswer, Refusal>
     ensures { record { said = sketch_says result; lows = lows.new; highs = highs.new; caps = caps.new }
         ≡ sketch_quote_of text.now level lows.old highs.old caps.old }
 {
-    let room = sizes::shorter(lows.len(), highs.len());
-    match text_cells::first_line(text, room) {
-        FirstLine::Refused(why) => SketchAnswer::Refused(why),
-        FirstLine::Side(side, at) => quote_cells(text, at, side, level, lows, highs, caps),
-    }
+    let line = text_cells::first_line(text, lows.len().min(highs.len()))?;
+    quote_cells(text, line.next, line.side, level, lows, highs, caps)
 }

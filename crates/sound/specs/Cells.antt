@@ -1,9 +1,9 @@
 -- The tests of every cell as tests of one cell after another (`row_every`, `held_every`), and of one cell
--- (`bounded_burnt`, `owing_is`).
+-- (`bounded_burnt`, `over`).
 use Rattle.std.specs.Prelude.{◌≡◌, refl, Bool, true, false, not, ◌&&◌, List, ℕ, suc, ◌+◌, ◌*◌, ◌-◌, ◌^◌, ◌≤◌, ◌<◌, T}
-use Rattle.std.specs.Prelude.{leb, eqb, length, get_or, set, ℤ, pos, neg_ℤ, ◌-ℤ◌, ◌*ℤ◌}
-use Rattle.std.proofs.Common.{sym, ◌∙◌, arith, mul-le-mul, length-set, get_or-set_same, get_or-set_other, pow_mono}
-use Rattle.std.proofs.Common.{SFits, to_z, of_z, to_z-of_z, le-leb}
+use Rattle.std.specs.Prelude.{leb, length, get_or, set, ℤ, pos}
+use Rattle.std.proofs.Common.{sym, ◌∙◌, arith, mul-le-mul, get_or-set_same, get_or-set_other, pow_mono}
+use Rattle.std.proofs.Common.{to_z, of_z}
 use Rattle.std.proofs.Math.Decide.{ℕ_discrete}
 use Rattle.std.specs.Int.Signed.{le_z, mag}
 use Rattle.std.specs.Int.{w64}
@@ -11,21 +11,21 @@ use Rattle.definition.specs.Lists.{sum_to, all_to}
 use Rattle.definition.specs.Pyramid.{one_dot, start, place_in}
 use Rattle.definition.specs.Quarters.{interleaved}
 use Rattle.definition.specs.Blocks.{burnt, burnt_at}
-use Rattle.definition.specs.Diffusion.{row_near, column_near, within, on_map}
+use Rattle.definition.specs.Diffusion.{within, on_map}
 use Rattle.definition.specs.Sound.{burnt_near, every_entry, bounded, owing}
-use Rattle.integers.specs.Tests.{T_true, true_T, T_and, and_T, ne→neqb, cond_T, cond_not, tests, same_test}
-use Rattle.integers.specs.Tests.{and_true, and_false, all_to_at, all_to_all}
+use Rattle.integers.specs.Tests.{T_true, T_and, and_T, tests, same_test}
+use Rattle.integers.specs.Tests.{and_true, all_to_at, all_to_all}
 use Rattle.integers.specs.Linear.{zz, ints}
-use Rattle.integers.specs.Machine.{back64, of_bits, nat_abs_fits, words, machine}
+use Rattle.integers.specs.Machine.{back64}
 use Rattle.quadtree.specs.Levels.{start_thrice, start_suc, start_mono, cell_lt}
-use Rattle.integers.specs.Totals.{Total}
 use Rattle.blocks.specs.Squares.{dot_none, dot_one}
-use Rattle.sound.specs.OnePlace.{in_rows, row_place, column_place, LineAsked, ColumnPlaces, CellAsked, GridAsked}
-use Rattle.sound.specs.OnePlace.{NearAsked, NearPlace, OwingAsked, RowAsked, is_neighbour, burnt_there, bounded_cell}
-use Rattle.sound.specs.OnePlace.{bounded_at, on_side, near_at, owing_cell, owing_at, held_at, held_in, row_held}
+use Rattle.places.specs.Parts.{ColumnParts}
+use Rattle.sound.specs.OnePlace.{in_rows, row_place, column_place, LineAsked, ColumnPlaces, GridAsked}
+use Rattle.sound.specs.OnePlace.{NearAsked, NearPlace, RowAsked, bounded_cell}
+use Rattle.sound.specs.OnePlace.{bounded_at, on_side, near_at, owing_at, held_at, held_in, row_held}
 use Rattle.sound.specs.OnePlace.{held_row}
 use Rattle.sound.specs.Either.{all_to_ext, two_parts_lt, cell_entry}
-use Rattle.integers.specs.Loops.{Every, held, failed}
+use Rattle.integers.specs.Loops.{Every, held}
 
 -- ════ the two parts of a place
 
@@ -36,10 +36,6 @@ pub row_by_quarters : {rows : Bool} (side a : ℕ) {p : ℕ} → rows ≡ false 
     → p ≡ row_place rows side a
 row_by_quarters side a e q = rw e (unfold row_place in q)
 
-pub row_fits : {side a : ℕ} → LineAsked side a → a * side < 2 ^ 20
-row_fits {side} {a} h =
-    let k : a ≤ 256 = omega (arith, h.small, h.within) in omega (arith, mul-le-mul k h.small)
-
 pub column_by_rows : {rows : Bool} (b : ℕ) → rows ≡ true → b ≡ column_place rows b
 column_by_rows b e = rw e (unfold column_place in refl)
 
@@ -47,22 +43,19 @@ pub column_by_quarters : {rows : Bool} (b : ℕ) {p : ℕ} → rows ≡ false �
     → p ≡ column_place rows b
 column_by_quarters b e q = rw e (unfold column_place in q)
 
--- the columns one after another
-pub columns_none : {rows : Bool} {columns : List ℕ} → length columns ≡ 256 → ColumnPlaces rows 0 columns
-columns_none e = record { long = e; is = λ b lt. absurd (omega arith) }
-
-pub columns_turn : {rows : Bool} {n : ℕ} {columns : List ℕ} {v : ℕ} → ColumnPlaces rows n columns → n < 256
-    → v ≡ column_place rows n → ColumnPlaces rows (n + 1) (set columns n v)
-columns_turn {rows} {n} {columns} {v} h lt e =
-    record { long = simp length-set h.long; is = λ b p. go b p (ℕ_discrete b n) }
+-- the columns one after another, row after row
+pub columns_turn : {n : ℕ} {columns : List ℕ} → ColumnPlaces true n columns → n < length columns
+    → ColumnPlaces true (n + 1) (set columns n n)
+columns_turn {n} {columns} h lt = record { is = λ b p. go b p (ℕ_discrete b n) }
   where
-    go : (b : ℕ) → b < n + 1 → Dec (b ≡ n) → get_or (set columns n v) b 0 ≡ column_place rows b
-    go b p (yes q) = rw q (get_or-set_same columns n v 0 (omega (arith, h.long)) ∙ e)
-    go b p (no q) = get_or-set_other columns n b v 0 q ∙ h.is b (omega arith)
+    go : (b : ℕ) → b < n + 1 → Dec (b ≡ n) → get_or (set columns n n) b 0 ≡ column_place true b
+    go b p (yes q) = rw q (get_or-set_same columns n n 0 lt ∙ column_by_rows n refl)
+    go b p (no q) = get_or-set_other columns n b n 0 q ∙ h.is b (omega arith)
 
-pub columns_all : {rows : Bool} {side n : ℕ} {columns : List ℕ} → ColumnPlaces rows n columns → n ≤ side → side ≤ n
+-- by quarters
+pub columns_quarters : {rows : Bool} {side : ℕ} {columns : List ℕ} → rows ≡ false → ColumnParts side columns
     → ColumnPlaces rows side columns
-columns_all h p q = record { long = h.long; is = λ b lt. h.is b (omega arith) }
+columns_quarters e h = record { is = λ b lt. column_by_quarters b e (h.is b lt) }
 
 -- ════ one cell's bound from above
 
@@ -82,12 +75,6 @@ module _ (residual : ℤ) {serial : ℕ} (fits : mag residual < 2 ^ 63) where
 
 -- ════ burnt neighbours
 
-pub off_side : (side : ℕ) {x : ℕ} → x ≡ 0 → false ≡ on_side side x
-off_side side e = rw e
-
-pub on_side_is : (side : ℕ) {x : ℕ} → (x ≡ 0 → ⊥) → leb x side ≡ on_side side x
-on_side_is side {x} n = rw (le-leb 1 x (omega arith))
-
 module _ {side serials x y : ℕ} where
   pub near_place : {row column : ℕ} {a b : Bool} → NearAsked side serials row column → a ≡ on_side side x → not a
       ≡ false
@@ -106,113 +93,21 @@ module _ {side serials x y : ℕ} where
         few = omega (arith, h.cells, mul-le-mul h.small h.small);
       }
 
-module _ (side : ℕ) (serials : List ℕ) (row column p : ℕ) where
-  abbrev across : Bool
-  across = on_side side (column_near column p)
-
-  abbrev down : Bool
-  down = on_side side (row_near row p)
-
-  near_none : T (not (is_neighbour side row column p)) → Total (near_at side serials row column p) 1 0
-  near_none t =
-      record {
-        is = sym (cond_not (is_neighbour side row column p) (burnt_there side serials row column p) 0 t);
-        small = omega arith;
-      }
-
-  pub near_self : p ≡ 4 → Total (near_at side serials row column p) 1 0
-  near_self e = near_none (rw e tt)
-
-  pub near_row : {b : Bool} → b ≡ down → not b ≡ true → Total (near_at side serials row column p) 1 0
-  near_row e f = near_none (rw (failed e f, and_false (not (eqb p 4))) tt)
-
-  pub near_column : {b : Bool} → b ≡ across → not b ≡ true → Total (near_at side serials row column p) 1 0
-  near_column e f = near_none (rw (failed e f, and_false down, and_false (not (eqb p 4))) tt)
-
-  pub near_on : {a b : Bool} {n : ℕ} → (p ≡ 4 → ⊥) → a ≡ down → not a ≡ false → b ≡ across → not b ≡ false
-      → Total (burnt_there side serials row column p) 1 n → Total (near_at side serials row column p) 1 n
-  near_on q e f g k h =
-      record {
-        is =
-            h.is ∙ sym
-            (cond_T (is_neighbour side row column p) (burnt_there side serials row column p) 0
-            (and_T (not (eqb p 4)) (down && across) (ne→neqb p 4 q)
-            (and_T down across (T_true _ (held e f)) (T_true _ (held g k)))));
-        small = h.small;
-      }
-
--- ════ one cell's bound from below
-
-module _ (near : ℕ) (few : near ≤ 9) where
-  owed : pos 65280 *ℤ to_z w64 near ≡ pos (one_dot * near)
-  owed = rw (of_bits near (omega arith))
-
-  pub owed_fits : SFits w64 (pos 65280 *ℤ to_z w64 near)
-  owed_fits = rw owed (nat_abs_fits (pos (one_dot * near)) (omega arith))
-
-  least : pos 0 -ℤ to_z w64 (of_z w64 (pos 65280 *ℤ to_z w64 near)) ≡ neg_ℤ (pos (one_dot * near))
-  least = rw (to_z-of_z owed_fits, owed) (simp zz (omega arith))
-
-  pub least_fits : SFits w64 (pos 0 -ℤ to_z w64 (of_z w64 (pos 65280 *ℤ to_z w64 near)))
-  least_fits = rw least (simp words (omega machine))
-
-  pub owing_is : (residual : ℤ) → mag residual < 2 ^ 63
-      → le_z (to_z w64 (of_z w64 (pos 0 -ℤ to_z w64 (of_z w64 (pos 65280 *ℤ to_z w64 near)))))
-      (to_z w64 (of_z w64 residual))
-      ≡ owing_cell residual near
-  owing_is residual fits = rw (to_z-of_z least_fits, least, back64 residual fits)
-
-pub near_asked : {side at pyramid serials row column : ℕ} → OwingAsked side at pyramid serials row column
-    → NearAsked side serials row column
-near_asked h = record { small = h.small; cells = h.cells; down = h.down; across = h.across }
-
-pub owing_near : (residual : ℤ) {near value most : ℕ} {b : Bool} → mag residual < 2 ^ 63 → Total value most near
-    → b ≡ owing_cell (to_z w64 (of_z w64 residual)) near → b ≡ owing_cell residual value
-owing_near residual fits h e = rw (back64 residual fits, h.is) at e
-
--- a residual from `low` on, which is not below 0, is at least any number of dots below 0
-pub owing_positive : (low residual : ℤ) (near : ℕ) → mag residual < 2 ^ 63 → T (le_z (pos 0) low)
-    → le_z low (to_z w64 (of_z w64 residual)) ≡ true → true ≡ owing_cell residual near
-owing_positive low residual near fits least e =
-    let t : T (le_z low residual) = T_true _ (rw (back64 residual fits) at e) in
-    sym (true_T (owing_cell residual near) (simp zz (omega (ints, simp zz at t, simp zz at least))))
-
 -- ════ both bounds of one cell
-
-cell_in : {side at pyramid serials row column : ℕ} → OwingAsked side at pyramid serials row column
-    → row * side + column < serials
-cell_in {side} {row = row} {column} h = omega (arith, h.cells, cell_lt side row column h.down h.across)
-
-pub cell_few : {side at pyramid serials row column : ℕ} → OwingAsked side at pyramid serials row column
-    → row * side + column < 2 ^ 20
-cell_few h = omega (arith, cell_in h, h.cells, mul-le-mul h.small h.small)
-
-pub cell_asked : {side at pyramid serials row column : ℕ} → OwingAsked side at pyramid serials row column
-    → CellAsked at pyramid serials (row * side + column)
-cell_asked h = record { residual = h.residual; serial = cell_in h }
 
 -- a cell over its bound from above fails; of any other the bound from below decides
 module _ (side : ℕ) (pyramid : List ℤ) (serials : List ℕ) (at row column : ℕ) {a : Bool}
     (e : a ≡ bounded_at pyramid serials at (row * side + column)) where
-  pub over : not a ≡ true → false ≡ held_at side pyramid serials at row column
+  pub over : a ≡ false → a ≡ held_at side pyramid serials at row column
   unfolding held_at
-  over f = rw (failed e f)
+  over f = f ∙ rw (sym e ∙ f)
 
-  pub not_over : {b : Bool} → not a ≡ false → b ≡ owing_at side pyramid serials at row column
+  pub not_over : {b : Bool} → a ≡ true → b ≡ owing_at side pyramid serials at row column
       → b ≡ held_at side pyramid serials at row column
   unfolding held_at
-  not_over f g = rw (held e f) g
+  not_over f g = rw (sym e ∙ f) g
 
 -- ════ both bounds of every cell of a row
-
-module _ {side first : ℕ} {columns : List ℕ} {pyramid serials row column : ℕ}
-    (h : RowAsked side first columns pyramid serials row) (lt : column < side) where
-  pub place_few : first + get_or columns column 0 < 2 ^ 20
-  place_few = omega (arith, h.residuals column lt, h.few)
-
-  pub held_asked : OwingAsked side (first + get_or columns column 0) pyramid serials row column
-  held_asked =
-      record { small = h.small; cells = h.cells; residual = h.residuals column lt; down = h.down; across = lt }
 
 pub row_every : (side first : ℕ) (columns : List ℕ) (pyramid : List ℤ) (serials : List ℕ) (row : ℕ)
     → Every (row_held side first columns pyramid serials row) (held_in side first columns pyramid serials row) side

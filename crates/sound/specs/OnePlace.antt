@@ -39,7 +39,6 @@ pub record LineAsked (side a : ℕ) : Type 0 where
 
 -- a list of the parts of the first n columns
 pub record ColumnPlaces (rows : Bool) (n : ℕ) (columns : List ℕ) : Type 0 where
-  pub long : length columns ≡ 256
   pub is : (b : ℕ) → b < n → get_or columns b 0 ≡ column_place rows b
 
 -- ════ serials and order

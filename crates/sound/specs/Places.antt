@@ -1,6 +1,6 @@
 -- The tests of serials and order list, at each place (`few_dots_is`, `numbered_every`, `counted_is`, `unused_every`).
-use Rattle.std.specs.Prelude.{◌≡◌, true, false, List, ℕ, ◌+◌, ◌≤◌, ◌<◌, leb, eqb, get_or}
-use Rattle.std.proofs.Common.{add-one, arith, lt-ltb, le-ltb}
+use Rattle.std.specs.Prelude.{◌≡◌, List, ℕ, ◌≤◌, leb, eqb, get_or}
+use Rattle.std.proofs.Common.{arith}
 use Rattle.definition.specs.Blocks.{burnt}
 use Rattle.definition.specs.Lists.{sum_to}
 use Rattle.definition.specs.Pyramid.{cell_count}
@@ -31,18 +31,3 @@ pub counted_is : (r : ℕ) (serials : List ℕ) (dots : ℕ) {cells i sum most :
     → cells ≤ i → Total (sum_to i (λ m. burnt (get_or serials m 0))) most sum → eqb sum dots ≡ counted r serials dots
 unfolding counted
 counted_is r serials dots {cells} {i} e p q h = let z : i ≡ cell_count r = omega arith in rw (h.is, z)
-
-module _ (cells : ℕ) (serials order : List ℕ) (i : ℕ) where
-  pub next_off : cells ≤ get_or order i 0 → false ≡ next_at cells serials order i
-  next_off h = rw (le-ltb (get_or order i 0) cells h)
-
-  pub next_on : get_or order i 0 < cells → eqb (get_or serials (get_or order i 0) 0) (i + 1)
-      ≡ next_at cells serials order i
-  next_on h = rw (lt-ltb (get_or order i 0) cells h, add-one i)
-
-module _ (dots : ℕ) (order : List ℕ) (i : ℕ) where
-  pub free_used : i < dots → true ≡ free_at dots order i
-  free_used h = rw (lt-ltb i dots h)
-
-  pub free_zero : dots ≤ i → eqb (get_or order i 0) 0 ≡ free_at dots order i
-  free_zero h = rw (le-ltb i dots h)

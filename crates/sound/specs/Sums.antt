@@ -76,11 +76,6 @@ module _ {pyramid : List ℤ} {off next side i : ℕ} (h : SidesAsked pyramid of
       }
 
   -- by quarters they lie side by side
-  pub below_quarter : (off + i < 2 ^ 20) × (next + 4 * i < 2 ^ 20)
-  below_quarter =
-      let k : side * side ≤ 16384 = mul-le-mul h.most h.most in
-      (omega (arith, h.room, h.low), omega (arith, h.low))
-
   pub quarter_asked : SumAsked pyramid (off + i) (next + 4 * i) 2
   quarter_asked =
       let k : 4 * i + 3 < 2 * side * (2 * side) = omega arith in

@@ -8,9 +8,8 @@ ghost use Rattle.definition.specs.Blocks.{burnt};
 ghost use Rattle.definition.specs.Sound.{few_dots, numbered, counted, unused, summed, bounded, owing, is_sound};
 ghost use Rattle.definition.specs.Sound.{every_entry};
 ghost use Rattle.integers.specs.Totals.{Total};
-ghost use Rattle.places.specs.Table.{places};
 ghost use Rattle.sound.specs.OnePlace.{in_rows, SoundAsked, CellsAsked, NumberedAsked, NextAsked, next_at, free_at};
-ghost use Rattle.sound.specs.OnePlace.{LineAsked, row_place, column_place, ColumnPlaces, CellAsked, bounded_at};
+ghost use Rattle.sound.specs.OnePlace.{LineAsked, row_place, ColumnPlaces, CellAsked, bounded_at};
 ghost use Rattle.sound.specs.OnePlace.{
   on_side,
   NearPlace,
@@ -24,8 +23,8 @@ ghost use Rattle.sound.specs.OnePlace.{
 ghost use Rattle.sound.specs.OnePlace.{SumAsked, sum_holds, SidesAsked, row_sum_at, sum_at, LevelAsked, level_summed};
 ghost use Rattle.sound.specs.OnePlace.{GridAsked, RowAsked, row_held, SummedAsked};
 
-// What one dot is worth.
-const DOT: i64 = 65280;
+use places::Table;
+use sizes::DOT;
 
 // Whether there are at most as many dots as cells (S 4.1).
 fn few_dots(r: usize, dots: u32) -> bool
@@ -41,10 +40,7 @@ fn is_next(cells: usize, serials: &[u32], order: &[u32], i: usize) -> bool
     ensures { result ≡ next_at cells serials.now order.now i }
 {
     let cell = order[i] as usize;
-    if cells <= cell {
-        return false;
-    }
-    serials[cell] as usize == i + 1
+    cell < cells && serials[cell] as usize == i + 1
 }
 
 // Whether each dot stands at its order place, and has its serial there (S 4.2).
@@ -54,12 +50,10 @@ fn numbered(r: usize, serials: &[u32], order: &[u32], dots: u32) -> bool
 {
     let cells = sizes::cell_count(r);
     let count = dots as usize;
-    let mut i = 0;
-    while i < count {
+    for i in 0..count {
         if !is_next(cells, serials, order, i) {
             return false;
         }
-        i += 1;
     }
     true
 }
@@ -69,12 +63,9 @@ fn counted(r: usize, serials: &[u32], dots: u32) -> bool
     requires { CellsAsked r (length serials.now) }
     ensures { result ≡ counted r serials.now dots }
 {
-    let cells = sizes::cell_count(r);
     let mut sum = 0;
-    let mut cell = 0;
-    while cell < cells {
-        sum += blocks::mark(serials[cell]);
-        cell += 1;
+    for serial in serials {
+        sum += blocks::mark(*serial);
     }
     sum == dots
 }
@@ -84,10 +75,7 @@ fn is_free(order: &[u32], dots: u32, i: usize) -> bool
     requires { i < length order.now }
     ensures { result ≡ free_at dots order.now i }
 {
-    if i < dots as usize {
-        return true;
-    }
-    order[i] == 0
+    i < dots as usize || order[i] == 0
 }
 
 // Whether the order places past those of the dots are 0 (S 4.4).
@@ -96,54 +84,39 @@ fn unused(r: usize, order: &[u32], dots: u32) -> bool
     ensures { result ≡ unused r order.now dots }
 {
     let cells = sizes::cell_count(r);
-    let mut i = 0;
-    while i < cells {
+    for i in 0..cells {
         if !is_free(order, dots, i) {
             return false;
         }
-        i += 1;
     }
     true
 }
 
 // The part of row a, of a map of side `side`, in the places of its cells within their level. A place is its row's part
 // and its column's, added, in either layout: so a row's part is found once for all its cells.
-fn row_place(rows: bool, table: &[u16; 1024], side: usize, a: usize) -> usize
-    requires line_asked { LineAsked side a }
-    requires table_value { table.now ≡ places }
+// The layout is a flag here and below: three short functions ask for it, and a trait with a type for each layout would
+// be no plainer.
+fn row_place(rows: bool, table: &Table, side: usize, a: usize) -> usize
+    requires { LineAsked side a }
     ensures { result ≡ row_place rows side a }
 {
-    if rows {
-        return a * side;
-    }
-    places::row_part(table, a)
-}
-
-// The part of column b in them.
-fn column_place(rows: bool, table: &[u16; 1024], b: usize) -> usize
-    requires b_bound { b < 256 }
-    requires table_value { table.now ≡ places }
-    ensures { result ≡ column_place rows b }
-{
-    if rows {
-        return b;
-    }
-    places::column_part(table, b)
+    if rows { a * side } else { table.row_part(a) }
 }
 
 // The parts of all columns of a map of side `side`, found once for all rows.
-fn column_places(rows: bool, table: &[u16; 1024], side: usize) -> [usize; 256]
-    requires side_bound { side ≤ 256 }
-    requires table_value { table.now ≡ places }
+fn column_places(rows: bool, table: &Table, side: usize) -> [usize; 256]
+    requires { side ≤ 256 }
     ensures { ColumnPlaces rows side result }
 {
-    let mut columns = [0; 256];
-    let mut b = 0;
-    while b < side {
-        columns[b] = column_place(rows, table, b);
-        b += 1;
+    if rows {
+        let mut columns = [0; 256];
+        for (b, column) in columns.iter_mut().enumerate() {
+            *column = b;
+        }
+        columns
+    } else {
+        table.column_parts(side)
     }
-    columns
 }
 
 // Whether the residual of cell i, which is at place `at`, is at most one dot, and at most 0 if the cell is burnt
@@ -154,19 +127,17 @@ fn cell_bounded(at: usize, pyramid: &[i64], serials: &[u32], i: usize) -> bool
 {
     let residual = pyramid[at];
     if serials[i] == 0 {
-        return residual <= DOT;
+        residual <= DOT
+    } else {
+        residual <= 0
     }
-    residual <= 0
 }
 
 // Whether a row or column, counted from one before the map, lies on the map.
 fn on_side(side: usize, x: usize) -> bool
     ensures { result ≡ on_side side x }
 {
-    if x == 0 {
-        return false;
-    }
-    x <= side
+    (1..=side).contains(&x)
 }
 
 // 1 if there is a dot in row x and column y, so counted, else 0.
@@ -203,10 +174,8 @@ fn burnt_near(side: usize, serials: &[u32], row: usize, column: usize) -> u32
     ensures { Total (sum_to 9 (near_at side serials.now row column)) 9 result }
 {
     let mut sum = 0;
-    let mut p = 0;
-    while p < 9 {
+    for p in 0..9 {
         sum += near_mark(side, serials, row, column, p);
-        p += 1;
     }
     sum
 }
@@ -252,10 +221,8 @@ fn cell_held(
     requires { OwingAsked side at (length pyramid.now) (length serials.now) row column }
     ensures { result ≡ held_at side pyramid.now serials.now at row column }
 {
-    if !cell_bounded(at, pyramid, serials, row * side + column) {
-        return false;
-    }
-    cell_owing(side, at, pyramid, serials, row, column)
+    cell_bounded(at, pyramid, serials, row * side + column)
+        && cell_owing(side, at, pyramid, serials, row, column)
 }
 
 // Whether they hold of every cell of a row. The residual of a cell is at the column's part from place `first` on.
@@ -270,21 +237,18 @@ fn row_held(
     requires { RowAsked side first columns.now (length pyramid.now) (length serials.now) row }
     ensures { result ≡ row_held side first columns.now pyramid.now serials.now row }
 {
-    let mut column = 0;
-    while column < side {
+    for column in 0..side {
         let at = first + columns[column];
         if !cell_held(side, at, pyramid, serials, row, column) {
             return false;
         }
-        column += 1;
     }
     true
 }
 
 // Whether they hold of every cell, row after row.
-fn cells_held(r: usize, rows: bool, table: &[u16; 1024], pyramid: &[i64], serials: &[u32]) -> bool
-    requires grid_asked { GridAsked r (length pyramid.now) (length serials.now) }
-    requires table_value { table.now ≡ places }
+fn cells_held(r: usize, rows: bool, table: &Table, pyramid: &[i64], serials: &[u32]) -> bool
+    requires { GridAsked r (length pyramid.now) (length serials.now) }
     ensures { result
         ≡ (bounded r (in_rows rows r pyramid.now) serials.now
         && owing r (in_rows rows r pyramid.now) serials.now) }
@@ -292,13 +256,11 @@ fn cells_held(r: usize, rows: bool, table: &[u16; 1024], pyramid: &[i64], serial
     let side = sizes::pow2(r);
     let off = sizes::level_start(r);
     let columns = column_places(rows, table, side);
-    let mut row = 0;
-    while row < side {
+    for row in 0..side {
         let first = off + row_place(rows, table, side, row);
         if !row_held(side, first, &columns, pyramid, serials, row) {
             return false;
         }
-        row += 1;
     }
     true
 }
@@ -332,9 +294,10 @@ fn place_summed(rows: bool, pyramid: &[i64], off: usize, next: usize, side: usiz
     ensures { result ≡ sum_at rows pyramid.now off next side i }
 {
     if rows {
-        return row_summed(pyramid, off, next, side, i);
+        row_summed(pyramid, off, next, side, i)
+    } else {
+        is_sum(pyramid, off + i, next + 4 * i, 2)
     }
-    is_sum(pyramid, off + i, next + 4 * i, 2)
 }
 
 // Whether it holds of every entry of level k.
@@ -346,12 +309,10 @@ fn level_summed(k: usize, rows: bool, pyramid: &[i64]) -> bool
     let off = sizes::level_start(k);
     let next = sizes::level_start(k + 1);
     let size = sizes::cell_count(k);
-    let mut i = 0;
-    while i < size {
+    for i in 0..size {
         if !place_summed(rows, pyramid, off, next, side, i) {
             return false;
         }
-        i += 1;
     }
     true
 }
@@ -362,12 +323,10 @@ fn summed(r: usize, rows: bool, pyramid: &[i64]) -> bool
     requires { SummedAsked rows pyramid.now r }
     ensures { result ≡ summed r (in_rows rows r pyramid.now) }
 {
-    let mut k = r;
-    while 0 < k {
-        if !level_summed(k - 1, rows, pyramid) {
+    for k in (0..r).rev() {
+        if !level_summed(k, rows, pyramid) {
             return false;
         }
-        k -= 1;
     }
     true
 }
@@ -378,13 +337,12 @@ pub fn is_sound(
     r: usize,
     dots: u32,
     rows: bool,
-    table: &[u16; 1024],
+    table: &Table,
     pyramid: &[i64],
     serials: &[u32],
     order: &[u32],
 ) -> bool
-    requires sound_asked { SoundAsked r (length pyramid.now) (length serials.now) (length order.now) }
-    requires table_value { table.now ≡ places }
+    requires { SoundAsked r (length pyramid.now) (length serials.now) (length order.now) }
     ensures { result
         ≡ is_sound r
         (record {

@@ -13,36 +13,55 @@
 // 6  at place b of the pyramid c is added and d is taken away
 #![tactic(auto)]
 
-use case_io::{end_line, end_refused, field, field_u32, limit, next};
-use definition::{CheckpointAnswer, CheckpointStatus, Checkpoints, Progress};
+use case_io::{Numbers, end_line, end_refused, field};
+use definition::{Checkpoints, Progress, Refusal};
 use program_input::read_full;
 use std::io;
 use std::io::Write;
 
-// An action, and the place behind it.
+// What is lent of the buffers: places of pyramid, serials and order.
 #[derive(Clone, Copy)]
-struct Action {
-    kind: u32,
-    a: u32,
-    b: u32,
-    c: u32,
-    d: u32,
-    at: usize,
+struct Lent {
+    pyramid: u32,
+    serials: u32,
+    order: u32,
 }
 
-fn read_action(text: &[u8], from: usize) -> Action {
-    let kind = next(text, from);
-    let a = next(text, kind.at);
-    let b = next(text, a.at);
-    let c = next(text, b.at);
-    let d = next(text, c.at);
-    Action {
-        kind: kind.value,
-        a: a.value,
-        b: b.value,
-        c: c.value,
-        d: d.value,
-        at: d.at,
+// An action, by its kind: the budget, the name, or the places and numbers that it changes.
+#[derive(Clone, Copy)]
+enum Action {
+    Advance(u32, Lent),
+    Keep(u32),
+    Restore(u32, Lent),
+    SetKept(usize, u64),
+    SetGrey(usize, u8),
+    SetRecord(Progress),
+    Shift(usize, u32, u32),
+}
+
+fn read_action(numbers: &mut Numbers) -> Action {
+    let kind = numbers.next();
+    let a = numbers.next();
+    let b = numbers.next();
+    let c = numbers.next();
+    let d = numbers.next();
+    let lent = Lent {
+        pyramid: b,
+        serials: c,
+        order: d,
+    };
+    match kind {
+        0 => Action::Advance(a, lent),
+        1 => Action::Keep(a),
+        2 => Action::Restore(a, lent),
+        3 => Action::SetKept(b as usize, u64::from(a) + u64::from(c) * 4294967296),
+        4 => Action::SetGrey(b as usize, (a % 256) as u8),
+        5 => Action::SetRecord(Progress {
+            side: a,
+            dots: b,
+            knit: c,
+        }),
+        _ => Action::Shift(b as usize, c, d),
     }
 }
 
@@ -53,137 +72,126 @@ struct Held {
     checkpoints: Checkpoints,
 }
 
-// Ends a line with what Keep or Restore says, and returns what it gives back.
-fn end_answer<W: Write>(out: &mut W, answer: CheckpointAnswer) -> io::Result<Held> {
-    match answer.status {
-        CheckpointStatus::Done => end_line(out)?,
-        CheckpointStatus::Refused(why) => end_refused(out, why)?,
+// Ends a line with what Keep or Restore says, and returns what is held then.
+fn end_answer<W: Write>(
+    out: &mut W,
+    held: Held,
+    answer: Result<Held, Refusal>,
+) -> io::Result<Held> {
+    match answer {
+        Ok(after) => {
+            end_line(out)?;
+            Ok(after)
+        }
+        Err(why) => {
+            end_refused(out, why)?;
+            Ok(held)
+        }
     }
+}
+
+fn keep_in(held: Held, name: u32) -> Result<Held, Refusal> {
+    let progress = held.progress;
+    let checkpoints = checkpoints::keep(progress, held.checkpoints, name)?;
     Ok(Held {
-        progress: answer.progress,
-        checkpoints: answer.checkpoints,
+        progress,
+        checkpoints,
     })
 }
 
 fn keep<W: Write>(out: &mut W, held: Held, name: u32) -> io::Result<Held> {
     out.write_all(b"keep")?;
-    field_u32(out, name)?;
-    end_answer(
-        out,
-        checkpoints::keep(held.progress, held.checkpoints, name),
-    )
+    field(out, name)?;
+    end_answer(out, held, keep_in(held, name))
 }
 
 // Lends Restore the first places of each buffer, as many as the lengths say.
 fn restore_on(
-    progress: Progress,
-    value: Checkpoints,
+    held: Held,
     name: u32,
-    p: u32,
-    s: u32,
-    o: u32,
+    lent: Lent,
     greys: &[u8],
     pyramid: &mut [i64],
     serials: &mut [u32],
     order: &mut [u32],
-) -> CheckpointAnswer {
-    let pyramid_lent = limit(p, pyramid.len());
-    let serials_lent = limit(s, serials.len());
-    let order_lent = limit(o, order.len());
-    checkpoints::restore(
-        progress,
-        value,
+) -> Result<Held, Refusal> {
+    let p = case_io::limit(lent.pyramid, pyramid.len());
+    let s = case_io::limit(lent.serials, serials.len());
+    let o = case_io::limit(lent.order, order.len());
+    let checkpoints = held.checkpoints;
+    let progress = checkpoints::restore(
+        held.progress,
+        checkpoints,
         name,
         greys,
-        &mut pyramid[..pyramid_lent],
-        &mut serials[..serials_lent],
-        &mut order[..order_lent],
-    )
+        &mut pyramid[..p],
+        &mut serials[..s],
+        &mut order[..o],
+    )?;
+    Ok(Held {
+        progress,
+        checkpoints,
+    })
 }
 
 fn restore<W: Write>(
     out: &mut W,
     held: Held,
-    action: Action,
+    name: u32,
+    lent: Lent,
     greys: &[u8],
     pyramid: &mut [i64],
     serials: &mut [u32],
     order: &mut [u32],
 ) -> io::Result<Held> {
-    let name = action.a;
-    let answer = restore_on(
-        held.progress,
-        held.checkpoints,
-        name,
-        action.b,
-        action.c,
-        action.d,
-        greys,
-        pyramid,
-        serials,
-        order,
-    );
+    let answer = restore_on(held, name, lent, greys, pyramid, serials, order);
     out.write_all(b"restore")?;
-    field_u32(out, name)?;
-    case_io::print_record(out, answer.progress)?;
-    end_answer(out, answer)
+    field(out, name)?;
+    case_io::print_record(out, answer.unwrap_or(held).progress)?;
+    end_answer(out, held, answer)
 }
 
 fn advance<W: Write>(
     out: &mut W,
     held: Held,
-    action: Action,
+    budget: u32,
+    lent: Lent,
     pyramid: &mut [i64],
     serials: &mut [u32],
     order: &mut [u32],
 ) -> io::Result<Held> {
-    let budget = action.a;
     let answer = case_io::advance_on(
         held.progress,
         budget,
-        action.b,
-        action.c,
-        action.d,
+        lent.pyramid,
+        lent.serials,
+        lent.order,
         pyramid,
         serials,
         order,
     );
-    case_io::print_call(out, budget, answer)?;
+    let progress = case_io::print_call(out, held.progress, budget, answer)?;
     Ok(Held {
-        progress: answer.progress,
+        progress,
         checkpoints: held.checkpoints,
     })
 }
 
-// A number of 64 bits, from its lower half and its upper one.
-fn joined(low: u32, high: u32) -> u64 {
-    low as u64 + high as u64 * 4294967296
-}
-
 // The value with another number in a place, or in the last one.
-fn with_kept(held: Held, place: u32, number: u64) -> Held {
+fn with_kept(held: Held, place: usize, number: u64) -> Held {
     let progress = held.progress;
     let value = held.checkpoints;
     let mut kept = value.kept;
-    let at = limit(place, 7);
-    kept[at] = number;
+    kept[place.min(7)] = number;
     Held {
         progress,
         checkpoints: Checkpoints { kept },
     }
 }
 
-fn set_grey(greys: &mut [u8], place: usize, grey: u32) {
+fn set_grey(greys: &mut [u8], place: usize, grey: u8) {
     if place < greys.len() {
-        greys[place] = (grey % 256) as u8;
-    }
-}
-
-fn with_record(held: Held, side: u32, dots: u32, knit: u32) -> Held {
-    let checkpoints = held.checkpoints;
-    Held {
-        progress: Progress { side, dots, knit },
-        checkpoints,
+        greys[place] = grey;
     }
 }
 
@@ -197,18 +205,28 @@ fn act<W: Write>(
     serials: &mut [u32],
     order: &mut [u32],
 ) -> io::Result<Held> {
-    match action.kind {
-        0 => advance(out, held, action, pyramid, serials, order),
-        1 => keep(out, held, action.a),
-        2 => restore(out, held, action, greys, pyramid, serials, order),
-        3 => Ok(with_kept(held, action.b, joined(action.a, action.c))),
-        4 => {
-            set_grey(greys, action.b as usize, action.a);
+    match action {
+        Action::Advance(budget, lent) => {
+            advance(out, held, budget, lent, pyramid, serials, order)
+        }
+        Action::Keep(name) => keep(out, held, name),
+        Action::Restore(name, lent) => {
+            restore(out, held, name, lent, greys, pyramid, serials, order)
+        }
+        Action::SetKept(place, number) => Ok(with_kept(held, place, number)),
+        Action::SetGrey(place, grey) => {
+            set_grey(greys, place, grey);
             Ok(held)
         }
-        5 => Ok(with_record(held, action.a, action.b, action.c)),
-        _ => {
-            case_io::shift_entry(pyramid, action.b as usize, action.c, action.d);
+        Action::SetRecord(progress) => {
+            let checkpoints = held.checkpoints;
+            Ok(Held {
+                progress,
+                checkpoints,
+            })
+        }
+        Action::Shift(place, plus, minus) => {
+            case_io::shift_entry(pyramid, place, plus, minus);
             Ok(held)
         }
     }
@@ -223,37 +241,32 @@ fn write_kept<W: Write>(out: &mut W, value: Checkpoints) -> io::Result<()> {
     end_line(out)
 }
 
-// Reads the actions, does them one after another, writes the value, and returns the place behind the last.
+// Reads the actions, does them one after another, and writes the value.
 fn run_actions<W: Write>(
     out: &mut W,
-    text: &[u8],
-    from: usize,
+    numbers: &mut Numbers,
     progress: Progress,
     greys: &mut [u8],
     pyramid: &mut [i64],
     serials: &mut [u32],
     order: &mut [u32],
-) -> io::Result<usize> {
-    let count = next(text, from);
-    let mut at = count.at;
+) -> io::Result<()> {
+    let kept = [0; 8];
     let mut held = Held {
         progress,
-        checkpoints: Checkpoints { kept: [0; 8] },
+        checkpoints: Checkpoints { kept },
     };
-    for _ in 0..count.value {
-        let action = read_action(text, at);
+    for _ in 0..numbers.next() {
+        let action = read_action(numbers);
         held = act(out, held, action, greys, pyramid, serials, order)?;
-        at = action.at;
     }
-    write_kept(out, held.checkpoints)?;
-    Ok(at)
+    write_kept(out, held.checkpoints)
 }
 
-// Reads what follows a case's first four numbers, on the whole parts, and returns the place behind the case.
+// Reads what follows a case's first four numbers, on the whole parts, and writes its answers.
 fn run<W: Write>(
     out: &mut W,
-    text: &[u8],
-    from: usize,
+    numbers: &mut Numbers,
     side: u32,
     knit: u32,
     seed: u32,
@@ -262,24 +275,21 @@ fn run<W: Write>(
     pyramid: &mut [i64],
     serials: &mut [u32],
     order: &mut [u32],
-) -> io::Result<usize> {
-    let actions = case_io::make_greys(text, from, seed, side, greys);
-    let answer = load::load(side, knit, greys, pyramid, serials, order);
-    case_io::print_load(out, answer)?;
-    let progress = answer.progress;
-    let end = run_actions(out, text, actions, progress, greys, pyramid, serials, order)?;
-    case_io::write_places(out, n, pyramid, serials, order)?;
-    Ok(end)
+) -> io::Result<()> {
+    case_io::make_greys(numbers, seed, side, greys);
+    let loaded = load::load(side, knit, greys, pyramid, serials, order);
+    let progress = case_io::print_load(out, loaded)?;
+    run_actions(out, numbers, progress, greys, pyramid, serials, order)?;
+    case_io::write_places(out, n, pyramid, serials, order)
 }
 
-// Reads a case from a place on, writes its answers, and returns the place behind it.
-fn run_case<W: Write>(out: &mut W, text: &[u8], from: usize) -> io::Result<usize> {
-    let side = next(text, from);
-    let knit = next(text, side.at);
-    let seed = next(text, knit.at);
-    let spare = next(text, seed.at);
-    let n = limit(side.value, 256);
-    let more = limit(spare.value, 100);
+// Reads a case, and writes its answers.
+fn run_case<W: Write>(out: &mut W, numbers: &mut Numbers) -> io::Result<()> {
+    let side = numbers.next();
+    let knit = numbers.next();
+    let seed = numbers.next();
+    let more = numbers.limit(100);
+    let n = case_io::limit(side, 256);
     let cells = case_io::cells_of(n);
     let pyramid_whole = case_io::pyramid_of(n) + more;
     let sheet_whole = cells + more;
@@ -289,11 +299,10 @@ fn run_case<W: Write>(out: &mut W, text: &[u8], from: usize) -> io::Result<usize
     let mut order = [9u32; 65700];
     run(
         out,
-        text,
-        spare.at,
-        side.value,
-        knit.value,
-        seed.value,
+        numbers,
+        side,
+        knit,
+        seed,
         n,
         &mut greys[..cells],
         &mut pyramid[..pyramid_whole],
@@ -304,11 +313,10 @@ fn run_case<W: Write>(out: &mut W, text: &[u8], from: usize) -> io::Result<usize
 
 // Runs every case of a text.
 fn run_cases<W: Write>(out: &mut W, text: &[u8]) -> io::Result<()> {
-    let count = next(text, 0);
-    let mut at = count.at;
-    for number in 1..=count.value {
+    let mut numbers = Numbers::new(text);
+    for number in 1..=numbers.next() {
         case_io::print_case(out, number)?;
-        at = run_case(out, text, at)?;
+        run_case(out, &mut numbers)?;
     }
     Ok(())
 }

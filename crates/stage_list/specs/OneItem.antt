@@ -1,31 +1,24 @@
--- One call of the list in code: read off the slices (`item_read`), made (`return_made`), and its answer handed on
--- (`went_on`).
-use Rattle.std.specs.Prelude.{◌≡◌, refl, List, ◌++◌, ℕ, zero, suc, ◌<◌, min, length, get_or, take, drop, ℤ}
-use Rattle.std.proofs.Common.{arith}
+-- One call of the list in code: a Restore on parts (`return_made`), and what each call leaves (`went_back`,
+-- `wrote_down`, `went_on`).
+use Rattle.std.specs.Prelude.{◌≡◌, List, ◌++◌, ℕ, min, length, take, drop, ℤ}
 use Rattle.definition.specs.Answers.{Said}
 use Rattle.definition.specs.AdvanceList.{call_of, held_after}
 use Rattle.definition.specs.Checkpoints.{keep_of}
 use Rattle.definition.specs.ByQuarters.{restore_by_quarters}
-use Rattle.definition.specs.Stages.{advancing, keeping, returning, return_of, caller_after, act}
+use Rattle.definition.specs.Stages.{return_of, caller_after, act}
 use Rattle.definition.specs.declared.Progress.{Progress}
 use Rattle.definition.specs.declared.Checkpoints.{Checkpoints}
-use Rattle.call_list.specs.PriceListOfCode.{lent_take, lent_drop}
-use Rattle.stage_list.specs.declared.Item.{Item}
+use Rattle.call_list.specs.PriceListOfCode.{lent_take, lent_drop, call_in}
+use Rattle.call_list.specs.declared.AdvanceCall.{AdvanceCall}
+use Rattle.stage_list.specs.declared.RestoreCall.{RestoreCall}
+use Rattle.stage_list.specs.declared.StageCall.TheVariants.{Advance, Keep, Restore}
 use Rattle.stage_list.specs.declared.Latest.{Latest}
-use Rattle.stage_list.specs.Items.{item_at, call_in, return_in, action_of, action_in, caller_of}
-
--- ---- read off the slices
-pub item_read : (kinds numbers maps pyramids sheets orders : List ℕ) (i : ℕ) {kind g a b c : ℕ}
-    → kind ≡ get_or kinds i 0 → g ≡ get_or maps i 0
-    → a ≡ get_or pyramids i 0 → b ≡ get_or sheets i 0 → c ≡ get_or orders i 0
-    → record { kind = kind; number = get_or numbers i 0; greys = g; pyramid = a; serials = b; order = c }
-    ≡ item_at kinds numbers maps pyramids sheets orders i
-item_read kinds numbers maps pyramids sheets orders i ek eg ea eb ec = rw (ek, eg, ea, eb, ec)
+use Rattle.stage_list.specs.Items.{return_in, action_in, caller_of}
 
 -- ---- a Restore on parts: what was lent comes back in front of what was not
-module _ (item : Item) (latest : Latest) (g : List ℕ) (p : List ℤ) (s o : List ℕ) {ng np ns no : ℕ}
-    (eg : ng ≡ min item.greys (length g)) (ep : np ≡ min item.pyramid (length p))
-    (es : ns ≡ min item.serials (length s)) (eo : no ≡ min item.order (length o)) where
+module _ (call : RestoreCall) (latest : Latest) (g : List ℕ) (p : List ℤ) (s o : List ℕ) {ng np ns no : ℕ}
+    (eg : ng ≡ min call.greys (length g)) (ep : np ≡ min call.lent.pyramid (length p))
+    (es : ns ≡ min call.lent.serials (length s)) (eo : no ≡ min call.lent.order (length o)) where
   pub return_made : {progress : Progress} {kept : Checkpoints} {said : Said} {p' : List ℤ} {s' o' : List ℕ}
       → record {
         progress = progress;
@@ -35,7 +28,7 @@ module _ (item : Item) (latest : Latest) (g : List ℕ) (p : List ℤ) (s o : Li
         serials = s';
         order = o';
       }
-      ≡ restore_by_quarters latest.progress latest.checkpoints item.number
+      ≡ restore_by_quarters latest.progress latest.checkpoints call.name
       (take ng g) (take np p) (take ns s) (take no o)
       → record {
         progress = progress;
@@ -45,38 +38,24 @@ module _ (item : Item) (latest : Latest) (g : List ℕ) (p : List ℤ) (s o : Li
         serials = s' ++ drop ns s;
         order = o' ++ drop no o;
       }
-      ≡ return_of g (caller_of latest p s o) (return_in item)
+      ≡ return_of g (caller_of latest p s o) (return_in call)
   unfolding return_of
   return_made q =
       rw (
-        lent_drop item.pyramid p ep,
-        lent_drop item.serials s es,
-        lent_drop item.order o eo,
-        ← lent_take item.greys g eg,
-        ← lent_take item.pyramid p ep,
-        ← lent_take item.serials s es,
-        ← lent_take item.order o eo,
+        lent_drop call.lent.pyramid p ep,
+        lent_drop call.lent.serials s es,
+        lent_drop call.lent.order o eo,
+        ← lent_take call.greys g eg,
+        ← lent_take call.lent.pyramid p ep,
+        ← lent_take call.lent.serials s es,
+        ← lent_take call.lent.order o eo,
         ← q,
       )
 
--- ---- which call it is
-is_return : (kind : ℕ) (item : Item) → 1 < kind → action_of kind item ≡ returning (return_in item)
-unfolding action_of
-is_return zero item lt = absurd (omega arith)
-is_return (suc zero) item lt = absurd (omega arith)
-is_return (suc (suc n)) item lt = refl
-
-is_keep : (kind : ℕ) (item : Item) → kind ≡ 1 → action_of kind item ≡ keeping item.number
-unfolding action_of
-is_keep kind item e = rw e
-
-is_advance : (kind : ℕ) (item : Item) → kind ≡ 0 → action_of kind item ≡ advancing (call_in item)
-unfolding action_of
-is_advance kind item e = rw e
-
-module _ (item : Item) (latest : Latest) (g : List ℕ) (p : List ℤ) (s o : List ℕ) where
-  pub went_back : 1 < item.kind
-      → {progress : Progress} {kept : Checkpoints} {said : Said} {l : Latest} {p' : List ℤ} {s' o' : List ℕ}
+-- ---- what each call leaves
+module _ (latest : Latest) (g : List ℕ) (p : List ℤ) (s o : List ℕ) where
+  pub went_back : (call : RestoreCall) {progress : Progress} {kept : Checkpoints} (said : Said)
+      {p' : List ℤ} {s' o' : List ℕ}
       → record {
         progress = progress;
         checkpoints = kept;
@@ -85,25 +64,24 @@ module _ (item : Item) (latest : Latest) (g : List ℕ) (p : List ℤ) (s o : Li
         serials = s';
         order = o';
       }
-      ≡ return_of g (caller_of latest p s o) (return_in item)
-      → l ≡ record { progress = progress; checkpoints = kept }
-      → caller_of l p' s' o' ≡ act g (caller_of latest p s o) (action_in item)
+      ≡ return_of g (caller_of latest p s o) (return_in call)
+      → caller_of (record { progress = progress; checkpoints = kept }) p' s' o'
+      ≡ act g (caller_of latest p s o) (action_in (Restore call))
   unfolding act caller_after
-  went_back lt e el = rw (is_return item.kind item lt, el, ← e)
+  went_back call said e = rw (← e)
 
-  pub wrote_down : item.kind ≡ 1
-      → {progress : Progress} {kept : Checkpoints} {said : Said} {l : Latest}
+  pub wrote_down : (name : ℕ) {progress : Progress} {kept : Checkpoints} (said : Said)
       → record { progress = progress; checkpoints = kept; said = said }
-      ≡ keep_of latest.progress latest.checkpoints item.number
-      → l ≡ record { progress = progress; checkpoints = kept }
-      → caller_of l p s o ≡ act g (caller_of latest p s o) (action_in item)
+      ≡ keep_of latest.progress latest.checkpoints name
+      → caller_of (record { progress = progress; checkpoints = kept }) p s o
+      ≡ act g (caller_of latest p s o) (action_in (Keep name))
   unfolding act
-  wrote_down one e el = rw (is_keep item.kind item one, el, ← e)
+  wrote_down name said e = rw (← e)
 
-  pub went_on : item.kind ≡ 0 → {progress : Progress} {p' : List ℤ} {s' o' : List ℕ}
+  pub went_on : (call : AdvanceCall) {progress : Progress} {p' : List ℤ} {s' o' : List ℕ}
       → record { progress = progress; pyramid = p'; serials = s'; order = o' }
-      ≡ held_after (call_of (caller_of latest p s o).held (call_in item))
+      ≡ held_after (call_of (caller_of latest p s o).held (call_in call))
       → caller_of (record { progress = progress; checkpoints = latest.checkpoints }) p' s' o'
-      ≡ act g (caller_of latest p s o) (action_in item)
+      ≡ act g (caller_of latest p s o) (action_in (Advance call))
   unfolding act
-  went_on none e = rw (is_advance item.kind item none, ← e)
+  went_on call e = rw (← e)

@@ -3,24 +3,29 @@
 // leaves.
 #![tactic(auto)]
 
-ghost use Rattle.std.specs.Prelude.{◌≡◌, ◌<◌, length, replicate};
-ghost use Rattle.definition.specs.Answers.{checkpoint_says};
+ghost use Rattle.std.specs.Prelude.{◌≡◌, replicate};
+ghost use Rattle.definition.specs.Answers.{done_says, record_after};
 ghost use Rattle.definition.specs.Stages.{return_of, act, caller_after_all};
-ghost use Rattle.stage_list.specs.Items.{item_at, return_in, action_in, actions_in, caller_of};
+ghost use Rattle.stage_list.specs.Items.{return_in, action_in, actions_in, caller_of};
 ghost use Rattle.stage_list.specs.PromiseOfCode.{Promised};
 
-use definition::{CheckpointAnswer, Checkpoints, Progress};
+use call_list::{AdvanceCall, Lent};
+use definition::{Checkpoints, Progress, Refusal};
 
-// A call of the list: which one (0 Advance, 1 Keep, any other number Restore), its budget or its name, and how many
-// places it is lent of the greys and of each buffer. A Keep is lent nothing, and an Advance no greys.
+// A Restore of the list: its name, and how many places it is lent of the greys and of each buffer.
 #[derive(Clone, Copy)]
-struct Item {
-    kind: usize,
-    number: u32,
-    greys: usize,
-    pyramid: usize,
-    serials: usize,
-    order: usize,
+pub struct RestoreCall {
+    pub name: u32,
+    pub greys: usize,
+    pub lent: Lent,
+}
+
+// A call of the list. A Keep has a name, and is lent nothing; an Advance is lent no greys.
+#[derive(Clone, Copy)]
+pub enum StageCall {
+    Advance(AdvanceCall),
+    Keep(u32),
+    Restore(RestoreCall),
 }
 
 // What the calls so far have left beside the buffers, and the next call is given: the record and the value.
@@ -38,61 +43,34 @@ fn no_names() -> Checkpoints
     Checkpoints { kept }
 }
 
-// Call i of the list; a kind or a length that its slice does not have is 0.
-fn item_at(
-    i: usize,
-    kinds: &[usize],
-    numbers: &[u32],
-    maps: &[usize],
-    pyramids: &[usize],
-    sheets: &[usize],
-    orders: &[usize],
-) -> Item
-    requires { i < length numbers.now }
-    ensures { result
-        ≡ item_at kinds.now numbers.now maps.now
-        pyramids.now sheets.now orders.now i }
-{
-    Item {
-        kind: call_list::at(kinds, i),
-        number: numbers[i],
-        greys: call_list::at(maps, i),
-        pyramid: call_list::at(pyramids, i),
-        serials: call_list::at(sheets, i),
-        order: call_list::at(orders, i),
-    }
-}
-
-// A Restore, lent as much as the item says.
+// A Restore, lent as much as the call says.
 fn restore_lent(
-    item: Item,
+    call: RestoreCall,
     latest: Latest,
     greys: &[u8],
     pyramid: &mut [i64],
     serials: &mut [u32],
     order: &mut [u32],
-) -> CheckpointAnswer
+) -> Result<Progress, Refusal>
     ensures { record {
-      progress = result.progress;
-      checkpoints = result.checkpoints;
-      said = checkpoint_says result.status;
+      progress = record_after latest.progress result;
+      checkpoints = latest.checkpoints;
+      said = done_says result;
       pyramid = pyramid.new;
       serials = serials.new;
       order = order.new;
     }
         ≡ return_of greys.now
-        (caller_of latest pyramid.old serials.old order.old) (return_in item) }
+        (caller_of latest pyramid.old serials.old order.old) (return_in call) }
 {
-    let progress = latest.progress;
-    let kept = latest.checkpoints;
-    let g = call_list::lent(item.greys, greys.len());
-    let p = call_list::lent(item.pyramid, pyramid.len());
-    let s = call_list::lent(item.serials, serials.len());
-    let o = call_list::lent(item.order, order.len());
+    let g = call.greys.min(greys.len());
+    let p = call.lent.pyramid.min(pyramid.len());
+    let s = call.lent.serials.min(serials.len());
+    let o = call.lent.order.min(order.len());
     checkpoints::restore(
-        progress,
-        kept,
-        item.number,
+        latest.progress,
+        latest.checkpoints,
+        call.name,
         &greys[..g],
         &mut pyramid[..p],
         &mut serials[..s],
@@ -100,21 +78,9 @@ fn restore_lent(
     )
 }
 
-// What Keep and Restore answer goes on to the next call.
-fn answered(answer: CheckpointAnswer) -> Latest
-    ensures { result ≡ record { progress = answer.progress; checkpoints = answer.checkpoints } }
-{
-    let progress = answer.progress;
-    let checkpoints = answer.checkpoints;
-    Latest {
-        progress,
-        checkpoints,
-    }
-}
-
-// One call of the list.
+// One call of the list. What it answers goes on to the next one.
 fn one_action(
-    item: Item,
+    call: StageCall,
     latest: Latest,
     greys: &[u8],
     pyramid: &mut [i64],
@@ -123,58 +89,52 @@ fn one_action(
 ) -> Latest
     ensures { caller_of result pyramid.new serials.new order.new
         ≡ act greys.now
-        (caller_of latest pyramid.old serials.old order.old) (action_in item) }
+        (caller_of latest pyramid.old serials.old order.old) (action_in call) }
 {
-    if item.kind > 1 {
-        return answered(restore_lent(item, latest, greys, pyramid, serials, order));
-    }
     let before = latest.progress;
     let checkpoints = latest.checkpoints;
-    if item.kind == 1 {
-        return answered(checkpoints::keep(before, checkpoints, item.number));
-    }
-    let after = call_list::one_call(
-        before,
-        item.number,
-        item.pyramid,
-        item.serials,
-        item.order,
-        pyramid,
-        serials,
-        order,
-    );
-    Latest {
-        progress: after,
-        checkpoints,
+    match call {
+        StageCall::Advance(call) => {
+            let after = call_list::one_call(before, call, pyramid, serials, order);
+            Latest {
+                progress: after,
+                checkpoints,
+            }
+        }
+        StageCall::Keep(name) => {
+            let with = checkpoints::keep(before, checkpoints, name).unwrap_or(checkpoints);
+            Latest {
+                progress: before,
+                checkpoints: with,
+            }
+        }
+        StageCall::Restore(call) => {
+            let restored = restore_lent(call, latest, greys, pyramid, serials, order);
+            Latest {
+                progress: restored.unwrap_or(before),
+                checkpoints,
+            }
+        }
     }
 }
 
-// A call for each number; the other slices say which one it is, and how much it is lent.
+// These calls, one after the other.
 fn make_actions(
     first: Latest,
     greys: &[u8],
     pyramid: &mut [i64],
     serials: &mut [u32],
     order: &mut [u32],
-    kinds: &[usize],
-    numbers: &[u32],
-    maps: &[usize],
-    pyramids: &[usize],
-    sheets: &[usize],
-    orders: &[usize],
+    calls: &[StageCall],
 ) -> Latest
     ensures { caller_of result pyramid.new serials.new order.new
         ≡ caller_after_all greys.now
         (caller_of first pyramid.old serials.old order.old)
-        (actions_in kinds.now numbers.now maps.now
-        pyramids.now sheets.now orders.now) }
+        (actions_in calls.now) }
 {
     let mut latest = first;
-    let mut i = 0;
-    while i < numbers.len() {
-        let item = item_at(i, kinds, numbers, maps, pyramids, sheets, orders);
-        latest = one_action(item, latest, greys, pyramid, serials, order);
-        i += 1;
+    for &call in calls {
+        latest = one_action(call, latest, greys, pyramid, serials, order);
     }
     latest
 }
@@ -188,27 +148,18 @@ pub fn run_stages(
     pyramid: &mut [i64],
     serials: &mut [u32],
     order: &mut [u32],
-    kinds: &[usize],
-    numbers: &[u32],
-    maps: &[usize],
-    pyramids: &[usize],
-    sheets: &[usize],
-    orders: &[usize],
+    calls: &[StageCall],
 ) -> Latest
     ensures { Promised side knit
         greys.now pyramid.old serials.old order.old
-        (actions_in kinds.now numbers.now maps.now
-        pyramids.now sheets.now orders.now)
+        (actions_in calls.now)
         (caller_of result pyramid.new serials.new order.new) }
 {
-    let loaded = load::load(side, knit, greys, pyramid, serials, order);
-    let progress = loaded.progress;
+    let progress = call_list::record_of(load::load(side, knit, greys, pyramid, serials, order));
     let checkpoints = no_names();
     let first = Latest {
         progress,
         checkpoints,
     };
-    make_actions(
-        first, greys, pyramid, serials, order, kinds, numbers, maps, pyramids, sheets, orders,
-    )
+    make_actions(first, greys, pyramid, serials, order, calls)
 }

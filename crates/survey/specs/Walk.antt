@@ -8,7 +8,7 @@ use Rattle.std.proofs.Math.Decide.{ℕ_discrete}
 use Rattle.definition.specs.Blocks.{block_sum_z, grey_at, burnt_at}
 use Rattle.definition.specs.Survey.{error_at, squared}
 use Rattle.integers.specs.Totals.{TotalZ, add_z, read}
-use Rattle.quadtree.specs.Levels.{quadruple, cells_few, cell_lt}
+use Rattle.quadtree.specs.Levels.{quadruple, cells_few}
 use Rattle.quadtree.specs.Quarters.{block_z_quarters, block_z_cell}
 use Rattle.blocks.specs.Blocks.{BlockAsked}
 use Rattle.survey.specs.Errors.{cell_error, word}
@@ -52,16 +52,6 @@ returned {r = r} {k} h w =
 
 -- ════ a cell alone
 
--- its place on the map
-pub record Place (lent at : ℕ) : Type 0 where
-  pub inside : at < lent
-  pub few : at < 65536
-
-pub cell_place : {lent r a b side : ℕ} → BlockAsked lent r r a b → side ≡ 2 ^ r → Place lent (a * side + b)
-cell_place {r = r} {a} {b} h e =
-    let lt = cell_lt (2 ^ r) a b h.above h.before in
-    rw e (record { inside = omega (arith, h.room); few = omega (arith, cells_few r h.powers) })
-
 cells_one : (r : ℕ) → cells r r ≡ 1
 cells_one r = let z : r - r ≡ 0 = omega arith in rw z
 
@@ -96,16 +86,7 @@ cell_walked {r = r} {a} {b} greys serials {before} {e = e} h room es d s =
 
 -- ════ a block of level k, from its four quarters, which are blocks of the level below
 
-pub record Few (a b : ℕ) : Type 0 where
-  pub row : a < 256
-  pub column : b < 256
-
--- the quarters are cells
-pub at_cells : {lent r k below a b : ℕ} {sums : List ℕ} → WalkAsked lent r k below a b sums → below ≡ r
-    → WalkAsked lent r k r a b sums
-at_cells h e = rw e at h
-
--- or blocks that have quarters
+-- the quarters are no cells, and have quarters
 pub deeper : {lent r k a b : ℕ} {sums : List ℕ} → BlockAsked lent r k a b → Room r k sums → (k ≡ r → ⊥)
     → WalkAsked lent r k (k + 1) a b sums
 deeper {r = r} {k} h room n =
@@ -122,12 +103,6 @@ module _ {lent r k below a b : ℕ} {l₀ : List ℕ} (h : WalkAsked lent r k be
       let e : r - below ≤ 7 = omega (arith, h.next, h.level, h.block.powers) in
       let side : 2 ^ (r - below) ≤ 128 = pow_mono {i = r - below} {j = 7} e in
       mul-le-mul side side
-
-  -- the place of the block is small
-  pub block_few : Few a b
-  block_few =
-      let most : 2 ^ k ≤ 256 = pow_mono {i = k} {j = 8} (omega (arith, h.block.level, h.block.powers)) in
-      record { row = omega (arith, h.block.above); column = omega (arith, h.block.before) }
 
   -- its quarters
   pub quarter_asked : (x y : ℕ) → x < 2 * a + 2 → y < 2 * b + 2 → BlockAsked lent r below x y

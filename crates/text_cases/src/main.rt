@@ -8,39 +8,58 @@
 // of the pyramid, the serial sheet and the order list.
 #![tactic(auto)]
 
-ghost use Rattle.std.specs.Prelude.{◌≤◌};
+ghost use Rattle.std.specs.Prelude.{◌≤◌, length};
 
-use case_io::{end_line, field, field_u32, least, limit, next};
-use definition::{MapTextAnswer, Progress, TextAnswer};
+use case_io::{Numbers, end_line, field};
+use definition::{Progress, Refusal};
 use program_input::read_full;
 use std::io;
 use std::io::Write;
 
+// What is done before Drill List, by the number of the damage.
+#[derive(Clone, Copy, PartialEq, Eq)]
+enum Damage {
+    Nothing,
+    Top,
+    Hole,
+    Side,
+    Pyramid,
+    Serials,
+    Order,
+}
+
+impl From<u32> for Damage {
+    fn from(number: u32) -> Damage {
+        match number {
+            1 => Damage::Top,
+            2 => Damage::Hole,
+            3 => Damage::Side,
+            4 => Damage::Pyramid,
+            5 => Damage::Serials,
+            6 => Damage::Order,
+            _ => Damage::Nothing,
+        }
+    }
+}
+
 // What a case asks for: the damage, the knit of the load, and the knit that the record says afterwards.
 #[derive(Clone, Copy)]
 struct Asked {
-    damage: u32,
+    damage: Damage,
     knit: u32,
     said: u32,
 }
 
-// 1 for a place of the output that holds what it held before the call, or else 0.
-fn untouched(b: u8) -> usize
-    ensures { result ≤ 1 }
+// The number of places from a place on that hold what they held before the call.
+fn count_untouched(out: &[u8], from: usize) -> usize
+    requires { from ≤ length out.now }
 {
-    if b == 46 { 1 } else { 0 }
+    out[from..].iter().filter(|b| **b == b'.').count()
 }
 
-// The number of such places from a place on.
-fn count_untouched(out: &[u8], from: usize) -> usize {
-    let mut count = 0;
-    for i in from..out.len() {
-        count += untouched(out[i]);
-    }
-    count
-}
-
-fn print_spare<W: Write>(to: &mut W, out: &[u8], from: usize) -> io::Result<()> {
+fn print_spare<W: Write>(to: &mut W, out: &[u8], from: usize) -> io::Result<()>
+    requires { from ≤ length out.now }
+{
     to.write_all(b"spare")?;
     field(to, count_untouched(out, from) as u64)?;
     end_line(to)
@@ -48,7 +67,7 @@ fn print_spare<W: Write>(to: &mut W, out: &[u8], from: usize) -> io::Result<()> 
 
 // Writes a text of this length, and what is left past it.
 fn print_text<W: Write>(to: &mut W, out: &[u8], length: usize) -> io::Result<()> {
-    let end = least(length, out.len());
+    let end = length.min(out.len());
     to.write_all(&out[..end])?;
     print_spare(to, out, end)
 }
@@ -61,73 +80,63 @@ fn print_list<W: Write>(to: &mut W, out: &[u8], length: usize) -> io::Result<()>
     print_text(to, out, length)
 }
 
-fn print_answer<W: Write>(to: &mut W, answer: TextAnswer, out: &[u8]) -> io::Result<()> {
+fn print_answer<W: Write>(
+    to: &mut W,
+    answer: Result<usize, Refusal>,
+    out: &[u8],
+) -> io::Result<()> {
     match answer {
-        TextAnswer::Length(length) => print_list(to, out, length),
-        TextAnswer::Refused(why) => {
+        Ok(length) => print_list(to, out, length),
+        Err(why) => {
             case_io::print_refused(to, why)?;
             print_spare(to, out, 0)
         }
     }
 }
 
-// One more, where there is such a number.
-fn one_more(n: u32) -> u32 {
-    if n < 4294967295 { n + 1 } else { n }
-}
-
-// What is added to the pyramid's top.
-fn top_damage(damage: u32) -> u32 {
-    if damage == 1 { 1 } else { 0 }
-}
-
 // The record that Drill List is given.
-fn damaged_record(damage: u32, said: u32, record: Progress) -> Progress {
-    match damage {
-        2 => Progress {
-            side: record.side,
-            dots: one_more(record.dots),
-            knit: said,
-        },
-        3 => Progress {
-            side: 3,
-            dots: record.dots,
-            knit: said,
-        },
-        _ => Progress {
-            side: record.side,
-            dots: record.dots,
-            knit: said,
-        },
+fn damaged_record(damage: Damage, said: u32, record: Progress) -> Progress {
+    let dots = if damage == Damage::Hole {
+        record.dots.saturating_add(1)
+    } else {
+        record.dots
+    };
+    let side = if damage == Damage::Side {
+        3
+    } else {
+        record.side
+    };
+    Progress {
+        side,
+        dots,
+        knit: said,
     }
 }
 
 // The places that Drill List is lent of a buffer: one less where the damage is this buffer's.
-fn lent(whole: usize, damage: u32, of: u32) -> usize
+fn lent(whole: usize, damage: Damage, of: Damage) -> usize
     ensures { result ≤ whole }
 {
-    if damage != of {
-        return whole;
+    if damage == of {
+        whole.saturating_sub(1)
+    } else {
+        whole
     }
-    if whole == 0 {
-        return whole;
-    }
-    whole - 1
 }
 
 // Calls Drill List with the record and the lengths that the damage says, and the knit said.
 fn list_damaged(
-    damage: u32,
+    damage: Damage,
     said: u32,
     record: Progress,
     pyramid: &[i64],
     serials: &[u32],
     order: &[u32],
     out: &mut [u8],
-) -> TextAnswer {
-    let pyramid_lent = lent(pyramid.len(), damage, 4);
-    let serials_lent = lent(serials.len(), damage, 5);
-    let order_lent = lent(order.len(), damage, 6);
+) -> Result<usize, Refusal> {
+    let pyramid_lent = lent(pyramid.len(), damage, Damage::Pyramid);
+    let serials_lent = lent(serials.len(), damage, Damage::Serials);
+    let order_lent = lent(order.len(), damage, Damage::Order);
     drill_list::drill_list(
         damaged_record(damage, said, record),
         &pyramid[..pyramid_lent],
@@ -146,10 +155,18 @@ fn run_map(
     serials: &mut [u32],
     order: &mut [u32],
 ) -> Progress {
-    let loaded = load::load(side, knit, greys, pyramid, serials, order);
-    let record = loaded.progress;
-    let answer = advance::advance(record, 4294967295, pyramid, serials, order);
-    answer.progress
+    let record = match load::load(side, knit, greys, pyramid, serials, order) {
+        Ok(progress) => progress,
+        Err(_) => Progress {
+            side: 0,
+            dots: 0,
+            knit: 0,
+        },
+    };
+    match advance::advance(record, 4294967295, pyramid, serials, order) {
+        Ok(answer) => answer.progress,
+        Err(_) => record,
+    }
 }
 
 // Runs a map on the places lent, and writes what Drill List answers.
@@ -165,7 +182,9 @@ fn list_places<W: Write>(
 ) -> io::Result<()> {
     let damage = asked.damage;
     let record = run_map(side, asked.knit, greys, pyramid, serials, order);
-    case_io::shift_entry(pyramid, 0, top_damage(damage), 0);
+    if damage == Damage::Top {
+        case_io::shift_entry(pyramid, 0, 1, 0);
+    }
     let answer = list_damaged(damage, asked.said, record, pyramid, serials, order, out);
     print_answer(to, answer, out)
 }
@@ -179,8 +198,8 @@ fn list_map<W: Write>(
     out: &mut [u8],
 ) -> io::Result<()> {
     let r = sizes::power_of(side);
-    let needed = least(sizes::needed(r), 341);
-    let cells = least(sizes::cell_count(r), 256);
+    let needed = sizes::needed(r).min(341);
+    let cells = sizes::cell_count(r).min(256);
     let mut pyramid = [-1i64; 341];
     let mut serials = [9u32; 256];
     let mut order = [9u32; 256];
@@ -198,12 +217,12 @@ fn list_map<W: Write>(
 
 fn print_greys<W: Write>(to: &mut W, greys: &[u8]) -> io::Result<()> {
     to.write_all(b"greys")?;
-    case_io::fields_u8(to, greys)
+    case_io::fields(to, greys)
 }
 
 fn print_side<W: Write>(to: &mut W, side: u32) -> io::Result<()> {
     to.write_all(b"side")?;
-    field_u32(to, side)?;
+    field(to, side)?;
     end_line(to)
 }
 
@@ -216,12 +235,12 @@ fn run_text<W: Write>(
     out: &mut [u8],
 ) -> io::Result<()> {
     match map_text::map_text(text, greys) {
-        MapTextAnswer::Side(side) => {
+        Ok(side) => {
             print_side(to, side)?;
             print_greys(to, greys)?;
             list_map(to, asked, side, greys, out)
         }
-        MapTextAnswer::Refused(why) => {
+        Err(why) => {
             case_io::print_refused(to, why)?;
             print_greys(to, greys)
         }
@@ -230,8 +249,8 @@ fn run_text<W: Write>(
 
 // The same with so many places lent of both buffers.
 fn run_lent<W: Write>(to: &mut W, text: &[u8], asked: Asked, g: u32, o: u32) -> io::Result<()> {
-    let greys_lent = limit(g, 300);
-    let output_lent = limit(o, 4000);
+    let greys_lent = case_io::limit(g, 300);
+    let output_lent = case_io::limit(o, 4000);
     let mut greys = [9u8; 300];
     let mut out = [46u8; 4000];
     run_text(
@@ -260,8 +279,8 @@ fn lower_text<W: Write>(
     out: &mut [u8],
 ) -> io::Result<()> {
     match map_text::lower_text(text, greys, out) {
-        TextAnswer::Length(length) => print_lowered(to, greys, out, length),
-        TextAnswer::Refused(why) => {
+        Ok(length) => print_lowered(to, greys, out, length),
+        Err(why) => {
             case_io::print_refused(to, why)?;
             print_greys(to, greys)?;
             print_spare(to, out, 0)
@@ -271,41 +290,33 @@ fn lower_text<W: Write>(
 
 // The same with so many places lent of both buffers.
 fn lower_lent<W: Write>(to: &mut W, text: &[u8], g: u32, o: u32) -> io::Result<()> {
-    let greys_lent = limit(g, 300);
-    let output_lent = limit(o, 4000);
+    let greys_lent = case_io::limit(g, 300);
+    let output_lent = case_io::limit(o, 4000);
     let mut greys = [9u8; 300];
     let mut out = [46u8; 4000];
     lower_text(to, text, &mut greys[..greys_lent], &mut out[..output_lent])
 }
 
-// Reads a case from a place on, writes its answers, and returns the place behind it.
-fn run_case<W: Write>(to: &mut W, text: &[u8], from: usize) -> io::Result<usize> {
-    let length = next(text, from);
-    let g = next(text, length.at);
-    let o = next(text, g.at);
-    let damage = next(text, o.at);
-    let knit = next(text, damage.at);
-    let said = next(text, knit.at);
-    let start = least(said.at, text.len());
-    let size = limit(length.value, text.len() - start);
-    let end = start + size;
-    let asked = Asked {
-        damage: damage.value,
-        knit: knit.value,
-        said: said.value,
-    };
-    run_lent(to, &text[start..end], asked, g.value, o.value)?;
-    lower_lent(to, &text[start..end], g.value, o.value)?;
-    Ok(end)
+// Reads a case, and writes its answers.
+fn run_case<W: Write>(to: &mut W, numbers: &mut Numbers) -> io::Result<()> {
+    let length = numbers.next();
+    let g = numbers.next();
+    let o = numbers.next();
+    let damage = Damage::from(numbers.next());
+    let knit = numbers.next();
+    let said = numbers.next();
+    let text = numbers.take(length as usize);
+    let asked = Asked { damage, knit, said };
+    run_lent(to, text, asked, g, o)?;
+    lower_lent(to, text, g, o)
 }
 
 // Runs every case of a text.
 fn run_cases<W: Write>(to: &mut W, text: &[u8]) -> io::Result<()> {
-    let count = next(text, 0);
-    let mut at = count.at;
-    for number in 1..=count.value {
+    let mut numbers = Numbers::new(text);
+    for number in 1..=numbers.next() {
         case_io::print_case(to, number)?;
-        at = run_case(to, text, at)?;
+        run_case(to, &mut numbers)?;
     }
     Ok(())
 }

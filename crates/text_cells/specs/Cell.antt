@@ -1,7 +1,8 @@
 -- What a text says of one cell, by what the code has read (`cell_read`); and numbers read cell by cell (`values_cell`,
 -- `values_broken`). A map (`pairs` is false) has one number for each cell, a sketch two, its low and its high.
-use Rattle.std.specs.Prelude.{◌≡◌, refl, Bool, true, false, List, ◌∷◌, ℕ, ◌≤◌, drop}
-use Rattle.std.proofs.Math.Path.{sym, ap}
+use Rattle.std.specs.Prelude.{◌≡◌, refl, Bool, true, false, List, ◌∷◌, ℕ, ◌≤◌, drop, Some, None}
+use Rattle.std.specs.Prelude as Std
+use Rattle.std.proofs.Math.Path.{sym}
 use Rattle.std.proofs.Common.{◌∙◌, suc-ne-zero}
 use Rattle.std.proofs.Math.Option.{Option, some, none, map}
 use Rattle.definition.specs.Text.{comma, field, malformed, field_of}
@@ -11,7 +12,6 @@ use Rattle.decimals.specs.Reading.{field_in}
 use Rattle.decimals.specs.declared.Number.{Number}
 use Rattle.text_cells.specs.Ends.{number_ends}
 use Rattle.text_cells.specs.declared.Cell.{Cell}
-use Rattle.text_cells.specs.declared.Cell.TheVariants.{Read, Malformed}
 
 -- ════ one cell
 
@@ -30,54 +30,45 @@ cell_of true most end text =
     ]
 
 -- what the code's answer tells: the place behind the cell stands for what is left there
-unfoldable pub cell_in : List ℕ → Cell → CellText
-cell_in text (Read low high next) = cell low high (drop next text)
-cell_in text Malformed = broken
+unfoldable pub cell_in : List ℕ → Std.Option Cell → CellText
+cell_in text (Some c) = cell c.low c.high (drop c.next text)
+cell_in text None = broken
 
--- `number` is what the code has read for a map's grey, or `first` and `second` for low and high
 module _ (text : List ℕ) (at most end : ℕ) where
-  pub of_sketch : (found : Cell) → cell_in text found ≡ cell_of true most end (drop at text)
+  pub of_sketch : (found : Std.Option Cell) → cell_in text found ≡ cell_of true most end (drop at text)
       → {pairs : Bool} → pairs ≡ true → cell_in text found ≡ cell_of pairs most end (drop at text)
   of_sketch found f e = rw e f
 
-  module _ (number : Number) (f : field_in text number ≡ field_of most end (drop at text)) where
-    pub no_grey : {pairs : Bool} → pairs ≡ false → number ≡ Number.Malformed
-        → cell_in text Malformed ≡ cell_of pairs most end (drop at text)
+  -- a map's grey that the code has not read, or has
+  module _ {pairs : Bool} (b : pairs ≡ false) where
+    pub no_grey : field_in text None ≡ field_of most end (drop at text)
+        → cell_in text None ≡ cell_of pairs most end (drop at text)
     unfolding cell_of cell_in field_in
-    no_grey b e =
-        let m : field_of most end (drop at text) ≡ malformed = sym f ∙ ap (field_in text) e in
-        rw (b, m, cell_of)
+    no_grey f = rw (b, ← f, cell_of)
 
-    pub grey_read : {pairs : Bool} → pairs ≡ false → {grey next : ℕ} → number ≡ Number.Read grey next
-        → cell_in text (Read grey grey next) ≡ cell_of pairs most end (drop at text)
+    pub grey_read : (grey : Number) → field_in text (Some grey) ≡ field_of most end (drop at text)
+        → cell_in text (Some (record { low = grey.value; high = grey.value; next = grey.next }))
+        ≡ cell_of pairs most end (drop at text)
     unfolding cell_of cell_in field_in
-    grey_read b {grey} {next} e =
-        let m : field_of most end (drop at text) ≡ field grey (drop next text) = sym f ∙ ap (field_in text) e in
-        rw (b, m, cell_of)
+    grey_read grey f = rw (b, ← f, cell_of)
 
-  module _ (first : Number) (f : field_in text first ≡ field_of most comma (drop at text)) where
-    pub no_low : first ≡ Number.Malformed → cell_in text Malformed ≡ cell_of true most end (drop at text)
+  -- a sketch's low, then its high
+  pub no_low : field_in text None ≡ field_of most comma (drop at text)
+      → cell_in text None ≡ cell_of true most end (drop at text)
+  unfolding cell_of cell_in field_in
+  no_low f = rw (← f, cell_of)
+
+  module _ (low : Number) (f : field_in text (Some low) ≡ field_of most comma (drop at text)) where
+    pub no_high : field_in text None ≡ field_of most end (drop low.next text)
+        → cell_in text None ≡ cell_of true most end (drop at text)
     unfolding cell_of cell_in field_in
-    no_low e = let m : field_of most comma (drop at text) ≡ malformed = sym f ∙ ap (field_in text) e in rw (m, cell_of)
+    no_high g = rw (← f, ← g, cell_of)
 
-    module _ {low behind : ℕ} (e : first ≡ Number.Read low behind) (second : Number)
-        (g : field_in text second ≡ field_of most end (drop behind text)) where
-      low_is : field_of most comma (drop at text) ≡ field low (drop behind text)
-      unfolding field_in
-      low_is = sym f ∙ ap (field_in text) e
-
-      pub no_high : second ≡ Number.Malformed → cell_in text Malformed ≡ cell_of true most end (drop at text)
-      unfolding cell_of cell_in field_in
-      no_high d =
-          let m : field_of most end (drop behind text) ≡ malformed = sym g ∙ ap (field_in text) d in
-          rw (low_is, m, cell_of)
-
-      pub pair_read : {high next : ℕ} → second ≡ Number.Read high next
-          → cell_in text (Read low high next) ≡ cell_of true most end (drop at text)
-      unfolding cell_of cell_in field_in
-      pair_read {high} {next} d =
-          let m : field_of most end (drop behind text) ≡ field high (drop next text) = sym g ∙ ap (field_in text) d in
-          rw (low_is, m, cell_of)
+    pub pair_read : (high : Number) → field_in text (Some high) ≡ field_of most end (drop low.next text)
+        → cell_in text (Some (record { low = low.value; high = high.value; next = high.next }))
+        ≡ cell_of true most end (drop at text)
+    unfolding cell_of cell_in field_in
+    pair_read high g = rw (← f, ← g, cell_of)
 
 -- ════ the numbers of the cells
 
@@ -138,10 +129,10 @@ cell_small true most end text {low} {high} {rest} nine e =
       (text_of_field most end r.0 high rest nine r.2).1,
     )
 
-pub read_small : (text left : List ℕ) (pairs : Bool) (most end : ℕ) {found : Cell} {low high next : ℕ} → 9 ≤ most
-    → cell_in text found ≡ cell_of pairs most end left → found ≡ Read low high next → (low ≤ most) × (high ≤ most)
+pub read_small : (text left : List ℕ) (pairs : Bool) (most end : ℕ) (found : Cell) → 9 ≤ most
+    → cell_in text (Some found) ≡ cell_of pairs most end left → (found.low ≤ most) × (found.high ≤ most)
 unfolding cell_in
-read_small text left pairs most end nine f e = cell_small pairs most end left nine (sym f ∙ ap (cell_in text) e)
+read_small text left pairs most end found nine f = cell_small pairs most end left nine (sym f)
 
 -- numbers are read cell by cell
 in_front : (v : ℕ) (o : Option (List ℕ))

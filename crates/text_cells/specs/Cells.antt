@@ -1,7 +1,9 @@
 -- The cells of a text, from one on: what two buffers hold once they are read and stored (`CellsRead`), and the loop
 -- that reads them (`CellsLeft`, `left_less`).
 use Rattle.std.specs.Prelude.{◌≡◌, refl, Bool, true, false, cond, ◌&&◌, List, [], ◌∷◌, ℕ, suc, ◌+◌, ◌*◌, ◌<◌, ◌≤◌, leb}
-use Rattle.std.specs.Prelude.{set}
+use Rattle.std.specs.Prelude.{set, Some, None}
+use Rattle.std.specs.Prelude as Std
+use Rattle.std.specs.Bool.{then_some}
 use Rattle.std.proofs.Math.Path.{sym, ap}
 use Rattle.std.proofs.Common.{◌∙◌, mul-le-mul, arith, drop_of_length-le, drop-cons, Fits}
 use Rattle.std.proofs.Math.Option.{Option, some, none, map}
@@ -16,20 +18,8 @@ use Rattle.definition.specs.SketchQuote.{lows_of, highs_of, pairs_rise}
 use Rattle.grammar.specs.Lines.{length_repeated_line_ends}
 use Rattle.decimals.specs.Writing.{Wrote, wrote_length}
 use Rattle.text_cells.specs.Ends.{end_at, rows_ends_at, number_ends}
-use Rattle.text_cells.specs.Cell.{
-  cell,
-  broken,
-  cell_of,
-  cell_in,
-  with_cell,
-  cell_read,
-  read_small,
-  values_cell,
-  values_broken,
-}
+use Rattle.text_cells.specs.Cell.{cell, cell_of, cell_in, with_cell, cell_read, read_small, values_cell, values_broken}
 use Rattle.text_cells.specs.declared.Cell.{Cell}
-use Rattle.text_cells.specs.declared.Cell.TheVariants.{Read, Malformed}
-use Rattle.text_cells.specs.declared.Cells.{Cells}
 
 -- what numbers say of all cells: the lows, the highs, and whether no low is above its high
 abbrev pub lows_in : Bool → List ℕ → List ℕ
@@ -111,20 +101,23 @@ pub record CellsAsked (side most : ℕ) : Type 0 where
   pub nine : 9 ≤ most
   pub byte : most ≤ 255
 
--- the answer of a run that has left the buffers so
-pub record CellsRead (text : List ℕ) (from side : ℕ) (pairs : Bool) (most : ℕ) (lows highs : List ℕ) (found : Cells)
-    (lows_after highs_after : List ℕ) : Type 0 where
-  pub read : cells_from text side pairs most 0 from lows highs true
-      ≡ cond found.all (some (record { lows = lows_after; highs = highs_after; rise = found.rise })) none
+-- what the answer of a run tells that has left the buffers so
+abbrev pub stored_by : Std.Option Bool → List ℕ → List ℕ → Option Stored
+stored_by (Some rise) lows highs = some (record { lows = lows; highs = highs; rise = rise })
+stored_by None lows highs = none
+
+pub record CellsRead (text : List ℕ) (from side : ℕ) (pairs : Bool) (most : ℕ) (lows highs : List ℕ)
+    (found : Std.Option Bool) (lows_after highs_after : List ℕ) : Type 0 where
+  pub read : cells_from text side pairs most 0 from lows highs true ≡ stored_by found lows_after highs_after
 
 -- the numbers of a cell that the code has read fit a byte
-module _ {side most : ℕ} (asked : CellsAsked side most) (text left : List ℕ) (pairs : Bool) (end : ℕ) {found : Cell}
-    {low high next : ℕ} (f : cell_in text found ≡ cell_of pairs most end left) (e : found ≡ Read low high next) where
-  pub low_fits : Fits w8 low
-  low_fits = omega (arith, (read_small text left pairs most end asked.nine f e).0, asked.byte)
+module _ {side most : ℕ} (asked : CellsAsked side most) (text left : List ℕ) (pairs : Bool) (end : ℕ) (found : Cell)
+    (f : cell_in text (Some found) ≡ cell_of pairs most end left) where
+  pub low_fits : Fits w8 found.low
+  low_fits = omega (arith, (read_small text left pairs most end found asked.nine f).0, asked.byte)
 
-  pub high_fits : Fits w8 high
-  high_fits = omega (arith, (read_small text left pairs most end asked.nine f e).1, asked.byte)
+  pub high_fits : Fits w8 found.high
+  high_fits = omega (arith, (read_small text left pairs most end found asked.nine f).1, asked.byte)
 
 pub size_small : (side : ℕ) → side ≤ 256 → side * side ≤ 65536
 size_small side h = mul-le-mul h h
@@ -162,50 +155,48 @@ module _ {text : List ℕ} {from side : ℕ} {pairs : Bool} {most : ℕ} {lows�
         drop-cons (map_ends side) i 0 (omega (arith, length_repeated_line_ends side side p))
         ∙ rw (rows_ends_at side side i p h, is_end)
 
-    module _ (found : Cell) (f : cell_in text found ≡ cell_of pairs most end (drop at text)) where
-      pub left_broken : found ≡ Malformed
-          → CellsRead text from side pairs most lows₀ highs₀ (record { all = false; rise = rise }) lows highs
-      unfolding cells_from cell_in
-      left_broken e =
-          let m : cell_of pairs most end (drop at text) ≡ broken = sym f ∙ ap (cell_in text) e in
-          record {
-            read =
-                l.rest
-                ∙ rw (ends_from, values_broken pairs most end (drop (suc i) (map_ends side)) (drop at text) m);
-          }
+    pub left_broken : cell_in text None ≡ cell_of pairs most end (drop at text)
+        → CellsRead text from side pairs most lows₀ highs₀ None lows highs
+    unfolding cells_from cell_in
+    left_broken f =
+        record {
+          read =
+              l.rest
+              ∙ rw (ends_from, values_broken pairs most end (drop (suc i) (map_ends side)) (drop at text) (sym f));
+        }
 
-      pub left_less : {low high next place other : ℕ} {lows_after highs_after : List ℕ} {still : Bool}
-          → found ≡ Read low high next → Wrote lows i (low ∷ []) place lows_after
-          → Wrote highs i (high ∷ []) other highs_after → still ≡ (rise && leb low high)
-          → CellsLeft text from side pairs most lows₀ highs₀ next (i + 1) lows_after highs_after still
-      unfolding cells_from cell_in
-      left_less {low} {high} {next} e u v s =
-          let m : cell_of pairs most end (drop at text) ≡ cell low high (drop next text) = sym f
-          ∙ ap (cell_in text) e in
-          let rest = drop (suc i) (map_ends side) in
-          let values = values_of most (number_ends pairs rest) (drop next text) in
-          record {
-            size = l.size;
-            within = omega arith;
-            lows_kept = wrote_length u ∙ l.lows_kept;
-            highs_kept = wrote_length v ∙ l.highs_kept;
-            rest =
-                l.rest
-                ∙ rw (u.stored, v.stored, s, ends_from, values_cell pairs most end rest (drop at text) m, add-one i)
-                (map_twice (with_cell pairs low high) (stored pairs i lows highs rise) values
-                ∙ map_same _ _ (stored_cell pairs most end (drop at text) m i lows highs rise) values);
-          }
+    pub left_less : {found : Cell} → cell_in text (Some found) ≡ cell_of pairs most end (drop at text)
+        → {place other : ℕ} {lows_after highs_after : List ℕ} {still : Bool}
+        → Wrote lows i (found.low ∷ []) place lows_after
+        → Wrote highs i (found.high ∷ []) other highs_after → still ≡ (rise && leb found.low found.high)
+        → CellsLeft text from side pairs most lows₀ highs₀ found.next (i + 1) lows_after highs_after still
+    unfolding cells_from cell_in
+    left_less {found} f u v s =
+        let m : cell_of pairs most end (drop at text) ≡ cell found.low found.high (drop found.next text) = sym f in
+        let rest = drop (suc i) (map_ends side) in
+        let values = values_of most (number_ends pairs rest) (drop found.next text) in
+        record {
+          size = l.size;
+          within = omega arith;
+          lows_kept = wrote_length u ∙ l.lows_kept;
+          highs_kept = wrote_length v ∙ l.highs_kept;
+          rest =
+              l.rest
+              ∙ rw (u.stored, v.stored, s, ends_from, values_cell pairs most end rest (drop at text) m, add-one i)
+              (map_twice (with_cell pairs found.low found.high) (stored pairs i lows highs rise) values
+              ∙ map_same _ _ (stored_cell pairs most end (drop at text) m i lows highs rise) values);
+        }
 
   -- past the last cell nothing may be left
-  pub left_none : side * side ≤ i
-      → CellsRead text from side pairs most lows₀ highs₀ (record { all = leb (length text) at; rise = rise }) lows highs
+  pub left_none : side * side ≤ i → {found : Std.Option Bool} → found ≡ then_some (leb (length text) at) rise
+      → CellsRead text from side pairs most lows₀ highs₀ found lows highs
   unfolding cells_from values_of
-  left_none h =
+  left_none h e =
       let k : length (map_ends side) ≤ i = omega (arith, length_repeated_line_ends side side p) in
       record {
         read =
             l.rest
-            ∙ rw (drop_of_length-le (map_ends side) k, values_none pairs most (drop at text))
+            ∙ rw (drop_of_length-le (map_ends side) k, values_none pairs most (drop at text), e)
             (elim (dec_le (length text) at) [
               | yes e ↦
                   rw (drop_of_length-le text e, le-leb (length text) at e)

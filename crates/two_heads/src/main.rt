@@ -20,7 +20,7 @@ fn run<R: Read, W: Write>(input: &mut R, out: &mut W) -> io::Result<()>
     let mut bytes = [0u8; INPUT_LIMIT];
     let n = read_full(input, &mut bytes)?;
     let text = two_heads_text::two_heads_text(&bytes[..n]);
-    out.write_all(&text.bytes[..text.length])
+    out.write_all(text.as_bytes())
 }
 
 fn main(rt: HostRuntime) -> io::Result<()> {

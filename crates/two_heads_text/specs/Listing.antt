@@ -1,11 +1,11 @@
--- A map of at most 1,024 cells, run with two heads: a side below 16 is refused with 14 (`refused_printed`), and for
--- every other one Drill List prints the run (`list_printed`).
-use Rattle.std.specs.Prelude.{◌≡◌, List, [], ℕ, ◌≤◌, ◌<◌, length, get_or, ℤ}
+-- A map of at most 1,024 cells, run with two heads: a side below 16 is refused with 14 (`refused_list`), and for every
+-- other one Drill List prints the run (`run_listed`).
+use Rattle.std.specs.Prelude.{◌≡◌, List, [], ℕ, ◌≤◌, ◌<◌, length, get_or, ℤ, Result, Ok, Err}
 use Rattle.std.proofs.Common.{sym, ◌∙◌, arith, lt-ltb, le-ltb}
 use Rattle.std.proofs.Math.Path.{ap}
 use Rattle.std.proofs.Math.Nat.{suc-ne-zero}
 use Rattle.std.proofs.Math.Decide.{dec_lt}
-use Rattle.definition.specs.Answers.{returned, refused, text_says, two_heads_says, number_of}
+use Rattle.definition.specs.Answers.{returned, refused, value_says, done_says, two_heads_answer, number_of}
 use Rattle.definition.specs.Diffusion.{plain, kernel_of}
 use Rattle.definition.specs.Model.{Halftone}
 use Rattle.definition.specs.Refusals.{power_of}
@@ -15,11 +15,7 @@ use Rattle.definition.specs.DrillList.{drill_text}
 use Rattle.definition.specs.Plate.{refused_text}
 use Rattle.definition.specs.ByQuarters.{drill_list_by_quarters}
 use Rattle.definition.specs.declared.Refusal.{Refusal}
-use Rattle.definition.specs.declared.TextAnswer.{TextAnswer}
-use Rattle.definition.specs.declared.TextAnswer.TheVariants as Text
 use Rattle.definition.specs.declared.TwoHeadsAnswer.{TwoHeadsAnswer}
-use Rattle.definition.specs.declared.TwoHeadsStatus.{TwoHeadsStatus}
-use Rattle.definition.specs.declared.TwoHeadsStatus.TheVariants.{Stopped, Refused}
 use Rattle.heads.specs.TwoHeads.{two_heads, TwoHeadsOutcome, two_heads_refusal, two_heads_by_quarters, two_heads_list}
 use Rattle.refusals.specs.Lowest.{load_none}
 use Rattle.shares.specs.Kernels.{knit_fit}
@@ -32,24 +28,22 @@ use Rattle.head_order.proofs.Run.{run_sheet}
 use Rattle.decimals.specs.Printed.{Printed}
 use Rattle.program_texts.specs.Lengths.{list_length}
 use Rattle.program_texts.specs.Finished.{MapAsked}
-use Rattle.program_texts.specs.Promised.{text_printed, not_refused_there}
+use Rattle.program_texts.specs.Promised.{Answered, answered_as, text_answered}
 
 -- Drill List, as a call on what this call gives back
 abbrev listed_from : TwoHeadsOutcome → List ℕ → TextOutcome
 listed_from t out = drill_list_by_quarters t.progress t.pyramid t.serials t.order out
 
 -- what is printed, by the side
-module _ (side : ℕ) (greys : List ℕ) {before after : List ℕ} {n : ℕ} where
-  small_printed : side < 16 → Printed (refused_text 14) before n after
-      → Printed (two_heads_list side greys) before n after
+module _ (side : ℕ) (greys : List ℕ) where
+  small_list : side < 16 → two_heads_list side greys ≡ refused_text 14
   unfolding two_heads_list
-  small_printed h w = rw (lt-ltb side 16 h, two_heads_list) w
+  small_list h = rw (lt-ltb side 16 h, two_heads_list)
 
-  large_printed : 16 ≤ side
-      → Printed (drill_text (power_of side) (two_heads (kernel_of plain) (power_of side) greys)) before n after
-      → Printed (two_heads_list side greys) before n after
+  large_list : 16 ≤ side
+      → two_heads_list side greys ≡ drill_text (power_of side) (two_heads (kernel_of plain) (power_of side) greys)
   unfolding two_heads_list
-  large_printed h w = rw (le-ltb side 16 h, two_heads_list) w
+  large_list h = rw (le-ltb side 16 h, two_heads_list)
 
 -- ---- what the call answers
 module _ (side : ℕ) (greys : List ℕ) (bytes : (i : ℕ) → get_or greys i 0 ≤ 255) (p : List ℤ) (s o : List ℕ)
@@ -97,67 +91,56 @@ module _ (side : ℕ) (greys : List ℕ) (bytes : (i : ℕ) → get_or greys i 0
         list_length r asked.few run (run_sheet (kernel_of plain) (knit_fit plain) r four≤ greys all_bytes)
 
   -- ---- what it has answered and left
-  module _ {a : TwoHeadsAnswer} {p₁ : List ℤ} {s₁ o₁ : List ℕ}
+  module _ (a : Result TwoHeadsAnswer Refusal) {p₁ : List ℤ} {s₁ o₁ : List ℕ}
       (q : record {
-        progress = a.progress;
-        made = a.made;
-        debt = a.debt;
-        said = two_heads_says a.status;
+        progress = (two_heads_answer a).progress;
+        made = (two_heads_answer a).made;
+        debt = (two_heads_answer a).debt;
+        said = done_says a;
         pyramid = p₁;
         serials = s₁;
         order = o₁;
       } ≡ out) where
-    says : {status : TwoHeadsStatus} → a.status ≡ status → two_heads_says status ≡ out.said
-    says e = ap two_heads_says (sym e) ∙ ap (λ (t : TwoHeadsOutcome). t.said) q
+    says : done_says a ≡ out.said
+    says = ap (λ (t : TwoHeadsOutcome). t.said) q
 
     -- refused: the side is small, and the number 14
-    module _ {why : Refusal} (e : a.status ≡ Refused why) where
-      refused_number : side < 16 → number_of why ≡ 14
-      unfolding two_heads_says
-      refused_number h = let said : refused (number_of why) ≡ refused 14 = says e ∙ small_said h in cc
+    pub refused_list : (why : Refusal) → a ≡ Err why → two_heads_list side greys ≡ refused_text (number_of why)
+    unfolding done_says
+    refused_list why e = go (dec_lt side 16)
+      where
+        told : refused (number_of why) ≡ out.said
+        told = ap done_says (sym e) ∙ says
 
-      not_large : 16 ≤ side → ⊥
-      unfolding two_heads_says
-      not_large h = suc-ne-zero 0 (cc (says e ∙ large_said h))
+        go : Dec (side < 16) → two_heads_list side greys ≡ refused_text (number_of why)
+        go (yes h) =
+            let both : refused (number_of why) ≡ refused 14 = told ∙ small_said h in
+            let number : number_of why ≡ 14 = cc in
+            rw number (small_list side greys h)
+        go (no h) = absurd (suc-ne-zero 0 (cc (told ∙ large_said (omega arith))))
 
-      pub refused_printed : {number : ℕ} → number ≡ number_of why → {before after : List ℕ} {n : ℕ}
-          → Printed (refused_text number) before n after → Printed (two_heads_list side greys) before n after
-      refused_printed {number} en {before} {after} {n} w = go (dec_lt side 16)
-        where
-          go : Dec (side < 16) → Printed (two_heads_list side greys) before n after
-          go (yes h) = small_printed side greys h (rw (en ∙ refused_number h) at w)
-          go (no h) = absurd (not_large (omega arith))
-
-    -- stopped: the side is large, and what Drill List then answers
-    module _ (e : a.status ≡ Stopped) where
-      not_small : side < 16 → ⊥
-      unfolding two_heads_says
-      not_small h = suc-ne-zero 0 (cc (sym (says e ∙ small_said h)))
-
+    -- not refused: the side is large, and what Drill List then answers
+    module _ (answer : TwoHeadsAnswer) (e : a ≡ Ok answer) where
       large : 16 ≤ side
+      unfolding done_says
       large = go (dec_lt side 16)
         where
           go : Dec (side < 16) → 16 ≤ side
-          go (yes h) = absurd (not_small h)
+          go (yes h) = absurd (suc-ne-zero 0 (cc (sym (ap done_says (sym e) ∙ says ∙ small_said h))))
           go (no h) = omega arith
 
-      module _ (before : List ℕ) (room : 11300 ≤ length before) (answer : TextAnswer) {after : List ℕ}
-          (list : record { said = text_says answer; output = after }
-          ≡ drill_list_by_quarters a.progress p₁ s₁ o₁ before) where
-        fits : length (drill_text r run) ≤ length before
-        fits = omega (arith, list_fits large)
-
-        answered : record { said = text_says answer; output = after } ≡ text_into 0 (drill_text r run) before
-        unfolding text_into
-        answered =
-            list
-            ∙ ap (λ (t : TwoHeadsOutcome). listed_from t before) q
-            ∙ (holds large).listed before fits
-
-        pub list_printed : {n : ℕ} → answer ≡ Text.Length n → Printed (two_heads_list side greys) before n after
-        list_printed t =
-            large_printed side greys large (text_printed (drill_text r run) before after answer answered fits t)
-
-        pub list_not_refused : {why : Refusal} {n : ℕ} → answer ≡ Text.Refused why
-            → Printed (two_heads_list side greys) before n after
-        list_not_refused t = absurd (not_refused_there (drill_text r run) before after answer answered t)
+      pub run_listed : (before : List ℕ) → 11300 ≤ length before → (list : Result ℕ Refusal) {after : List ℕ}
+          → record { said = value_says list; output = after }
+          ≡ drill_list_by_quarters answer.progress p₁ s₁ o₁ before
+          → Answered (two_heads_list side greys) before list after
+      unfolding text_into
+      run_listed before room list {after} l =
+          let fits : length (drill_text r run) ≤ length before = omega (arith, list_fits large) in
+          let progress_is : answer.progress ≡ (two_heads_answer a).progress = rw e in
+          let answered : record { said = value_says list; output = after } ≡ text_into 0 (drill_text r run) before
+          = (rw progress_is at l)
+          ∙ ap (λ (t : TwoHeadsOutcome). listed_from t before) q
+          ∙ (holds large).listed before fits
+          in
+          answered_as before after list (large_list side greys large)
+          (text_answered (drill_text r run) before after list answered fits)

@@ -1,10 +1,10 @@
--- The ways out of `two_heads`: an input that is too long (`long_printed`), a text that Map Text refuses
--- (`refused_printed`), the list of a map (`side_printed`).
-use Rattle.std.specs.Prelude.{◌≡◌, List, ◌++◌, ℕ, ◌*◌, ◌≤◌, ◌<◌, ltb, length, drop}
+-- What `two_heads` prints: for an input that is too long (`long_text`), for a text that Map Text refuses
+-- (`refused_map`), and for a map (`side_map`).
+use Rattle.std.specs.Prelude.{◌≡◌, List, ◌++◌, ℕ, ◌*◌, ◌≤◌, ◌<◌, ltb, length, drop, Ok, Err}
 use Rattle.std.proofs.Math.Path.{ap}
-use Rattle.std.proofs.Common.{◌∙◌, arith, lt-ltb, le-ltb}
+use Rattle.std.proofs.Common.{sym, ◌∙◌, arith, lt-ltb, le-ltb}
 use Rattle.std.proofs.Math.Bool.{true, false}
-use Rattle.definition.specs.Answers.{map_text_says, number_of}
+use Rattle.definition.specs.Answers.{value_says, number_of}
 use Rattle.definition.specs.Pyramid.{cell_count}
 use Rattle.definition.specs.Diffusion.{Kernel, plain, kernel_of}
 use Rattle.definition.specs.Model.{Halftone}
@@ -13,29 +13,26 @@ use Rattle.definition.specs.MapText.{accepted, rejected, read_low, map_text_of}
 use Rattle.definition.specs.DrillList.{drill_text}
 use Rattle.definition.specs.Plate.{refused_text}
 use Rattle.definition.specs.declared.Refusal.{Refusal}
-use Rattle.definition.specs.declared.MapTextAnswer.{MapTextAnswer}
-use Rattle.definition.specs.declared.MapTextAnswer.TheVariants.{Side, Refused}
+use Rattle.definition.specs.declared.Refusal.TheVariants.{InputLong}
 use Rattle.heads.specs.TwoHeads.{two_heads_in, two_heads, two_heads_list, two_heads_text}
 use Rattle.guarantee.proofs.Start.{start_front}
 use Rattle.decimals.specs.Printed.{Printed}
 use Rattle.program_texts.specs.Outputs.{refused_rejected, found, count, greys_are, read_is}
 
-module _ (input : List ℕ) {before after : List ℕ} {n : ℕ} where
-  pub long_printed : 4099 < length input → Printed (refused_text 9) before n after
-      → Printed (two_heads_text input) before n after
-  unfolding two_heads_text
-  long_printed h w = rw (lt-ltb 4099 (length input) h, two_heads_text) w
+module _ (input : List ℕ) where
+  pub long_text : 4099 < length input → two_heads_text input ≡ refused_text (number_of InputLong)
+  unfolding two_heads_text number_of
+  long_text h = rw (lt-ltb 4099 (length input) h, two_heads_text)
 
   module _ (short : length input ≤ 4099) where
-    rejected_printed : {k : ℕ} → read_low input 1024 ≡ rejected k → Printed (refused_text k) before n after
-        → Printed (two_heads_text input) before n after
+    rejected_map : {k : ℕ} → read_low input 1024 ≡ rejected k → two_heads_text input ≡ refused_text k
     unfolding two_heads_text
-    rejected_printed e w = rw (le-ltb 4099 (length input) short, e, two_heads_text) w
+    rejected_map e = rw (le-ltb 4099 (length input) short, e, two_heads_text)
 
-    accepted_printed : {side : ℕ} {values : List ℕ} → read_low input 1024 ≡ accepted side values
-        → Printed (two_heads_list side values) before n after → Printed (two_heads_text input) before n after
+    accepted_map : {side : ℕ} {values : List ℕ} → read_low input 1024 ≡ accepted side values
+        → two_heads_text input ≡ two_heads_list side values
     unfolding two_heads_text
-    accepted_printed e w = rw (le-ltb 4099 (length input) short, e, two_heads_text) w
+    accepted_map e = rw (le-ltb 4099 (length input) short, e, two_heads_text)
 
 -- the list of a map whose greys stand at the start of a longer buffer
 module _ (side : ℕ) (values rest : List ℕ) (count : length values ≡ cell_count (power_of side)) where
@@ -52,21 +49,17 @@ module _ (side : ℕ) (values rest : List ℕ) (count : length values ≡ cell_c
       (run_front (kernel_of plain))
 
 -- ---- what Map Text has answered, on a buffer of 1,024 places
-module _ (input buffer : List ℕ) (whole : length buffer ≡ 1024) {greys : List ℕ} {a : MapTextAnswer}
-    (promise : record { said = map_text_says a; greys = greys } ≡ map_text_of input buffer)
-    (short : length input ≤ 4099) where
-  pub refused_printed : {why : Refusal} {number : ℕ} → a ≡ Refused why → number ≡ number_of why
-      → {before after : List ℕ} {n : ℕ} → Printed (refused_text number) before n after
-      → Printed (two_heads_text input) before n after
-  refused_printed e en w =
-      rejected_printed input short (rw whole at (refused_rejected input buffer whole promise e)) (rw en at w)
+module _ (input buffer : List ℕ) (whole : length buffer ≡ 1024) {greys : List ℕ} (short : length input ≤ 4099) where
+  pub refused_map : (why : Refusal) → record { said = value_says (Err why); greys = greys } ≡ map_text_of input buffer
+      → two_heads_text input ≡ refused_text (number_of why)
+  refused_map why promise = rejected_map input short (refused_rejected input buffer whole why promise)
 
-  pub side_printed : {side : ℕ} → a ≡ Side side → {before after : List ℕ} {n : ℕ}
-      → Printed (two_heads_list side greys) before n after → Printed (two_heads_text input) before n after
-  side_printed {side} e w =
-      let values = (found input buffer whole promise e).0 in
+  pub side_map : (side : ℕ) → record { said = value_says (Ok side); greys = greys } ≡ map_text_of input buffer
+      → two_heads_text input ≡ two_heads_list side greys
+  side_map side promise =
+      let values = (found input buffer whole side promise).0 in
       let same : two_heads_list side greys ≡ two_heads_list side values
-      = ap (two_heads_list side) (greys_are input buffer whole promise e)
-      ∙ list_front side values (drop (side * side) buffer) (count input buffer whole promise e)
+      = ap (two_heads_list side) (greys_are input buffer whole side promise)
+      ∙ list_front side values (drop (side * side) buffer) (count input buffer whole side promise)
       in
-      accepted_printed input short (read_is input buffer whole promise e) (rw same at w)
+      accepted_map input short (read_is input buffer whole side promise) ∙ sym same

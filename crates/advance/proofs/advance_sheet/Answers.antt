@@ -29,12 +29,11 @@ pub run-made-requires : goal.run-made-requires
 run-made-requires c = record {
   run_asked = search (run_asked, rules);
   pyramid_len = search (whole, rules);
-  table_value = search rules;
 }
 
 pub slice_copy_out-ended : goal.slice_copy_out-ended
 slice_copy_out-ended c =
-    top_there _ _ _ c.requires.sheet_asked c.needed-needed.ensures c.cell_count-cells.ensures _ _
+    top_there _ _ _ c.requires c.needed-needed.ensures c.cell_count-cells.ensures _ _
     c.run-made.new.pyramid
     (search rules) c.run-made.ensures
 
@@ -44,7 +43,6 @@ overflow_add-dots c =
 
 pub returns : goal.returns
 returns c =
-    advanced_is _ _ _ c.requires.sheet_asked c.needed-needed.ensures c.cell_count-cells.ensures _ _
+    advanced_is _ _ _ c.requires c.needed-needed.ensures c.cell_count-cells.ensures _ _
     c.run-made.new.pyramid
-    (search rules) c.run-made.ensures c.args.progress _ refl refl (search rules) c.ended-status.ensures
-    c.answer.ensures
+    (search rules) c.run-made.ensures c.args.progress _ _ refl refl (search rules) c.ended.ensures

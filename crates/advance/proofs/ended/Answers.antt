@@ -7,6 +7,6 @@ pub returns-then-top-lt-HALF_DOT : goal.returns-then-top-lt-HALF_DOT
 returns-then-top-lt-HALF_DOT c =
     search (says_finished, rules)
 
-pub returns : goal.returns
-returns c =
+pub returns-else-top-lt-HALF_DOT : goal.returns-else-top-lt-HALF_DOT
+returns-else-top-lt-HALF_DOT c =
     search (says_more, rules)

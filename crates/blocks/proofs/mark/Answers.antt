@@ -1,11 +1,9 @@
--- `blocks::mark`: by the two laws on a serial.
-use Rattle.blocks.specs.Squares.{dot_none, dot_one}
+-- `blocks::mark`: whether the serial is 0 decides it.
+use Rattle.std.proofs.Common.{arith}
+use Rattle.std.proofs.lemmas.Grind.{common_steps}
+use Rattle.definition.specs.Blocks.{burnt}
 use Rattle.blocks.proofs.mark.Goals as goal
 
-pub returns-then-serial-ne0 : goal.returns-then-serial-ne0
-returns-then-serial-ne0 c =
-    dot_one c.if-serial-ne0.true
-
 pub returns : goal.returns
-returns c =
-    dot_none c.if-serial-ne0.false
+unfolding burnt
+returns c = grind (arith, common_steps)

@@ -4,4 +4,4 @@ use Rattle.call_list.proofs.run_calls.Goals as goal
 
 pub returns : goal.returns
 returns c =
-    promised _ _ _ _ _ _ _ _ _ c.load-loaded.ensures c.make_calls.ensures
+    promised _ _ _ _ _ _ c.record_of-first.ensures _ _ _ c.load.ensures c.make_calls.ensures

@@ -18,12 +18,12 @@ unfolding checked number_of lowest keep_refusal
 is_name-requires c =
     search rules
 
-pub returns-then-is_name : goal.returns-then-is_name
+pub returns-then-not-is_name : goal.returns-then-not-is_name
 unfolding checked number_of lowest keep_refusal
-returns-then-is_name c =
-    search (keep_passed, rules)
+returns-then-not-is_name c =
+    search (keep_failed, rules)
 
 pub returns : goal.returns
 unfolding checked number_of lowest keep_refusal
 returns c =
-    search (keep_failed, rules)
+    search (keep_passed, rules)

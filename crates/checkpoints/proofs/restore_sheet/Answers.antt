@@ -4,10 +4,7 @@ use Rattle.checkpoints.specs.Anew.{pyramid_part, serials_part, order_part, whole
 use Rattle.checkpoints.proofs.restore_sheet.Goals as goal
 
 pub fill-requires : goal.fill-requires
-fill-requires c = record {
-  fill_lent = search rules;
-  table_value = search rules;
-}
+fill-requires c = search rules
 
 pub slice_bounds-run-end-2 : goal.slice_bounds-run-end-2
 slice_bounds-run-end-2 c =
@@ -25,7 +22,6 @@ pub run-requires : goal.run-requires
 run-requires c = record {
   run_asked = search (run_asked, rules);
   pyramid_len = search (whole, rules);
-  table_value = search rules;
 }
 
 pub returns : goal.returns

@@ -1,6 +1,5 @@
 -- `decimals::put_column`.
 use native.Mathlib.Omega.{arith}
-use borrow.Author.Rules.{rules}
 use Rattle.decimals.specs.Writing.{right_end, column_wrote}
 use Rattle.decimals.proofs.put_column.Goals as goal
 

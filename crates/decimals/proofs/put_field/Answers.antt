@@ -1,5 +1,4 @@
 -- `decimals::put_field`.
-use borrow.Author.Rules.{rules}
 use Rattle.decimals.specs.Writing.{field_wrote}
 use Rattle.decimals.proofs.put_field.Goals as goal
 

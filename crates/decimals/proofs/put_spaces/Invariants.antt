@@ -1,14 +1,8 @@
--- `decimals::put_spaces`: one more in each turn.
-use Prim.Native.Nat.{◌-◌, ◌≤◌}
-use mathlib.Core.Path.{◌≡◌}
-use native.Mathlib.Omega.{arith}
-use lib.ListN.{replicate}
+-- `decimals::put_spaces`: all places so far hold spaces.
+use Rattle.std.proofs.Common.{◌-◌, replicate}
 use Rattle.definition.specs.Text.{space}
-use Rattle.decimals.specs.Writing.{Wrote, wrote_none, wrote_length, one_more_space, spaces_end}
+use Rattle.decimals.specs.Writing.{Wrote}
 use Rattle.decimals.proofs.put_spaces.Given as goal
 
-abbrev pub invariant-loop-i : goal.invariant-loop-i
-invariant-loop-i l = (l.i ≤ l.count) × Wrote l.initial.out l.from (replicate l.i space) l.at l.out
-
-abbrev pub decreases-loop-i : goal.decreases-loop-i
-decreases-loop-i l = l.count - l.i
+abbrev pub invariant-loop-at : goal.invariant-loop-at
+invariant-loop-at l = Wrote l.initial.out l.from (replicate (l.at - l.from) space) l.at l.out

@@ -1,25 +1,14 @@
 -- `descent::better`.
 use borrow.Author.Rules.{rules}
-use Rattle.descent.specs.Walk.{raised_fits, better_is}
+use Rattle.descent.specs.Walk.{better_is}
 use Rattle.descent.proofs.better.Goals as goal
 
-pub overflow_cast-sum : goal.overflow_cast-sum
-overflow_cast-sum c =
-    tt
-
-pub overflow_add-sum : goal.overflow_add-sum
-overflow_add-sum c =
+pub returns-then-best-sum : goal.returns-then-best-sum
+returns-then-best-sum c =
     let g = c.args in
-    raised_fits g.last g.best g.next (search rules) (search rules) (search rules)
+    better_is g.last g.best g.next (search rules) (search rules) (search rules) c.if-best-sum.true
 
-pub returns-then-most-sum : goal.returns-then-most-sum
-returns-then-most-sum c =
+pub returns-else-best-sum : goal.returns-else-best-sum
+returns-else-best-sum c =
     let g = c.args in
-    better_is g.last g.best g.next (search rules) (search rules) (search rules)
-    c.if-most-sum.true
-
-pub returns-else-most-sum : goal.returns-else-most-sum
-returns-else-most-sum c =
-    let g = c.args in
-    better_is g.last g.best g.next (search rules) (search rules) (search rules)
-    c.if-most-sum.false
+    better_is g.last g.best g.next (search rules) (search rules) (search rules) c.if-best-sum.false

@@ -1,10 +1,6 @@
 -- `diffusion::diffuse`: after n turns the first n shares are taken.
-use Prim.Native.Nat.{◌-◌}
 use Rattle.diffusion.specs.Turns.{Turns}
 use Rattle.diffusion.proofs.diffuse.Given as goal
 
 abbrev pub invariant-loop-n : goal.invariant-loop-n
 invariant-loop-n l = Turns l.initial.cells l.knit l.r l.row l.column l.d l.all l.cells l.sum l.given l.n
-
-abbrev pub decreases-loop-n : goal.decreases-loop-n
-decreases-loop-n l = 9 - l.n

@@ -1,24 +1,12 @@
--- `diffusion::is_inside`: no row above, no column left, no row below; else the column right decides.
+-- `diffusion::is_inside`: the column right decides where the rest lies on the map.
 use borrow.Author.Rules.{rules}
-use Rattle.diffusion.specs.Inside.{side_some, none_above, none_left, none_below, right_decides}
+use Rattle.diffusion.specs.Inside.{none_there, right_decides}
 use Rattle.diffusion.proofs.is_inside.Goals as goal
 
-pub overflow_sub-last : goal.overflow_sub-last
-overflow_sub-last c =
-    search (side_some, rules)
-
-pub returns-then-row-eq0 : goal.returns-then-row-eq0
-returns-then-row-eq0 c =
-    search (none_above, rules)
-
-pub returns-then-column-eq0 : goal.returns-then-column-eq0
-returns-then-column-eq0 c =
-    search (none_left, rules)
-
-pub returns-then-last-row : goal.returns-then-last-row
-returns-then-last-row c =
-    search (none_below, rules)
-
-pub returns : goal.returns
-returns c =
+pub returns-then-row-last : goal.returns-then-row-last
+returns-then-row-last c =
     search (right_decides, rules)
+
+pub returns-else-row-last : goal.returns-else-row-last
+returns-else-row-last c =
+    search (none_there, rules)

@@ -37,7 +37,7 @@ overflow_cast-d c =
 
 pub diffuse_at-requires : goal.diffuse_at-requires
 diffuse_at-requires c =
-    record { diffuse_asked = search (lack_asked, rules); table_value = search rules; p_value = search rules }
+    record { diffuse_asked = search (lack_asked, rules); p_value = search rules }
 
 pub returns : goal.returns
 returns c =

@@ -1,6 +1,6 @@
 use borrow.Author.Rules.{rules}
 use Rattle.diffusion.specs.Weights.{turn_nine, sum_next, sum_fits, sum_some}
-use Rattle.diffusion.specs.Turns.{turns_none, given_grows, turns_all}
+use Rattle.diffusion.specs.Turns.{turns_none}
 use Rattle.diffusion.specs.Inside.{weight_inside, inside_fits, inside_asked, inside_turn}
 use Rattle.diffusion.proofs.spread.Goals as goal
 
@@ -24,10 +24,6 @@ pub overflow_add-row_at : goal.overflow_add-row_at
 overflow_add-row_at c =
     search (inside_fits, rules)
 
-pub overflow_sub-up_to : goal.overflow_sub-up_to
-overflow_sub-up_to c =
-    search (given_grows, sum_some, weight_inside, rules)
-
 pub take-requires : goal.take-requires
 take-requires c =
     search (inside_asked, rules)
@@ -35,7 +31,3 @@ take-requires c =
 pub loop-n-preserved : goal.loop-n-preserved
 loop-n-preserved c =
     search (inside_turn, rules)
-
-pub returns : goal.returns
-returns c =
-    search (turns_all, rules)

@@ -1,15 +1,11 @@
 -- `diffusion::spread_inside`: plain cloth, or any other, which weighs as ribbed.
 use borrow.Author.Rules.{rules}
-use Rattle.diffusion.specs.Inside.{sum_plain, sum_ribbed, as_plain, as_ribbed}
+use Rattle.diffusion.specs.Inside.{sum_plain, sum_ribbed, as_ribbed}
 use Rattle.diffusion.proofs.spread_inside.Goals as goal
 
 pub spread-requires : goal.spread-requires
 spread-requires c =
     record { inside_asked = search rules; all_value = search (sum_plain, rules) }
-
-pub returns-then-knit-eq0 : goal.returns-then-knit-eq0
-returns-then-knit-eq0 c =
-    search (as_plain, rules)
 
 pub spread-requires-2 : goal.spread-requires-2
 spread-requires-2 c =

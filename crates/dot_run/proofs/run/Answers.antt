@@ -1,5 +1,5 @@
 use borrow.Author.Rules.{rules}
-use Rattle.dot_run.specs.Running.{begins, still_long, top_in, few, spent, none_due, dot_asked, goes_on}
+use Rattle.dot_run.specs.Running.{begins, top_in, few, spent, none_due, dot_asked, goes_on}
 use Rattle.dot_run.proofs.run.Goals as goal
 
 pub loop-made-init : goal.loop-made-init
@@ -18,14 +18,9 @@ pub overflow_add-dots : goal.overflow_add-dots
 overflow_add-dots c =
     search (few, rules)
 
-pub place_dot-requires : goal.place_dot-requires
-place_dot-requires c =
-    record {
-      dot_asked = search (dot_asked, rules);
-      pyramid_len = search (still_long, rules);
-      table_value =
-          search rules;
-    }
+pub place_dot-requires-clause-dot_asked : goal.place_dot-requires-clause-dot_asked
+place_dot-requires-clause-dot_asked c =
+    search (dot_asked, rules)
 
 pub loop-made-preserved : goal.loop-made-preserved
 loop-made-preserved c =

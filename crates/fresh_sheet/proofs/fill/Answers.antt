@@ -8,10 +8,7 @@ slice_bounds-fill_pyramid-end-2 c =
     search (part_length, rules)
 
 pub fill_pyramid-requires : goal.fill_pyramid-requires
-fill_pyramid-requires c = record {
-  fill_asked = search (fill_asked, rules);
-  table_value = search rules;
-}
+fill_pyramid-requires c = search (fill_asked, rules)
 
 pub returns : goal.returns
 returns c =

@@ -17,14 +17,14 @@ slice_bounds-run-end-6 c =
 
 pub run-made-requires : goal.run-made-requires
 run-made-requires c =
-    record { large_sheet = search (large, rules); pyramid_len = search (whole, rules); table_value = search rules }
+    record { large_sheet = search (large, rules); pyramid_len = search (whole, rules) }
 
-pub slice_copy_out-stopped : goal.slice_copy_out-stopped
-slice_copy_out-stopped c =
+pub slice_copy_out-debt : goal.slice_copy_out-debt
+slice_copy_out-debt c =
     top_there _ _ _ c.requires c.needed-needed.ensures c.cell_count-cells.ensures _
     c.run-made.new.pyramid (search rules) c.run-made.ensures
 
 pub returns : goal.returns
 returns c =
     ran_is _ _ _ c.requires c.needed-needed.ensures c.cell_count-cells.ensures _
-    c.run-made.new.pyramid (search rules) c.run-made.ensures _ _ (search rules) c.stopped.ensures
+    c.run-made.new.pyramid (search rules) c.run-made.ensures _ _ (search rules)

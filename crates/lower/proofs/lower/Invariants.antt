@@ -1,14 +1,7 @@
--- `lower::lower`: after i turns the first i greys are lowered.
-use Prim.Native.Nat.{◌-◌}
-use mathlib.Core.Path.{◌≡◌}
-use native.Mathlib.Omega.{arith}
-use lib.ListN.{length}
-use borrow.Author.Rules.{rules}
-use Rattle.lower.specs.Loops.{lowered_to, none_lowered, one_lowered, all_lowered, still_as_long}
+-- `lower::lower`: the greys before the place are lowered, those from it on are as they were.
+use Rattle.std.proofs.Common.{◌≡◌, ◌++◌, take, drop}
+use Rattle.definition.specs.Lowering.{lowered}
 use Rattle.lower.proofs.lower.Given as goal
 
-abbrev pub invariant-loop-i : goal.invariant-loop-i
-invariant-loop-i l = l.greys ≡ lowered_to l.i l.initial.greys
-
-abbrev pub decreases-loop-i : goal.decreases-loop-i
-decreases-loop-i l = l.count - l.i
+abbrev pub invariant-loop-grey : goal.invariant-loop-grey
+invariant-loop-grey l = l.greys ≡ lowered (take l.grey-index l.initial.greys) ++ drop l.grey-index l.initial.greys

@@ -1,20 +1,13 @@
-use Prim.Native.Nat.{◌-◌}
-use mathlib.Core.Path.{◌≡◌, refl}
-use native.Mathlib.Omega.{arith}
-use lib.ListN.{length, drop}
-use borrow.Author.Rules.{rules}
-use Rattle.definition.specs.Lowering.{none_high}
-use Rattle.lower.specs.Loops.{one_high, one_low, all_low}
+-- `lower::none_high`: what `all` answered of the greys.
+use Rattle.std.proofs.Common.{rules, ◌∙◌, leb}
+use borrow.Author.Tests.{tests}
+use Rattle.std.proofs.lemmas.Iterator.{YieldsList-from_slice}
+use Rattle.std.proofs.lemmas.Iterator.Search.{all_from_yields_List}
+use Rattle.lower.specs.Loops.{all_low}
 use Rattle.lower.proofs.none_high.Goals as goal
-
-pub returns-then-greys-i-gt240 : goal.returns-then-greys-i-gt240
-returns-then-greys-i-gt240 c =
-    search (one_high, rules)
-
-pub loop-i-preserved : goal.loop-i-preserved
-loop-i-preserved c =
-    search (one_low, rules)
 
 pub returns : goal.returns
 returns c =
-    search (all_low, rules)
+    all_from_yields_List (λ grey. leb grey 240) _ _ c.all.result c.all.ensures.ran
+    (YieldsList-from_slice c.args.greys.now cc) (λ x b q k. search (rules, tests))
+    ∙ all_low c.args.greys.now

@@ -3,12 +3,12 @@ use borrow.Author.Rules.{rules}
 use Rattle.macroblock.specs.Owing.{better_is}
 use Rattle.macroblock.proofs.better.Goals as goal
 
-pub returns-then-most-sum : goal.returns-then-most-sum
-returns-then-most-sum c =
+pub returns-then-best-next : goal.returns-then-best-next
+returns-then-best-next c =
     let g = c.args in
-    better_is g.best g.next (search rules) (search rules) c.if-most-sum.true
+    better_is g.best g.next (search rules) (search rules) c.if-best-next.true
 
-pub returns-else-most-sum : goal.returns-else-most-sum
-returns-else-most-sum c =
+pub returns-else-best-next : goal.returns-else-best-next
+returns-else-best-next c =
     let g = c.args in
-    better_is g.best g.next (search rules) (search rules) c.if-most-sum.false
+    better_is g.best g.next (search rules) (search rules) c.if-best-next.false

@@ -1,12 +1,8 @@
 -- `macroblock::block_at`.
 use borrow.Author.Rules.{rules}
 use Rattle.integers.specs.Machine.{back64}
-use Rattle.macroblock.specs.Owing.{row_few, column_few, block_in, at_fits, at_bytes, block_is}
+use Rattle.macroblock.specs.Owing.{block_in, at_fits, at_bytes, block_is}
 use Rattle.macroblock.proofs.block_at.Goals as goal
-
-pub place-requires : goal.place-requires
-place-requires c =
-    (search rules, search (row_few, column_few, rules), search (row_few, column_few, rules))
 
 pub overflow_add-at : goal.overflow_add-at
 overflow_add-at c =
@@ -22,5 +18,4 @@ bounds-pyramid-at c =
 
 pub returns : goal.returns
 returns c =
-    block_is _ _ _ _ c.requires.block_asked _ _ c.level_start-first.ensures c.place.ensures
-    (back64 _ c.sum-1.given)
+    block_is _ _ _ _ c.requires _ _ c.level_start-first.ensures c.place.ensures (search (back64, rules))

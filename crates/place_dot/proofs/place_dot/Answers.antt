@@ -9,7 +9,7 @@ descend-cell-requires c =
 
 pub place_at-requires : goal.place_at-requires
 place_at-requires c =
-    record { place_at_asked = search (reached_asked, rules); pyramid_len = search rules; table_value = search rules }
+    record { place_at_asked = search (reached_asked, rules); pyramid_len = search rules }
 
 pub returns : goal.returns
 returns c =

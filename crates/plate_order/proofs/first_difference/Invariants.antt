@@ -1,18 +1,10 @@
 -- `plate_order::first_difference`: nothing differs in the rows before, nor in this row so far.
-use Prim.Native.Nat.{◌≤◌, ◌-◌, ◌*◌, ◌+◌}
-use mathlib.Core.Path.{◌≡◌}
-use Rattle.definition.specs.declared.CompareAnswer.TheVariants.{Same}
+use Rattle.std.proofs.Common.{◌+◌, ◌*◌}
 use Rattle.plate_order.specs.Finding.{Rest}
 use Rattle.plate_order.proofs.first_difference.Given as goal
 
+abbrev pub invariant-loop-row : goal.invariant-loop-row
+invariant-loop-row l = Rest l.left l.right l.r (l.row * l.side)
+
 abbrev pub invariant-loop-column : goal.invariant-loop-column
-invariant-loop-column l = (l.column ≤ l.side) × (l.found ≡ Same) × Rest l.left l.right l.r (l.row * l.side + l.column)
-
-abbrev pub decreases-loop-column : goal.decreases-loop-column
-decreases-loop-column l = l.side - l.column
-
-abbrev pub invariant-rows : goal.invariant-rows
-invariant-rows l = (l.row ≤ l.side) × (l.found ≡ Same) × Rest l.left l.right l.r (l.row * l.side)
-
-abbrev pub decreases-rows : goal.decreases-rows
-decreases-rows l = l.side - l.row
+invariant-loop-column l = Rest l.left l.right l.r (l.row * l.side + l.column)

@@ -4,8 +4,8 @@ use Rattle.program_texts.proofs.convert_text.Goals as goal
 
 pub returns : goal.returns
 returns c =
-    record {
-      bytes_value = printed_text c.put_converted-length.ensures;
-      length_bound =
-          printed_in_lem c.put_converted-length.ensures;
-    }
+    printed_text (c.put_answer-length.ensures _ _ c.put_converted-answer.ensures)
+
+pub invariant_of-result : goal.invariant_of-result
+invariant_of-result c =
+    record { fits = printed_in_lem (c.put_answer-length.ensures _ _ c.put_converted-answer.ensures) }

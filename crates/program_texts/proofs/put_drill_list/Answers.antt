@@ -1,12 +1,11 @@
--- `program_texts::put_drill_list`: the arrays hold the finished sheet, of which the list is made.
-use borrow.Author.Rules.{rules}
-use Rattle.program_texts.specs.Listing.{finished_printed, finished_not_refused}
+-- `program_texts::put_drill_list`.
+use Rattle.program_texts.specs.Listing.{finished_listed}
 use Rattle.program_texts.proofs.put_drill_list.Goals as goal
 
-pub returns-in-Length : goal.returns-in-Length
-returns-in-Length c =
-    search (finished_printed, rules)
+pub returns-in_err-progress : goal.returns-in_err-progress
+returns-in_err-progress c =
+    absurd c.in_err-progress.ensures
 
-pub returns-in-Refused : goal.returns-in-Refused
-returns-in-Refused c =
-    search (finished_not_refused, rules)
+pub returns : goal.returns
+returns c =
+    finished_listed _ _ c.requires.0 _ _ _ _ c.requires.1 c.in_ok-progress.ensures _ c.drill_list.ensures

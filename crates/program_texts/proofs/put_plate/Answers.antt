@@ -1,25 +1,24 @@
--- `program_texts::put_plate`: what Map Text answers, told apart.
-use Prim.Native.Nat.{◌≤◌}
-use native.Mathlib.Omega.{arith}
+-- `program_texts::put_plate`.
+use Rattle.std.proofs.Common.{refl, arith}
 use borrow.Author.Rules.{rules}
-use lib.ListN.{length}
-use Rattle.program_texts.specs.Outputs.{long_printed, refused_printed, side_asked, side_printed}
+use Rattle.checks.specs.Checks.{gives_back}
+use Rattle.program_texts.specs.Promised.{refused_answered, answered_as}
+use Rattle.program_texts.specs.Outputs.{long_text, refused_plate, side_asked, side_plate}
 use Rattle.program_texts.proofs.put_plate.Goals as goal
 
 pub returns-then-input-gt4099 : goal.returns-then-input-gt4099
 returns-then-input-gt4099 c =
-    long_printed _ (omega arith) c.put_refused.ensures
+    refused_answered _ refl (long_text _ (omega arith))
+
+pub returns-in_err-side : goal.returns-in_err-side
+returns-in_err-side c =
+    refused_answered _ (gives_back _ _ c.from_residual.ensures.1)
+    (refused_plate _ _ (search rules) _ c.in_err-side.ensures (omega arith))
 
 pub put_drill_list-requires : goal.put_drill_list-requires
 put_drill_list-requires c =
-    (search (side_asked, rules), search rules)
+    (side_asked _ _ (search rules) _ c.in_ok-side.ensures, search rules)
 
-pub returns-in-Refused : goal.returns-in-Refused
-returns-in-Refused c =
-    let short : length c.args.input.now ≤ 4099 = omega arith in
-    search (refused_printed, short, rules)
-
-pub returns-in-Side : goal.returns-in-Side
-returns-in-Side c =
-    let short : length c.args.input.now ≤ 4099 = omega arith in
-    search (side_printed, short, rules)
+pub returns : goal.returns
+returns c =
+    answered_as _ _ _ (side_plate _ _ (search rules) _ c.in_ok-side.ensures (omega arith)) c.put_drill_list.ensures

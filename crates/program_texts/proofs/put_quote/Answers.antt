@@ -1,12 +1,15 @@
--- `program_texts::put_quote`: what the first line says, told apart.
-use borrow.Author.Rules.{rules}
+-- `program_texts::put_quote`.
+use Rattle.checks.specs.Checks.{gives_back}
+use Rattle.program_texts.specs.Promised.{refused_answered, answered_as}
 use Rattle.program_texts.specs.FirstLine.{no_level, level_read}
 use Rattle.program_texts.proofs.put_quote.Goals as goal
 
-pub returns-in-Malformed : goal.returns-in-Malformed
-returns-in-Malformed c =
-    search (no_level, level_read, rules)
+pub returns-in_err-level : goal.returns-in_err-level
+returns-in_err-level c =
+    refused_answered _ (gives_back _ _ c.from_residual.ensures.1)
+    (no_level _ _ c.read_number.ensures c.in_err-level.ensures.ok_part c.in_err-level.ensures.value)
 
-pub returns-in-Read : goal.returns-in-Read
-returns-in-Read c =
-    search (no_level, level_read, rules)
+pub returns : goal.returns
+returns c =
+    answered_as _ _ _ (level_read _ _ _ (rw c.in_ok-level.ensures.ok_part at c.read_number.ensures) c.min-from.ensures)
+    c.put_quote_of_text.ensures

@@ -1,11 +1,7 @@
 -- `program_texts::sketch_text`.
-use Rattle.decimals.specs.Printed.{printed_text, printed_in_lem}
+use Rattle.decimals.specs.Printed.{printed_text}
 use Rattle.program_texts.proofs.sketch_text.Goals as goal
 
 pub returns : goal.returns
 returns c =
-    record {
-      bytes_value = printed_text c.put_sketch-length.ensures;
-      length_bound =
-          printed_in_lem c.put_sketch-length.ensures;
-    }
+    printed_text (c.put_answer-length.ensures _ _ c.put_sketch-answer.ensures)

@@ -8,7 +8,7 @@ pub offset_bounds-part-off : goal.offset_bounds-part-off
 offset_bounds-part-off c =
     omega (
       arith,
-      cells_in _ c.args.greys.now _ c.requires.fill_asked _ c.level_start-off.ensures,
+      cells_in _ c.args.greys.now _ c.requires _ c.level_start-off.ensures,
       c.well_formed.0.1,
     )
 
@@ -22,7 +22,7 @@ slice_bounds-fill_cells-start c =
 
 pub fill_cells-requires : goal.fill_cells-requires
 fill_cells-requires c =
-    record { cells_asked = search (cells_asked, rules); table_value = search rules }
+    search (cells_asked, rules)
 
 pub sum_up-requires : goal.sum_up-requires
 sum_up-requires c =

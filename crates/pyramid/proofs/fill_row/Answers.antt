@@ -1,5 +1,5 @@
 use borrow.Author.Rules.{rules}
-use Rattle.pyramid.specs.Cells.{below_side, line_fits, number_fits, number_in, column_scaled, column_few}
+use Rattle.pyramid.specs.Cells.{below_side, line_fits, number_fits, number_in, column_few}
 use Rattle.pyramid.specs.Cells.{place_fits, place_scaled, place_there, one_more, row_none, row_done}
 use Rattle.pyramid.proofs.fill_row.Goals as goal
 
@@ -19,24 +19,20 @@ pub bounds-greys-row : goal.bounds-greys-row
 bounds-greys-row c =
     search (number_in, below_side, rules)
 
-pub offset_bounds-columns-column : goal.offset_bounds-columns-column
-offset_bounds-columns-column c =
-    search (column_scaled, rules)
-
 pub bounds-columns-column : goal.bounds-columns-column
 bounds-columns-column c =
     search (column_few, rules)
 
-pub overflow_add-at : goal.overflow_add-at
-overflow_add-at c =
+pub overflow_add-first : goal.overflow_add-first
+overflow_add-first c =
     search (place_fits, rules)
 
-pub offset_bounds-part-at : goal.offset_bounds-part-at
-offset_bounds-part-at c =
+pub offset_bounds-part-first : goal.offset_bounds-part-first
+offset_bounds-part-first c =
     search (place_scaled, rules)
 
-pub bounds-part-at : goal.bounds-part-at
-bounds-part-at c =
+pub bounds-part-first : goal.bounds-part-first
+bounds-part-first c =
     search (place_there, rules)
 
 pub loop-column-preserved : goal.loop-column-preserved

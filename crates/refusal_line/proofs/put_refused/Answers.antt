@@ -5,5 +5,5 @@ use Rattle.refusal_line.proofs.put_refused.Goals as goal
 
 pub returns : goal.returns
 returns c =
-    line_printed _ (omega arith) _ c.requires c.put_field.ensures
-    c.put_bytes-at.ensures
+    line_printed _ (omega arith) _ c.requires
+    (rw (c.copy_from_slice.ensures.after, c.from.ensures, c.number_of.ensures) at c.put_field.ensures)

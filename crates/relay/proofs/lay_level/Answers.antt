@@ -19,9 +19,9 @@ nonzero_rem-i c =
 pub place-at-requires : goal.place-at-requires
 place-at-requires c =
     let i = c.loop-i.i in
-    let most = c.requires.level_asked.small in
+    let most = c.requires.small in
     let h = on_map_lem _ most c.pow2-side.ensures c.cell_count-count.ensures i (omega arith) in
-    (search rules, omega (arith, h.0, h.2), omega (arith, h.1, h.2))
+    (omega (arith, h.0, h.2), omega (arith, h.1, h.2))
 
 pub offset_bounds-level-at : goal.offset_bounds-level-at
 offset_bounds-level-at c =
@@ -30,7 +30,7 @@ offset_bounds-level-at c =
 pub bounds-level-at : goal.bounds-level-at
 bounds-level-at c =
     let loop = c.loop-i in
-    let most = c.requires.level_asked.small in
+    let most = c.requires.small in
     let counted = c.cell_count-count.ensures in
     let h = on_map_lem _ most c.pow2-side.ensures counted loop.i (omega arith) in
     place_in_lem _ most loop.invariant.long _ _ c.place-at.ensures h.0 h.1

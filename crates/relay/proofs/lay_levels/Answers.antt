@@ -10,7 +10,7 @@ loop-k-init c =
 
 pub offset_bounds-second-from : goal.offset_bounds-second-from
 offset_bounds-second-from c =
-    let most = c.requires.levels_asked.small in
+    let most = c.requires.small in
     omega (arith, start_few _ c.level_start-from.ensures (omega (arith, most)))
 
 pub slice_bounds-lay_level-count : goal.slice_bounds-lay_level-count
@@ -27,7 +27,7 @@ slice_bounds-lay_level-end c =
 
 pub offset_bounds-pyramid-from : goal.offset_bounds-pyramid-from
 offset_bounds-pyramid-from c =
-    let most = c.requires.levels_asked.small in
+    let most = c.requires.small in
     omega (arith, start_few _ c.level_start-from.ensures (omega (arith, most)))
 
 pub slice_bounds-lay_level-count-in-loop-k : goal.slice_bounds-lay_level-count-in-loop-k
@@ -39,10 +39,7 @@ slice_bounds-lay_level-start-in-loop-k c =
     search (in_pyramid, rules)
 
 pub lay_level-requires : goal.lay_level-requires
-lay_level-requires c = record {
-  level_asked = search (level_asked, rules);
-  table_value = search rules;
-}
+lay_level-requires c = search (level_asked, rules)
 
 pub loop-k-preserved : goal.loop-k-preserved
 loop-k-preserved c =

@@ -1,25 +1,18 @@
 -- `renewal::carry`.
-use native.Mathlib.Omega.{arith}
-use borrow.Author.Rules.{rules}
+use Rattle.std.proofs.Common.{ap, ◌∙◌}
+use Rattle.renewal.specs.OverPlaces.{below}
 use Rattle.renewal.specs.Steps.{less_fits, total_fits, sum_kept, carried}
 use Rattle.renewal.proofs.carry.Goals as goal
 
-pub offset_bounds-pyramid-i : goal.offset_bounds-pyramid-i
-offset_bounds-pyramid-i c =
-    omega (arith, c.requires.few)
-
-pub offset_bounds-pyramid-i-2 : goal.offset_bounds-pyramid-i-2
-offset_bounds-pyramid-i-2 c =
-    omega (arith, c.requires.few)
-
 pub overflow_sub-result : goal.overflow_sub-result
 overflow_sub-result c =
-    search (less_fits, rules)
+    less_fits c.requires (c.four_below-four.ensures ∙ ap (below c.args.pyramid.now) c.over.ensures)
 
 pub overflow_add-result : goal.overflow_add-result
 overflow_add-result c =
-    search (total_fits, rules)
+    total_fits c.requires (c.four_below-four.ensures ∙ ap (below c.args.pyramid.now) c.over.ensures)
 
 pub returns : goal.returns
 returns c =
-    (search (sum_kept, rules), search (carried, rules))
+    let e = c.four_below-four.ensures ∙ ap (below c.args.pyramid.now) c.over.ensures in
+    (sum_kept c.requires e, carried c.requires e)

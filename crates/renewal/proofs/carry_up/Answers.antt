@@ -1,29 +1,26 @@
-use Prim.Native.Nat.{◌<◌}
-use native.Mathlib.Omega.{arith}
+use Rattle.std.proofs.Common.{◌≡◌, ◌+◌, ◌-◌, ◌<◌, arith}
 use borrow.Author.Rules.{rules}
-use Rattle.renewal.specs.Upward.{place_asked, carry_begins, place_some, carry_asked, carry_on, top_in, carried_up}
+use Rattle.renewal.specs.Upward.{place_asked, place_some, carry_asked, carried_on, top_in, carried_up}
 use Rattle.renewal.proofs.carry_up.Goals as goal
 
 pub four_apart-sum-requires : goal.four_apart-sum-requires
 four_apart-sum-requires c =
     search (place_asked, rules)
 
-pub loop-k-init : goal.loop-k-init
-loop-k-init c =
-    search (carry_begins, rules)
-
 pub carry-sum-requires : goal.carry-sum-requires
 carry-sum-requires c =
-    carry_asked c.loop-k.invariant (omega arith)
+    carry_asked c.loop-up.invariant (omega arith)
 
-pub overflow_sub-i : goal.overflow_sub-i
-overflow_sub-i c =
-    place_some c.loop-k.invariant (omega arith)
+pub over-i-requires : goal.over-i-requires
+over-i-requires c =
+    place_some c.loop-up.invariant (omega arith)
 
-pub loop-k-preserved : goal.loop-k-preserved
-loop-k-preserved c =
-    let some : 0 < c.loop-k.k = omega arith in
-    search (carry_on, some, rules)
+pub loop-up-preserved : goal.loop-up-preserved
+loop-up-preserved c =
+    let left = c.args.level - c.loop-up._up in
+    let some : 0 < left = omega arith in
+    let one : c.args.level - (c.loop-up._up + 1) ≡ left - 1 = omega arith in
+    search (carried_on, some, one, rules)
 
 pub bounds-pyramid-0 : goal.bounds-pyramid-0
 bounds-pyramid-0 c =

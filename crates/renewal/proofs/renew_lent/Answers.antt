@@ -18,7 +18,7 @@ pow2-requires c =
 
 pub parts_around-p-requires : goal.parts_around-p-requires
 parts_around-p-requires c =
-    record { table_value = search rules; around_asked = search (around_asked, rules) }
+    search (around_asked, rules)
 
 pub slice_bounds-renew-end : goal.slice_bounds-renew-end
 slice_bounds-renew-end c =

@@ -2,8 +2,9 @@
 use Rattle.renewal.specs.Upward.{Climbing}
 use Rattle.renewal.proofs.renew_up.Given as goal
 
-abbrev pub invariant-loop-nw : goal.invariant-loop-nw
-invariant-loop-nw l = Climbing l.initial.pyramid l.level l.a l.b l.c l.d l.pyramid l.k l.nw l.ne l.sw l.se
+abbrev pub invariant-loop-at : goal.invariant-loop-at
+invariant-loop-at l = Climbing l.initial.pyramid l.level l.fn.places.nw l.fn.places.ne l.fn.places.sw l.fn.places.se
+    l.pyramid l.k l.at.nw l.at.ne l.at.sw l.at.se
 
-abbrev pub decreases-loop-nw : goal.decreases-loop-nw
-decreases-loop-nw l = l.k
+abbrev pub decreases-loop-at : goal.decreases-loop-at
+decreases-loop-at l = l.k

@@ -1,11 +1,7 @@
 -- `rounds::round`: after each turn one macroblock more is worked.
-use Prim.Native.Nat.{◌-◌}
 use Rattle.rounds.specs.Round.{Working}
 use Rattle.rounds.proofs.round.Given as goal
 
 abbrev pub invariant-loop-i : goal.invariant-loop-i
 invariant-loop-i l = Working l.knit l.r l.t l.initial.pyramid l.initial.serials l.initial.order l.dots l.pyramid
     l.serials l.order l.after l.i
-
-abbrev pub decreases-loop-i : goal.decreases-loop-i
-decreases-loop-i l = l.count - l.i

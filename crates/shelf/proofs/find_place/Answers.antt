@@ -1,15 +1,6 @@
 use borrow.Author.Rules.{rules}
-use Rattle.shelf.specs.Searching.{search_start, search_end}
-use Rattle.shelf.specs.Searching.{middle_fits, middle_asked, left_half, right_half}
+use Rattle.shelf.specs.Searching.{middle_asked, left_half, right_half}
 use Rattle.shelf.proofs.find_place.Goals as goal
-
-pub loop-low-init : goal.loop-low-init
-loop-low-init c =
-    search (search_start, rules)
-
-pub overflow_cast-list : goal.overflow_cast-list
-overflow_cast-list c =
-    search (middle_fits, rules)
 
 pub plate_before-requires : goal.plate_before-requires
 plate_before-requires c =
@@ -22,7 +13,3 @@ loop-low-preserved-then-plate_before c =
 pub loop-low-preserved : goal.loop-low-preserved
 loop-low-preserved c =
     search (right_half, rules)
-
-pub returns : goal.returns
-returns c =
-    search (search_end, rules)

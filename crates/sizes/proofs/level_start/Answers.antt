@@ -1,11 +1,7 @@
 -- `sizes::level_start`: 4 to the power of k as a shift of 1.
 use borrow.Author.Rules.{rules}
-use Rattle.sizes.specs.Shifts.{shifted_some, shifted_start}
+use Rattle.sizes.specs.Shifts.{shifted_start}
 use Rattle.sizes.proofs.level_start.Goals as goal
-
-pub overflow_sub-result : goal.overflow_sub-result
-overflow_sub-result c =
-    search (shifted_some, rules)
 
 pub returns : goal.returns
 returns c =

@@ -1,46 +1,28 @@
--- `sketch_quote::check_sketch`: the checks one after another.
-use borrow.Author.Rules.{rules}
+-- `sketch_quote::check_sketch`: where the numbers are all there, the tests behind them.
+use Rattle.std.proofs.Common.{arith}
+use Rattle.std.proofs.lemmas.Bool.Decides.{nat_tests}
 use Rattle.definition.specs.Answers.{number_of}
+use Rattle.definition.specs.Refusals.{lowest}
 use Rattle.checks.specs.Checks.{checked}
-use Rattle.sketch_quote.specs.Checks.{not_there, pair_falls_lem, level_unknown_lem, caps_short, nothing_short}
+use Rattle.sketch_quote.specs.Checks.{refusal_there}
 use Rattle.sketch_quote.proofs.check_sketch.Goals as goal
 
-pub find_cells-found-requires : goal.find_cells-found-requires
-unfolding checked number_of
-find_cells-found-requires c =
-    search rules
-
-pub why_not-requires : goal.why_not-requires
-unfolding checked number_of
-why_not-requires c =
-    search rules
-
-pub returns-then-not-found : goal.returns-then-not-found
-unfolding checked number_of
-returns-then-not-found c =
-    search (not_there, rules)
-
-pub returns-then-not-found-2 : goal.returns-then-not-found-2
-unfolding checked number_of
-returns-then-not-found-2 c =
-    search (pair_falls_lem, rules)
+pub returns-then-not-rise : goal.returns-then-not-rise
+unfolding checked number_of lowest
+returns-then-not-rise c =
+    rw (refusal_there _ _ _ c.requires.0.some_side _ _ _ _ c.in-Some.ensures) (grind (arith, nat_tests))
 
 pub returns-then-r-k : goal.returns-then-r-k
-unfolding checked number_of
+unfolding checked number_of lowest
 returns-then-r-k c =
-    search (level_unknown_lem, rules)
-
-pub cell_count-squares-requires : goal.cell_count-squares-requires
-unfolding checked number_of
-cell_count-squares-requires c =
-    search rules
+    rw (refusal_there _ _ _ c.requires.0.some_side _ _ _ _ c.in-Some.ensures) (grind (arith, nat_tests))
 
 pub returns-then-caps-squares : goal.returns-then-caps-squares
-unfolding checked number_of
+unfolding checked number_of lowest
 returns-then-caps-squares c =
-    search (caps_short, rules)
+    rw (refusal_there _ _ _ c.requires.0.some_side _ _ _ _ c.in-Some.ensures) (grind (arith, nat_tests))
 
 pub returns : goal.returns
-unfolding checked number_of
+unfolding checked number_of lowest
 returns c =
-    search (nothing_short, rules)
+    rw (refusal_there _ _ _ c.requires.0.some_side _ _ _ _ c.in-Some.ensures) (grind (arith, nat_tests))

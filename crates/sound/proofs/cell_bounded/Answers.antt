@@ -7,6 +7,6 @@ pub returns-then-serials-i-eq0 : goal.returns-then-serials-i-eq0
 returns-then-serials-i-eq0 c =
     search (bounded_free, rules)
 
-pub returns : goal.returns
-returns c =
+pub returns-else-serials-i-eq0 : goal.returns-else-serials-i-eq0
+returns-else-serials-i-eq0 c =
     search (bounded_burnt, rules)

@@ -2,24 +2,12 @@ use Prim.Native.Nat.{◌+◌, ◌^◌, ◌<◌}
 use native.Mathlib.Omega.{arith}
 use borrow.Author.Rules.{rules}
 use Rattle.integers.specs.Loops.{none, turn, fails, passes}
-use Rattle.sound.specs.Cells.{side_small_lem, line_asked, first_few, row_asked, row_there, held_every}
+use Rattle.sound.specs.Cells.{first_few, row_asked, row_there, held_every}
 use Rattle.sound.proofs.cells_held.Goals as goal
-
-pub column_places-columns-requires : goal.column_places-columns-requires
-column_places-columns-requires c = record {
-  side_bound = search (side_small_lem, rules);
-  table_value = search rules;
-}
 
 pub loop-row-init : goal.loop-row-init
 loop-row-init c =
     none
-
-pub row_place-requires : goal.row_place-requires
-row_place-requires c = record {
-  line_asked = search (line_asked, rules);
-  table_value = search rules;
-}
 
 pub overflow_add-first : goal.overflow_add-first
 overflow_add-first c =

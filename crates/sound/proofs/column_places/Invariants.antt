@@ -1,10 +1,7 @@
--- `sound::column_places`: the loop finds column after column.
-use Prim.Native.Nat.{◌-◌, ◌≤◌}
+-- `sound::column_places`: the columns so far, row after row.
+use Rattle.std.proofs.Common.{true}
 use Rattle.sound.specs.OnePlace.{ColumnPlaces}
 use Rattle.sound.proofs.column_places.Given as goal
 
 abbrev pub invariant-loop-b : goal.invariant-loop-b
-invariant-loop-b l = (l.b ≤ l.side) × ColumnPlaces l.rows l.b l.columns
-
-abbrev pub decreases-loop-b : goal.decreases-loop-b
-decreases-loop-b l = l.side - l.b
+invariant-loop-b l = ColumnPlaces true l.b l.column-items

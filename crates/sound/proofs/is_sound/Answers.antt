@@ -31,7 +31,7 @@ returns-then-not-cells_held c =
 
 pub summed-requires : goal.summed-requires
 summed-requires c =
-    summed_asked _ _ _ c.args.serials.now c.requires.sound_asked c.cells_held.ensures
+    summed_asked _ _ _ c.args.serials.now c.requires c.cells_held.ensures
     c.if-not-cells_held.false-raw
 
 pub returns : goal.returns

@@ -1,20 +1,11 @@
-use native.Mathlib.Omega.{arith}
 use borrow.Author.Rules.{rules}
 use Rattle.integers.specs.Loops.{none, turn, fails, passes}
-use Rattle.sound.specs.Cells.{place_few, held_asked, row_every}
+use Rattle.sound.specs.Cells.{row_every}
 use Rattle.sound.proofs.row_held.Goals as goal
 
 pub loop-column-init : goal.loop-column-init
 loop-column-init c =
     none
-
-pub overflow_add-at : goal.overflow_add-at
-overflow_add-at c =
-    omega (arith, place_few c.requires c.loop-column-test.true)
-
-pub cell_held-requires : goal.cell_held-requires
-cell_held-requires c =
-    search (held_asked, rules)
 
 pub returns-then-not-cell_held : goal.returns-then-not-cell_held
 returns-then-not-cell_held c =

@@ -1,18 +1,15 @@
--- `stage_list::one_action`: which call it is, told apart by its kind.
-use borrow.Author.Rules.{rules}
-use native.Mathlib.Omega.{arith}
+-- `stage_list::one_action`, by cases.
 use Rattle.stage_list.specs.OneItem.{went_back, wrote_down, went_on}
 use Rattle.stage_list.proofs.one_action.Goals as goal
 
-pub returns-then-item-gt1 : goal.returns-then-item-gt1
-returns-then-item-gt1 c =
-    search (went_back, rules)
+pub returns-in-Advance : goal.returns-in-Advance
+returns-in-Advance c = rw c.in-Advance.is (went_on c.args.latest _ _ _ _ _ c.one_call-after.ensures)
 
-pub returns-then-item-eq1 : goal.returns-then-item-eq1
-returns-then-item-eq1 c =
-    search (wrote_down, rules)
+pub returns-in-Keep : goal.returns-in-Keep
+returns-in-Keep c =
+    rw (c.in-Keep.is, c.unwrap_or-with.ensures) (wrote_down c.args.latest _ _ _ _ _ _ c.keep.ensures)
 
-pub returns : goal.returns
-returns c =
-    went_on _ _ _ _ _ _ (omega arith)
-    c.one_call-after.ensures
+pub returns-in-Restore : goal.returns-in-Restore
+returns-in-Restore c =
+    rw (c.in-Restore.is, c.unwrap_or.ensures)
+    (went_back c.args.latest _ _ _ _ _ _ c.restore_lent-restored.ensures)

@@ -4,4 +4,5 @@ use Rattle.stage_list.proofs.run_stages.Goals as goal
 
 pub returns : goal.returns
 returns c =
-    acted_on _ _ _ _ _ _ _ _ _ c.load-loaded.ensures c.no_names-checkpoints.ensures c.make_actions.ensures
+    acted_on _ _ _ _ _ _ c.record_of-progress.ensures _ _ _ c.load.ensures c.no_names-checkpoints.ensures
+    c.make_actions.ensures

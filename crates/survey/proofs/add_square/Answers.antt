@@ -1,12 +1,8 @@
 -- `survey::add_square`: by the laws on the square of a bounded number.
 use native.Mathlib.Omega.{arith}
-use Rattle.integers.specs.Totals.{square_fits, square_cast, square_read}
+use Rattle.integers.specs.Totals.{square_cast, square_read}
 use Rattle.survey.specs.Errors.{to_add, added_is}
 use Rattle.survey.proofs.add_square.Goals as goal
-
-pub overflow_mul-sums : goal.overflow_mul-sums
-overflow_mul-sums c =
-    square_fits (to_add c.requires) tt
 
 pub overflow_cast-sums : goal.overflow_cast-sums
 overflow_cast-sums c =

@@ -1,6 +1,5 @@
 -- `survey::cell_error`: by the two laws on a cell.
 use native.Mathlib.Omega.{arith}
-use Rattle.integers.specs.Machine.{of_bits, words, machine}
 use Rattle.integers.specs.Totals.{read}
 use Rattle.survey.specs.Errors.{error_none, error_dot}
 use Rattle.survey.proofs.cell_error.Goals as goal
@@ -9,10 +8,6 @@ pub returns-then-serial-eq0 : goal.returns-then-serial-eq0
 returns-then-serial-eq0 c =
     error_none (omega arith) c.if-serial-eq0.true
 
-pub overflow_sub-result : goal.overflow_sub-result
-overflow_sub-result c =
-    rw (of_bits c.args.grey (omega arith)) (simp words (omega machine))
-
-pub returns : goal.returns
-returns c =
+pub returns-else-serial-eq0 : goal.returns-else-serial-eq0
+returns-else-serial-eq0 c =
     read (error_dot {grey = c.args.grey} (omega arith) c.if-serial-eq0.false) (omega arith)

@@ -7,10 +7,8 @@ pub returns-then-pairs : goal.returns-then-pairs
 returns-then-pairs c =
     search (of_sketch, rules)
 
-pub returns-in_default : goal.returns-in_default
-returns-in_default c =
-    search (no_grey, rules)
+pub returns-in_err-grey : goal.returns-in_err-grey
+returns-in_err-grey c = rw c.from_residual.ensures (no_grey _ _ _ _ c.if-pairs.false c.in_err-grey.ensures)
 
 pub returns : goal.returns
-returns c =
-    search (grey_read, rules)
+returns c = grey_read _ _ _ _ c.if-pairs.false _ c.in_ok-grey.ensures

@@ -1,12 +1,9 @@
 -- `text_cells::why_not`.
-use borrow.Author.Rules.{rules}
 use Rattle.text_cells.specs.Found.{broken_text, too_high}
 use Rattle.text_cells.proofs.why_not.Goals as goal
 
-pub returns-then-not-found : goal.returns-then-not-found
-returns-then-not-found c =
-    search (broken_text, rules)
+pub returns-in-None : goal.returns-in-None
+returns-in-None c = broken_text _ _ _ _ c.in-None.ensures
 
-pub returns : goal.returns
-returns c =
-    search (too_high, rules)
+pub returns-in-Some : goal.returns-in-Some
+returns-in-Some c = too_high _ _ _ _ c.in-Some.ensures

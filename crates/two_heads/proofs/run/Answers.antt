@@ -1,5 +1,5 @@
 -- `two_heads::run`: what was read are the input's first bytes, as many as the buffer has places.
-use Rattle.std.proofs.Common.{rules}
+use Rattle.std.proofs.Common.{rules, ◌∙◌}
 use Rattle.heads.specs.TwoHeads.{two_heads_text}
 use Rattle.program_input.specs.Passed.{wrote_of}
 use Rattle.two_heads.proofs.run.Goals as goal
@@ -7,4 +7,4 @@ use Rattle.two_heads.proofs.run.Goals as goal
 pub returns : goal.returns
 returns g c =
     wrote_of c.write_all.result (g.R.Read.remaining c.args.input.now) _ _ two_heads_text _ _ _ 65536 (search rules)
-    c.in_ok-n.ensures.bytes c.two_heads_text-text.ensures.bytes_value c.write_all.ensures.bytes
+    c.in_ok-n.ensures.bytes (c.as_bytes.ensures ∙ c.two_heads_text-text.ensures) c.write_all.ensures.bytes

@@ -1,24 +1,23 @@
 -- `two_heads_text::put_text`: what Map Text answers, told apart.
-use native.Mathlib.Omega.{arith}
+use Rattle.std.proofs.Common.{refl, arith}
 use borrow.Author.Rules.{rules}
+use Rattle.checks.specs.Checks.{gives_back}
+use Rattle.program_texts.specs.Promised.{refused_answered, answered_as}
 use Rattle.program_texts.specs.Outputs.{side_asked}
-use Rattle.two_heads_text.specs.Outputs.{long_printed, refused_printed, side_printed}
+use Rattle.two_heads_text.specs.Outputs.{long_text, refused_map, side_map}
 use Rattle.two_heads_text.proofs.put_text.Goals as goal
 
 pub returns-then-input-gt4099 : goal.returns-then-input-gt4099
-returns-then-input-gt4099 c =
-    long_printed _ (omega arith) c.put_refused.ensures
+returns-then-input-gt4099 c = refused_answered _ refl (long_text _ (omega arith))
+
+pub returns-in_err-side : goal.returns-in_err-side
+returns-in_err-side c =
+    refused_answered _ (gives_back _ _ c.from_residual.ensures.1)
+    (refused_map _ _ (search rules) (omega arith) _ c.in_err-side.ensures)
 
 pub put_list-requires : goal.put_list-requires
-put_list-requires c =
-    (search (side_asked, rules), search rules)
+put_list-requires c = (side_asked _ _ (search rules) _ c.in_ok-side.ensures, search rules)
 
-pub returns-in-Refused : goal.returns-in-Refused
-returns-in-Refused c =
-    refused_printed _ _ (search rules) c.map_text.ensures (omega arith) c.in-Refused.is (search rules)
-    c.put_refused-in-Refused.ensures
-
-pub returns-in-Side : goal.returns-in-Side
-returns-in-Side c =
-    side_printed _ _ (search rules) c.map_text.ensures (omega arith) (search rules)
-    c.put_list.ensures
+pub returns : goal.returns
+returns c =
+    answered_as _ _ _ (side_map _ _ (search rules) (omega arith) _ c.in_ok-side.ensures) c.put_list.ensures
