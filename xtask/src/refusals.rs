@@ -352,6 +352,9 @@ mod tests {
         let fails = "./proofs/+a/Answers.antt:1:2: error: `y`: `search`: no proof of `z`\n";
         assert!(fails_at_fact("one", "a", &format!("{unnamed}{fails}{last}")));
         assert!(!fails_at_fact("one", "aa", &format!("{fails}fn one::aa: not proved\n")));
+        let method = "./proofs/Type/+a/Answers.antt:1:2: error: `y`: `search`: no proof of `z`\n";
+        assert!(fails_at_fact("one", "Type::a", &format!("{method}fn one::Type::a: not proved\n")));
+        assert!(!fails_at_fact("one", "Type::a", &format!("{fails}fn one::Type::a: not proved\n")));
     }
 
     #[test]

@@ -29,17 +29,19 @@ fn first_difference(left: &[u32], right: &[u32], r: usize) -> CompareAnswer
     ensures { stands result ≡ first_difference r (cell_count r) 0 (pattern left.now) (pattern right.now) }
 {
     let side = sizes::pow2(r);
-    for row in 0..side {
+    let mut found = CompareAnswer::Same;
+    'rows: for row in 0..side {
         for column in 0..side {
             let at = row * side + column;
             let x = blocks::mark(left[at]);
             let y = blocks::mark(right[at]);
             if x != y {
-                return differ_at(x, y, row as u32, column as u32);
+                found = differ_at(x, y, row as u32, column as u32);
+                break 'rows;
             }
         }
     }
-    CompareAnswer::Same
+    found
 }
 
 // How the left of two plates stands to the right one (S 11.1).
