@@ -89,9 +89,15 @@ pub fn end_line<W: Write>(out: &mut W) -> io::Result<()> {
     out.write_all(b"\n")
 }
 
+// Writes a comma and a number.
+fn print_field<W: Write>(out: &mut W, n: u64) -> io::Result<()> {
+    out.write_all(b",")?;
+    print_number(out, n)
+}
+
 // A number that is printed in a field of an output.
 pub trait Printed: Copy {
-    // Writes its digits.
+    // Writes a comma and it.
     fn print<W: Write>(self, out: &mut W) -> io::Result<()>;
 
     // It modulo 2 to the power of 32.
@@ -100,7 +106,7 @@ pub trait Printed: Copy {
 
 impl Printed for u64 {
     fn print<W: Write>(self, out: &mut W) -> io::Result<()> {
-        print_number(out, self)
+        print_field(out, self)
     }
 
     fn word(self) -> u64 {
@@ -110,7 +116,7 @@ impl Printed for u64 {
 
 impl Printed for u32 {
     fn print<W: Write>(self, out: &mut W) -> io::Result<()> {
-        print_number(out, u64::from(self))
+        print_field(out, u64::from(self))
     }
 
     fn word(self) -> u64 {
@@ -120,7 +126,7 @@ impl Printed for u32 {
 
 impl Printed for u8 {
     fn print<W: Write>(self, out: &mut W) -> io::Result<()> {
-        print_number(out, u64::from(self))
+        print_field(out, u64::from(self))
     }
 
     fn word(self) -> u64 {
@@ -131,9 +137,10 @@ impl Printed for u8 {
 impl Printed for i64 {
     fn print<W: Write>(self, out: &mut W) -> io::Result<()> {
         if self < 0 {
-            out.write_all(b"-")?;
+            out.write_all(b",-")?;
+            return print_number(out, self.unsigned_abs());
         }
-        print_number(out, self.unsigned_abs())
+        print_field(out, self.unsigned_abs())
     }
 
     fn word(self) -> u64 {
@@ -141,9 +148,8 @@ impl Printed for i64 {
     }
 }
 
-// Writes a comma and a number.
+// Writes a field: a comma and a number.
 pub fn field<W: Write, T: Printed>(out: &mut W, n: T) -> io::Result<()> {
-    out.write_all(b",")?;
     n.print(out)
 }
 

@@ -1,7 +1,6 @@
 -- What a writer leaves (`Wrote`): bytes stored from a place on, as far as there are places, and the place behind them;
 -- one writer after another (`wrote_append`), and how long a number is (`length_decimal`).
-use Rattle.std.specs.Prelude.{◌≡◌, refl, ℕ, zero, suc, ◌+◌, ◌-◌, ◌*◌, ◌/◌, ◌%◌, ◌^◌, ◌<◌, ◌≤◌, max, drop, set}
-use Rattle.std.specs.Prelude.{replicate}
+use Rattle.std.specs.Prelude.{◌≡◌, refl, ℕ, zero, suc, ◌+◌, ◌-◌, ◌/◌, ◌%◌, ◌^◌, ◌<◌, ◌≤◌, drop, set, replicate}
 use Rattle.std.proofs.Common.{sym, ap, ◌∙◌, add_assoc, add-suc, suc-add, add-zero, zero-add, pow-suc, div-lt_iff_lt-mul}
 use Rattle.std.proofs.Common.{add-one, arith}
 use mathlib.Core.List.{List, [], ◌∷◌, ◌++◌, append_assoc}
@@ -154,11 +153,18 @@ length_between (suc k) n low high =
       length_between k (n / 10) lower higher,
     )
 
--- with the byte that ends it, by the tenth logarithm of the number, or of 1 in place of 0
-pub length_by_log : (n k : ℕ) → 10 ^ k ≤ max n 1 → max n 1 < 10 * 10 ^ k → k + 2 ≡ length (decimal n) + 1
-length_by_log zero zero low high = omega (arith, length_below_ten 0 (omega arith))
-length_by_log zero (suc k) low high = absurd (omega (arith, pow-suc 10 k, one-le-pow k 10 (omega arith)))
-length_by_log (suc n) k low high = omega (arith, length_between k (suc n) (omega arith) (omega (arith, pow-suc 10 k)))
+-- without its last five digits
+pub length_five_off : (n : ℕ) → 100000 ≤ n → length (decimal n) ≡ length (decimal (n / 100000)) + 5
+length_five_off n h =
+    let e : n / 10 / 10 / 10 / 10 / 10 ≡ n / 100000 = omega arith in
+    rw (← e) (omega (
+      arith,
+      length_from_ten n (omega arith),
+      length_from_ten (n / 10) (omega arith),
+      length_from_ten (n / 10 / 10) (omega arith),
+      length_from_ten (n / 10 / 10 / 10) (omega arith),
+      length_from_ten (n / 10 / 10 / 10 / 10) (omega arith),
+    ))
 
 pub length_right : (width n : ℕ) → length (right_aligned width n) ≡ width - length (decimal n) + length (decimal n)
 unfolding right_aligned

@@ -119,10 +119,36 @@ pub fn put_field(out: &mut [u8], at: usize, n: u64, end: u8) -> usize
     put_column(out, at, 0, n, end)
 }
 
-// How long a number is with the byte that ends it, without writing it.
-#[tactic(auto, using(crate::specs::Writing::length_by_log))]
+// How many digits a number below 100,000 has.
+fn short_length(n: u64) -> usize
+    requires { n < 100000 }
+    ensures { result ≡ length (decimal n) }
+{
+    if n < 10 {
+        return 1;
+    }
+    if n < 100 {
+        return 2;
+    }
+    if n < 1000 {
+        return 3;
+    }
+    if n < 10000 {
+        return 4;
+    }
+    5
+}
+
+// How long a number is with the byte that ends it, without writing it. Five digits are taken off at a time, so that
+// comparisons alone tell it of a number that has no more.
 pub fn field_length(n: u64) -> usize
     ensures { (result ≡ length (decimal n) + 1) × (result ≤ 21) }
 {
-    n.max(1).ilog10() as usize + 2
+    let mut rest = n;
+    let mut bytes: usize = 1;
+    while 100000 <= rest {
+        rest = rest / 100000;
+        bytes += 5;
+    }
+    bytes + short_length(rest)
 }

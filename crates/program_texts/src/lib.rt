@@ -64,7 +64,7 @@ pub fn put_answer(out: &mut [u8], answer: Result<usize, Refusal>) -> usize
 {
     match answer {
         Ok(length) => length,
-        Err(why) => refusal_line::put_refused(out, why),
+        Err(why) => refusal_line::put_refused(out, checks::number_of(why)),
     }
 }
 

@@ -2,17 +2,14 @@
 #![tactic(auto)]
 
 ghost use Rattle.std.specs.Prelude.{◌≤◌, length};
-ghost use Rattle.definition.specs.Answers.{number_of};
 ghost use Rattle.definition.specs.Plate.{refused_text};
 ghost use Rattle.decimals.specs.Printed.{Printed};
 
-use definition::Refusal;
-
 // The line "refused,n" that a program prints where it says no (S 14.1): eight bytes, the number, and byte 10.
-pub fn put_refused(out: &mut [u8], why: Refusal) -> usize
+pub fn put_refused(out: &mut [u8], number: u32) -> usize
     requires { 29 ≤ length out.old }
-    ensures { Printed (refused_text (number_of why)) out.old result out.new }
+    ensures { Printed (refused_text number) out.old result out.new }
 {
     out[..8].copy_from_slice(b"refused,");
-    decimals::put_field(out, 8, u64::from(checks::number_of(why)), b'\n')
+    decimals::put_field(out, 8, u64::from(number), b'\n')
 }

@@ -10,7 +10,7 @@
 
 ghost use Rattle.std.specs.Prelude.{◌≡◌, set};
 ghost use Rattle.std.proofs.lemmas.List.Edits.{sets};
-ghost use Rattle.definition.specs.Answers.{done_says, value_says};
+ghost use Rattle.definition.specs.Answers.{value_says};
 ghost use Rattle.definition.specs.Lowering.{lowered};
 ghost use Rattle.definition.specs.MapText.{map_text_of};
 ghost use Rattle.definition.specs.LowerText.{lower_text_of};
@@ -19,6 +19,7 @@ ghost use Rattle.definition.specs.SketchQuote.{sketch_quote_of};
 ghost use Rattle.definition.specs.ByQuarters.{drill_list_by_quarters, renewal_by_quarters, relay_of};
 ghost use Rattle.definition.specs.Sample.{sample_of};
 ghost use Rattle.definition.specs.Shelf.{compare_of, shelf_of};
+ghost use Rattle.rulmedei.specs.FromCalls.{code_with};
 ghost use Rattle.rulmedei.specs.Codes.{code_of, value_of, load_code, advance_code, tally_code, levels_code};
 ghost use Rattle.rulmedei.specs.Codes.{keep_code, restore_code};
 ghost use Rattle.rulmedei.specs.Codes.{lower_text_code, sketch_code, two_heads_code};
@@ -35,13 +36,13 @@ const NO_RECORD: Progress = Progress {
     knit: 0,
 };
 
-// The code of a call that did its work, or that refuses: 0, or the number of the refusal.
-fn code<T: Drop>(answer: Result<T, Refusal>) -> u32
-    ensures { result ≡ code_of (done_says answer) }
+// The code of a call: `done` where it did its work, or the number of the refusal.
+fn code<T: Drop>(answer: Result<T, Refusal>, done: u32) -> u32
+    ensures { result ≡ code_with done answer }
 {
     match answer {
-        Ok(_) => 0,
-        Err(why) => checks::number_of(why),
+        Ok(_) => done,
+        Err(refusal) => checks::number_of(refusal),
     }
 }
 
@@ -75,7 +76,7 @@ pub extern "C" fn rulmedei_load(
     *progress_side = progress.side;
     *progress_dots = progress.dots;
     *progress_knit = progress.knit;
-    code(loaded)
+    code(loaded, 0)
 }
 
 // Advance for C (S 16.1, S 7.3, S 7.4), with the record (side, dots, knit). The holes afterwards are written to
@@ -139,7 +140,7 @@ pub extern "C" fn rulmedei_keep(
     let with = kept_or_not.unwrap_or(value);
     let after = with.kept;
     *kept = after;
-    code(kept_or_not)
+    code(kept_or_not, 0)
 }
 
 // Restore for C (S 16.1, S 10.2, S 10.3), with the record (side, dots, knit). The holes afterwards are written to
@@ -179,7 +180,7 @@ pub extern "C" fn rulmedei_restore(
     );
     let progress = restored.unwrap_or(before);
     *after = progress.dots;
-    code(restored)
+    code(restored, 0)
 }
 
 // Tally for C (S 16.1, S 8.1). The holes of the square are written to `dots`, 0 where it refuses.
@@ -200,7 +201,7 @@ pub extern "C" fn rulmedei_tally(
 {
     let counted = survey::tally(side, serials, level, row, column);
     *dots = counted.unwrap_or(0);
-    code(counted)
+    code(counted, 0)
 }
 
 // Stores nine sums in the first places, as far as there are places.
@@ -223,7 +224,7 @@ pub extern "C" fn rulmedei_levels(side: u32, greys: &[u8], serials: &[u32], sums
 {
     let summed = survey::levels(side, greys, serials);
     put_sums(summed.unwrap_or([0; 9]), sums);
-    code(summed)
+    code(summed, 0)
 }
 
 // Map Text for C (S 16.1, S 9.1). The side is written to `side`, 0 where it refuses.
@@ -238,7 +239,7 @@ pub extern "C" fn rulmedei_map_text(text: &[u8], greys: &mut [u8], side: &mut u3
 {
     let read = map_text::map_text(text, greys);
     *side = read.unwrap_or(0);
-    code(read)
+    code(read, 0)
 }
 
 // The code of a call that writes a text. The text's length is written to `length`, 0 where it refuses.
@@ -246,7 +247,7 @@ fn text_code(answer: Result<usize, Refusal>, length: &mut usize) -> u32
     ensures { (result ≡ code_of (value_says answer)) × (length.new ≡ value_of (value_says answer)) }
 {
     *length = answer.unwrap_or(0);
-    code(answer)
+    code(answer, 0)
 }
 
 // Lower Text for C (S 16.1, S 9.2). The text's length is written to `length`, 0 where it refuses.
@@ -345,7 +346,7 @@ pub extern "C" fn rulmedei_sketch_quote(
     *side_read = figures.side;
     *least = figures.least;
     *greatest = figures.greatest;
-    code(quoted)
+    code(quoted, 0)
 }
 
 // The answer of a Two Heads that refuses.
@@ -392,7 +393,7 @@ pub extern "C" fn rulmedei_two_heads(
     *progress_knit = run.progress.knit;
     *made = run.made;
     *debt = run.debt;
-    code(ran)
+    code(ran, 0)
 }
 
 // The sample for C (S 16.1, S 12.1). The state reached is written to `state`, 0 where it refuses.
@@ -407,7 +408,7 @@ pub extern "C" fn rulmedei_sample(seed: u32, side: u32, greys: &mut [u8], state:
 {
     let reached = sample_map::sample(seed, side, greys);
     *state = reached.unwrap_or(0);
-    code(reached)
+    code(reached, 0)
 }
 
 // Compare for C (S 16.1, S 11.1). The row and column of the cell that it names are written to `row` and `column`, 0 and
@@ -450,7 +451,7 @@ pub extern "C" fn rulmedei_shelf(side: u32, n: u32, plates: &[u32], list: &mut [
         ≡ shelf_code (shelf_of side n plates.now list.old) }
 {
     let sorted = shelf::shelf(side, n, plates, list);
-    code(sorted)
+    code(sorted, 0)
 }
 
 // Relay for C (S 16.1, S 12.2), with the record (side, dots, knit). The pyramid is written by quarters into `second`.
@@ -471,7 +472,7 @@ pub extern "C" fn rulmedei_relay(
 {
     let older = Progress { side, dots, knit };
     let relaid = relay::relay(older, pyramid, serials, order, second);
-    code(relaid)
+    code(relaid, 0)
 }
 
 // The lowering of greys by itself, for C (S 16.1, S 12.4): it refuses nothing.

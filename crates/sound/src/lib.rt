@@ -110,8 +110,8 @@ fn column_places(rows: bool, table: &Table, side: usize) -> [usize; 256]
 {
     if rows {
         let mut columns = [0; 256];
-        for (b, column) in columns.iter_mut().enumerate() {
-            *column = b;
+        for b in 0..side {
+            columns[b] = b;
         }
         columns
     } else {

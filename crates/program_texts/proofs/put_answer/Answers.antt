@@ -8,4 +8,4 @@ returns-in-Ok c =
 
 pub returns-in-Err : goal.returns-in-Err
 returns-in-Err c =
-    λ text before a. line_printed _ (rw c.in-Err.is at a) c.put_refused.ensures
+    λ text before a. line_printed _ (rw c.in-Err.is at a) (rw c.number_of.ensures at c.put_refused.ensures)

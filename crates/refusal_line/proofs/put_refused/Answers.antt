@@ -6,4 +6,4 @@ use Rattle.refusal_line.proofs.put_refused.Goals as goal
 pub returns : goal.returns
 returns c =
     line_printed _ (omega arith) _ c.requires
-    (rw (c.copy_from_slice.ensures.after, c.from.ensures, c.number_of.ensures) at c.put_field.ensures)
+    (rw (c.copy_from_slice.ensures.after, c.from.ensures) at c.put_field.ensures)
